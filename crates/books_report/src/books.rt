@@ -14,7 +14,8 @@ use books_model::Books;
 use io_ends::OutOfMemory;
 use std::alloc::{AllocError, Global};
 
-fn write_size(text: &mut String, name: &str, size: u32) -> Result<(), AllocError>
+/// Appends a size of a header behind its name, each with a space in front.
+pub fn write_size(text: &mut String, name: &str, size: u32) -> Result<(), AllocError>
     ensures { OnOk result
         (string_bytes text.new
         ≡ string_bytes text.old ++ SPACE ∷ (name.now ++ SPACE ∷ number size)) }

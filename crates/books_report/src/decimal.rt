@@ -38,13 +38,14 @@ fn push_short(text: &mut String, value: u64) -> Result<(), AllocError>
     }
 }
 
-// Appends the digits of a number, without zeros in front: the last two stand behind those of a hundredth of it.
-pub(crate) fn push_number(text: &mut String, value: u64) -> Result<(), AllocError>
+/// Appends the digits of a number, without zeros in front.
+pub fn push_number(text: &mut String, value: u64) -> Result<(), AllocError>
     ensures { OnOk result (string_bytes text.new ≡ string_bytes text.old ++ number value) }
 {
     if value < 100 {
         return push_short(text, value);
     }
+    // The last two digits stand behind those of a hundredth of it.
     let most = value / 100;
     if most < 100 {
         push_short(text, most)?;
@@ -77,8 +78,8 @@ pub(crate) fn push_next_wide(text: &mut String, value: u128) -> Result<(), Alloc
     push_wide(text, value)
 }
 
-// Appends a space and a number.
-pub(crate) fn push_next(text: &mut String, value: u64) -> Result<(), AllocError>
+/// Appends a space and a number.
+pub fn push_next(text: &mut String, value: u64) -> Result<(), AllocError>
     ensures { OnOk result (string_bytes text.new ≡ string_bytes text.old ++ SPACE ∷ number value) }
 {
     text.push(' ')?;

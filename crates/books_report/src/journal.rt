@@ -17,8 +17,8 @@ use io_ends::OutOfMemory;
 use script_reader::Input;
 use std::alloc::{AllocError, Global};
 
-// What stands before the reply.
-fn write_place(text: &mut String, serial: u64, name: &str, line: Line) -> Result<(), AllocError>
+/// Appends what stands before the reply in a journal's line, with the space behind it.
+pub fn write_place(text: &mut String, serial: u64, name: &str, line: Line) -> Result<(), AllocError>
     ensures { OnOk result
         (string_bytes text.new
         ≡ string_bytes text.old

@@ -3,7 +3,7 @@
 
 pub mod books;
 pub mod check;
-mod decimal;
+pub mod decimal;
 pub mod journal;
 pub mod laws;
 pub mod limits;

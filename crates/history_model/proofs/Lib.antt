@@ -2,7 +2,7 @@
 pub mod ListPlaces
 -- traces: what they leave and what fits them, their notes and marks
 pub mod Traces
--- histories: what they leave, and legal ones
+-- what entries leave, and how many attempts a call has
 pub mod Histories
 -- what a set has after something joined or left it
 pub mod SetLemmas

@@ -1,8 +1,8 @@
-//! The laws of traces, histories and the table's words, each the contract of a function that does nothing.
+//! The laws of traces, of entries and items, and of the table's words, each the contract of a function that does nothing.
 //!
 //! A proof cites a law by calling its function, or the lemma of `proofs/` behind it.
 
-ghost use Rattle.history_model.specs.Statements.{AppendedAfter, AppendedLegal, KeptLength, LegalByPlaces, LastEventStands, LastWriteStands, UnwrittenStays, TouchedByLast, WritesUndone, NotedWrite, AppendedReplay, LastReplayed, WordsApart, LongestSeen, LegalPrefix, LegalOneMore, LegalLeavesGood, FewAttempts};
+ghost use Rattle.history_model.specs.Statements.{AppendedAfter, AppendedLegal, KeptLength, LegalByPlaces, LastEventStands, LastWriteStands, UnwrittenStays, TouchedByLast, WritesUndone, NotedWrite, AppendedReplay, LastReplayed, WordsApart, FewAttempts};
 ghost use Rattle.history_model.specs.Marks.{NotesByParts, NotesCounted, RestUndone, OneNoteMore, WrittenReadsTheSame};
 ghost use Rattle.history_model.specs.ArrangementLaws.{OrderedIsLegal, SameWords, StandsLast, DropsItems};
 ghost use Rattle.std.specs.Prelude.{◌≡◌};
@@ -81,12 +81,12 @@ pub fn written_reads_the_same()
     ensures { WrittenReadsTheSame }
 {}
 
-/// The second part of a history is replayed on what its first part leaves.
+/// The second part of a list of entries is replayed on what its first part leaves.
 pub fn appended_replay()
     ensures { AppendedReplay }
 {}
 
-/// The last entry of a history does its writes where it was kept, and leaves the words where it was not.
+/// The last entry of a list does its writes where it was kept, and leaves the words where it was not.
 pub fn last_replayed()
     ensures { LastReplayed }
 {}
@@ -95,26 +95,6 @@ pub fn last_replayed()
 /// its range each has a word of its own.
 pub fn words_apart()
     ensures { WordsApart }
-{}
-
-/// The committed history is a longest that some view has seen.
-pub fn longest_seen()
-    ensures { LongestSeen }
-{}
-
-/// A prefix of a legal history is legal.
-pub fn legal_prefix<S: Shape>()
-    ensures { (shape : _) → LegalPrefix (S.good shape) }
-{}
-
-/// A legal history with one more legal entry is legal.
-pub fn legal_one_more<S: Shape>()
-    ensures { (shape : _) → LegalOneMore (S.good shape) }
-{}
-
-/// Each prefix of a legal history leaves good words.
-pub fn legal_leaves_good<S: Shape>()
-    ensures { (shape : _) → LegalLeavesGood (S.good shape) }
 {}
 
 /// A call has fewer abandoned attempts than there are seats: each gave way to another seat, and no two to the same.

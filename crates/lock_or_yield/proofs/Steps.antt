@@ -1,5 +1,5 @@
 -- What share leaves of what a pass knows.
-use Rattle.std.proofs.Common.{◌≡◌, ℕ, ◌-◌, Bool, true, false, ◌⊎◌, inl, inr, List, [], ◌∷◌, refl, sym, ap, ◌∙◌, subst, if◌then◌else◌}
+use Rattle.std.proofs.Common.{◌≡◌, ℕ, ◌-◌, Bool, true, false, ◌⊎◌, inl, inr, List, ◌∷◌, refl, sym, ap, ◌∙◌, subst, if◌then◌else◌}
 use Rattle.history_model.specs.declared.view.View.{View}
 use Rattle.history_model.specs.Locks.{lock_of_word}
 use Rattle.history_model.specs.Sets.{has}
@@ -69,9 +69,9 @@ share_leaves sound v a r u (inl s) = subst (λ (y : View). ShareLeaves a v r y) 
 }
 share_leaves sound v a r u (inr t) =
     let s = t.1 in let k : ℕ = lock_of_word a in let j : ℕ = number v in
-    let set : View = (set_read_bit_action j k a v).view [] 0 in
+    let set : View = (set_read_bit_action j k a v).view 0 in
     subst (λ (y : View). ShareLeaves a v r y) (sym s.taken.view)
-    (with_bit_cases k a v (λ m. ShareLeaves a v r ((load_writer_action j k a m).view [] s.found))
+    (with_bit_cases k a v (λ m. ShareLeaves a v r ((load_writer_action j k a m).view s.found))
     (λ held. share_after a (s.found - 1) r v v (is_free j s.found) (same_reads k v) (gains_none a v.asked) refl refl s.answer)
     (share_after a (s.found - 1) r v set (is_free j s.found) record {
       claims = refl;

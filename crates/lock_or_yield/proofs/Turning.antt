@@ -13,12 +13,12 @@ use Rattle.history_model.specs.Views.{number, IsGranted}
 use Rattle.locks_rule.specs.Steps.{load_writer_action}
 use Rattle.stamps_rule.specs.Causes.{newest, past_causes}
 use Rattle.stamps_rule.specs.Stamps.{AreRestartsBounded}
-use Rattle.stamps_rule.specs.Steps.{after_giving_way}
+use Rattle.values_rule.specs.Steps.{after_giving_way}
 use Rattle.word_table.specs.declared.answer.Judged.{Judged}
 use Rattle.word_table.specs.declared.answer.Judged.TheVariants as judged
 use Rattle.word_table.specs.declared.answer.Shared.TheVariants as shared
 use Rattle.word_table.specs.Calls.{SameCall, GrantsStay, GaveWay, MetOn, SharedBy, with_bit}
-use Rattle.word_table.specs.Desks.{DeskView, RuleHolds, AreGoodWords}
+use Rattle.word_table.specs.Desks.{DeskView, RuleHolds}
 use Rattle.lock_or_yield.specs.declared.turn.Intent.{Intent}
 use Rattle.lock_or_yield.specs.declared.turn.Intent.TheVariants as intent
 use Rattle.lock_or_yield.specs.declared.turn.Tried.{Tried}
@@ -51,7 +51,6 @@ somebody_met k i old new same met meetings none = same
 -- old with all that Asks lets change as in new
 abbrev pub changed : View → View → View
 changed old new = record old {
-  seen = new.seen;
   phase = new.phase;
   bits = new.bits;
   reads = new.reads;
@@ -62,7 +61,6 @@ changed old new = record old {
   stamp = new.stamp;
   announced = new.announced;
   draws = new.draws;
-  due = new.due;
   abandoned = new.abandoned;
 }
 
@@ -119,13 +117,13 @@ stay : (k i : ℕ) (old met new : View) → HasMet k i old met → GrantsStay ol
 stay k i old met new has grants locks = subst (λ (v : View). GrantsStay old v) (sym locks) (subst (λ (v : View). GrantsStay old v) has grants)
 
 -- a turn that met somebody
-pub record Turned (good : List ℕ → Type 0) (n : ℕ) (base : List ℕ) (a : ℕ) (old met : View) (r : Tried) (new : View) : Type 0 where
+pub record Turned (a : ℕ) (old met : View) (r : Tried) (new : View) : Type 0 where
   pub locks : with_locks new old ≡ with_locks met old
   pub asks : Asks a old new
   pub judged : new.met ≡ []
   pub granted : r ≢ tried.Granted
   pub waits : (j : ℕ) → r ≡ tried.Wait j → MeetsSome ((lock_of_word a, j) ∷ []) old new
-  pub yields : (cause : Cause) → r ≡ tried.Yield cause → MeetsAndYields good n base ((lock_of_word a, cause.seat) ∷ []) cause old new
+  pub yields : (cause : Cause) → r ≡ tried.Yield cause → MeetsAndYields ((lock_of_word a, cause.seat) ∷ []) cause old new
 
 pub wait_same : (i j : ℕ) → tried.Wait i ≡ tried.Wait j → i ≡ j
 wait_same i j e = cc
@@ -137,10 +135,10 @@ yield_same x y e = cc
 drawn_no_more : (old new : View) → new.draws ≡ draws_once old → 0 < new.stamp → draws_once new ≡ draws_once old
 drawn_no_more old new drew stamped = let has : flag (new.stamp == 0) ≡ 0 = ap flag (ne_eqb new.stamp 0 (λ e. omega arith)) in omega arith
 
-waited : (good : List ℕ → Type 0) (n : ℕ) (base : List ℕ) (a i : ℕ) (old met new : View)
+waited : (a i : ℕ) (old met new : View)
     → old.met ≡ [] → HasMet (lock_of_word a) i old met → GainsAtMost a old.asked met.asked → GrantsStay old met
-    → JudgedToWait met new → Turned good n base a old met (tried.Wait i) new
-waited good n base a i old met new none has asked grants w =
+    → JudgedToWait met new → Turned a old met (tried.Wait i) new
+waited a i old met new none has asked grants w =
     let k : ℕ = lock_of_word a in
     let locks : with_locks new old ≡ with_locks met old = ap (λ (v : View). with_locks v old) w.view in
     let view : new ≡ record (with_locks new old) { meetings = old.meetings ++ (k, i) ∷ []; stamp = new.stamp; announced = true; draws = draws_once old } =
@@ -178,33 +176,28 @@ waited good n base a i old met new none has asked grants w =
       yields = λ cause e. absurd cc;
     }
 
-yielded : (good : List ℕ → Type 0) (n : ℕ) (base : List ℕ) (a : ℕ) (cause : Cause) (old met new : View)
+yielded : (a : ℕ) (cause : Cause) (old met new : View)
     → old.met ≡ [] → cause.seat < old.seats → HasMet (lock_of_word a) cause.seat old met → GainsAtMost a old.asked met.asked → GrantsStay old met
-    → JudgedToYield good n base cause met new → Turned good n base a old met (tried.Yield cause) new
-yielded good n base a cause old met new none seat has asked grants w =
+    → JudgedToYield cause met new → Turned a old met (tried.Yield cause) new
+yielded a cause old met new none seat has asked grants w =
     let k : ℕ = lock_of_word a in let i : ℕ = cause.seat in let h = w.gave_way in
-    let locks : with_locks new old ≡ with_locks met old = ap (λ (v : View). with_locks v old) h.view in
-    let view : new ≡ after_giving_way cause h.history (record (with_locks new old) {
-      meetings =
-          old.meetings ++ (k, i) ∷ [];
+    let locks : with_locks new old ≡ with_locks met old = ap (λ (v : View). with_locks v old) h in
+    let view : new ≡ after_giving_way cause old.met (record (with_locks new old) {
+      meetings = old.meetings ++ (k, i) ∷ [];
       stamp = new.stamp;
       announced = true;
       draws = draws_once old;
     }) =
-    h.view
-    ∙ (ap (λ (v : View). after_giving_way cause h.history (record v { met = without i v.met; stamp = new.stamp; announced = true; draws = draws_once v })) has
-    ∙ (ap (λ (v : View). after_giving_way cause h.history (record v {
-      met = without i (i ∷ []);
-      meetings =
-          old.meetings ++ (k, i) ∷ [];
+    h
+    ∙ (ap (λ (v : View). after_giving_way cause (without i v.met) (record v { stamp = new.stamp; announced = true; draws = draws_once v })) has
+    ∙ (ap (λ (v : View). after_giving_way cause (without i (i ∷ [])) (record v {
+      meetings = old.meetings ++ (k, i) ∷ [];
       stamp = new.stamp;
       announced = true;
       draws = draws_once old;
     })) (sym locks)
-    ∙ ap (λ (l : List ℕ). after_giving_way cause h.history (record (with_locks new old) {
-      met = l;
-      meetings =
-          old.meetings ++ (k, i) ∷ [];
+    ∙ ap (λ (l : List ℕ). after_giving_way cause l (record (with_locks new old) {
+      meetings = old.meetings ++ (k, i) ∷ [];
       stamp = new.stamp;
       announced = true;
       draws = draws_once old;
@@ -212,7 +205,7 @@ yielded good n base a cause old met new none seat has asked grants w =
     let meetings : new.meetings ≡ old.meetings ++ (k, i) ∷ [] = ap (λ (v : View). v.meetings) view in record {
       locks = locks;
       asks = record {
-        rest = rest_of old new (after_giving_way cause h.history (record (with_locks new old) {
+        rest = rest_of old new (after_giving_way cause old.met (record (with_locks new old) {
           meetings =
               old.meetings ++ (k, i) ∷ [];
           stamp = new.stamp;
@@ -229,8 +222,8 @@ yielded good n base a cause old met new none seat has asked grants w =
       judged = ap (λ (v : View). v.met) view ∙ none;
       granted = λ e. cc;
       waits = λ j e. absurd cc;
-      yields = λ other e. subst (λ (x : Cause). MeetsAndYields good n base ((k, x.seat) ∷ []) x old new) (yield_same cause other e) record {
-        gave_way = subst (λ (v : View). GaveWay good n base cause (record v {
+      yields = λ other e. subst (λ (x : Cause). MeetsAndYields ((k, x.seat) ∷ []) x old new) (yield_same cause other e) record {
+        gave_way = subst (λ (v : View). GaveWay cause (record v {
           met = i ∷ [];
           meetings =
               old.meetings ++ (k, i) ∷ [];
@@ -238,7 +231,7 @@ yielded good n base a cause old met new none seat has asked grants w =
           announced = true;
           draws = draws_once old;
         }) new) (sym locks)
-            (subst (λ (v : View). GaveWay good n base cause (record v { stamp = new.stamp; announced = true; draws = draws_once v }) new) has h);
+            (subst (λ (v : View). GaveWay cause (record v { stamp = new.stamp; announced = true; draws = draws_once v }) new) has h);
         seat = subst (λ (m : ℕ). cause.seat < m) (sym (ap (λ (v : View). v.seats) view)) seat;
         earlier = w.earlier;
         last = w.last;
@@ -246,17 +239,17 @@ yielded good n base a cause old met new none seat has asked grants w =
     }
 
 -- what judge answers decides
-pub turned : (good : List ℕ → Type 0) (n : ℕ) (base : List ℕ) (a i : ℕ) (answer : Judged) (old met : View) (r : Tried) (new : View)
+pub turned : (a i : ℕ) (answer : Judged) (old met : View) (r : Tried) (new : View)
     → old.met ≡ [] → i < old.seats → HasMet (lock_of_word a) i old met → GainsAtMost a old.asked met.asked → GrantsStay old met
     → r ≡ tried_of i answer
     → ((j : ℕ) → r ≡ tried.Wait j → (j ≡ i) × JudgedToWait met new)
-    → ((cause : Cause) → r ≡ tried.Yield cause → (cause.seat ≡ i) × JudgedToYield good n base cause met new)
-    → Turned good n base a old met r new
-turned good n base a i judged.Wait old met r new none seat has asked grants e waits yields =
-    subst (λ (x : Tried). Turned good n base a old met x new) (sym e) (waited good n base a i old met new none has asked grants (waits i e).1)
-turned good n base a i (judged.Yield stamp) old met r new none seat has asked grants e waits yields =
-    subst (λ (x : Tried). Turned good n base a old met x new) (sym e)
-    (yielded good n base a (record { seat = i; stamp = stamp }) old met new none seat has asked grants (yields (record { seat = i; stamp = stamp }) e).1)
+    → ((cause : Cause) → r ≡ tried.Yield cause → (cause.seat ≡ i) × JudgedToYield cause met new)
+    → Turned a old met r new
+turned a i judged.Wait old met r new none seat has asked grants e waits yields =
+    subst (λ (x : Tried). Turned a old met x new) (sym e) (waited a i old met new none has asked grants (waits i e).1)
+turned a i (judged.Yield stamp) old met r new none seat has asked grants e waits yields =
+    subst (λ (x : Tried). Turned a old met x new) (sym e)
+    (yielded a (record { seat = i; stamp = stamp }) old met new none seat has asked grants (yields (record { seat = i; stamp = stamp }) e).1)
 
 -- the timestamp was drawn, where there was none, and shown
 shown_view : (met drawn shown : View) → drawn ≡ record met { stamp = drawn.stamp; draws = draws_once met }
@@ -282,15 +275,15 @@ settled_to_wait i met drawn shown new one draws stamped kept shows waits =
       kept = λ h. last ∙ (first ∙ kept h);
     }
 
-pub settled_to_yield : (good : List ℕ → Type 0) (n : ℕ) (base : List ℕ) (cause : Cause) (met drawn shown new : View)
+pub settled_to_yield : (cause : Cause) (met drawn shown new : View)
     → drawn ≡ record met { stamp = drawn.stamp; draws = draws_once met } → (0 < met.stamp → drawn.stamp ≡ met.stamp) → shown ≡ record drawn { announced = true }
-    → 0 < cause.stamp → cause.stamp < shown.stamp → GaveWay good n base cause shown new
-    → newest (past_causes new) ≡ Some cause → JudgedToYield good n base cause met new
-settled_to_yield good n base cause met drawn shown new draws kept shows low high gave newest_is =
+    → 0 < cause.stamp → cause.stamp < shown.stamp → GaveWay cause shown new
+    → newest (past_causes new) ≡ Some cause → JudgedToYield cause met new
+settled_to_yield cause met drawn shown new draws kept shows low high gave newest_is =
     let seen : shown ≡ record met { stamp = shown.stamp; announced = true; draws = draws_once met } = shown_view met drawn shown draws shows in
-    let last : new.stamp ≡ shown.stamp = ap (λ (v : View). v.stamp) gave.view in
+    let last : new.stamp ≡ shown.stamp = ap (λ (v : View). v.stamp) gave in
     let first : shown.stamp ≡ drawn.stamp = ap (λ (v : View). v.stamp) shows in record {
-      gave_way = subst (λ (v : View). GaveWay good n base cause v new) (seen
+      gave_way = subst (λ (v : View). GaveWay cause v new) (seen
           ∙ ap (λ (x : ℕ). record met { stamp = x; announced = true; draws = draws_once met }) (sym last)) gave;
       earlier = (low, subst (λ (x : ℕ). cause.stamp < x) (sym last) high);
       last = newest_is;
@@ -324,11 +317,11 @@ module _ {S : Type 0} (shapes : Shapes S) (desk : DeskView S) (i : Intent) (a : 
   pub turn_met : (j : ℕ) (met : View) (r : Tried) (new : View) → MeetsFirst i (RuleHolds shapes desk) a j old met
       → JudgesMet (RuleHolds shapes desk) met j r new
       → ((l : ℕ) → r ≡ tried.Wait l → (l ≡ j) × JudgedToWait met new)
-      → ((cause : Cause) → r ≡ tried.Yield cause → (cause.seat ≡ j) × JudgedToYield (AreGoodWords shapes desk) desk.seats desk.base cause met new)
+      → ((cause : Cause) → r ≡ tried.Yield cause → (cause.seat ≡ j) × JudgedToYield cause met new)
       → AreRestartsBounded desk.seats (number met) new → TurnsOnce shapes desk i a old r new
   turn_met j met r new first judges waits yields bounded =
       let once = first.once.asks in let m = first.once.met in
-      let t = turned (AreGoodWords shapes desk) desk.seats desk.base a j judges.answer old met r new first.judged m.seat
+      let t = turned a j judges.answer old met r new first.judged m.seat
       (somebody_met (lock_of_word a) j old met once.call m.met m.meetings first.judged) once.asked once.grants judges.comes_to waits yields in record {
         asks = t.asks;
         locks = locks_same i (lock_of_word a) old met new t.locks once.locks;

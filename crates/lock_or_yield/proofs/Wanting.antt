@@ -11,7 +11,7 @@ use Rattle.history_model.specs.Locks.{lock_of_word}
 use Rattle.history_model.specs.Views.{number}
 use Rattle.stamps_rule.specs.Stamps.{AreRestartsBounded}
 use Rattle.word_table.specs.Calls.{GaveWay}
-use Rattle.word_table.specs.Desks.{DeskView, RuleHolds, AreGoodWords}
+use Rattle.word_table.specs.Desks.{DeskView, RuleHolds}
 use Rattle.lock_or_yield.specs.declared.turn.Intent.{Intent}
 use Rattle.lock_or_yield.specs.declared.turn.Intent.TheVariants as intent
 use Rattle.lock_or_yield.specs.declared.turn.Tried.TheVariants as tried
@@ -110,13 +110,13 @@ went_on met old new s = went old new (record (with_locks new old) {
 pub went_more : (old mid new : View) → WentOn old mid → WentOn mid new → WentOn old new
 went_more old mid new f s = s ∙ ap (λ (v : View). wandered v new) f
 
-gives_way_more : (good : List ℕ → Type 0) (n : ℕ) (base : List ℕ) (k : ℕ) (met : List (ℕ × ℕ)) (cause : Cause)
-    (old mid new : View) → WentOn old mid → draws_once mid ≡ draws_once old → GainsOn k old.meetings mid.meetings → MeetsAndYields good n base met cause mid new
-    → (waited : List (ℕ × ℕ)) × MeetsAndYields good n base (waited ++ met) cause old new
-gives_way_more good n base k met cause old mid new f once m s = (
+gives_way_more : (k : ℕ) (met : List (ℕ × ℕ)) (cause : Cause)
+    (old mid new : View) → WentOn old mid → draws_once mid ≡ draws_once old → GainsOn k old.meetings mid.meetings → MeetsAndYields met cause mid new
+    → (waited : List (ℕ × ℕ)) × MeetsAndYields (waited ++ met) cause old new
+gives_way_more k met cause old mid new f once m s = (
   m.0,
   record {
-    gave_way = subst (λ (l : List (ℕ × ℕ)). GaveWay good n base cause (record (with_locks new old) {
+    gave_way = subst (λ (l : List (ℕ × ℕ)). GaveWay cause (record (with_locks new old) {
       meetings = l;
       met =
           cause.seat ∷ [];
@@ -125,14 +125,14 @@ gives_way_more good n base k met cause old mid new f once m s = (
       draws = draws_once old;
     }) new)
         (both_gained old.meetings mid.meetings (mid.meetings ++ met) m.0 met m.1 refl)
-        (subst (λ (x : ℕ). GaveWay good n base cause (record (with_locks new old) {
+        (subst (λ (x : ℕ). GaveWay cause (record (with_locks new old) {
           meetings = mid.meetings ++ met;
           met = cause.seat ∷ [];
           stamp = new.stamp;
           announced = true;
           draws = x;
         }) new) once
-        (subst (λ (v : View). GaveWay good n base cause (record (with_locks new v) {
+        (subst (λ (v : View). GaveWay cause (record (with_locks new v) {
           meetings = mid.meetings ++ met;
           met = cause.seat ∷ [];
           stamp = new.stamp;
@@ -168,7 +168,7 @@ module _ {S : Type 0} (shapes : Shapes S) (desk : DeskView S) (i : Intent) (a : 
   ends_giving_way x new t = record {
     granted = λ e. absurd cc;
     yields = λ cause e. subst (λ (y : Cause). (waited : List (ℕ × ℕ))
-        × MeetsAndYields (AreGoodWords shapes desk) desk.seats desk.base (waited ++ (lock_of_word a, y.seat) ∷ []) y old new)
+        × MeetsAndYields (waited ++ (lock_of_word a, y.seat) ∷ []) y old new)
         (yield_is x cause e) ([], t.yields x refl);
     met = λ cause e. (
       old,
@@ -184,10 +184,10 @@ module _ {S : Type 0} (shapes : Shapes S) (desk : DeskView S) (i : Intent) (a : 
   asked_before mid new r asks on h = let k : ℕ = lock_of_word a in record {
     granted = λ e. let g = h.granted e in (g.0, went_more old mid new on g.1);
     yields = λ cause e. let y = h.yields cause e in
-        let all = gives_way_more (AreGoodWords shapes desk) desk.seats desk.base k (y.0 ++ (k, cause.seat) ∷ []) cause old mid new
+        let all = gives_way_more k (y.0 ++ (k, cause.seat) ∷ []) cause old mid new
         on asks.drawn_once asks.meetings y.1 in (
           all.0 ++ y.0,
-          subst (λ (l : List (ℕ × ℕ)). MeetsAndYields (AreGoodWords shapes desk) desk.seats desk.base l cause old new)
+          subst (λ (l : List (ℕ × ℕ)). MeetsAndYields l cause old new)
               (sym (append_assoc all.0 y.0 ((k, cause.seat) ∷ []))) all.1,
         );
     met = λ cause e. let m = h.met cause e in (m.0, went_more old mid m.0 on m.1, m.2);

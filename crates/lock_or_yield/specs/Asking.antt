@@ -24,7 +24,6 @@ draws_once v = v.draws + flag (v.stamp == 0)
 -- trace, undo, call and floor
 pub record Asks (a : ℕ) (old new : View) : Type 0 where
   pub rest : new ≡ record old {
-    seen = new.seen;
     phase = new.phase;
     bits = new.bits;
     reads = new.reads;
@@ -35,7 +34,6 @@ pub record Asks (a : ℕ) (old new : View) : Type 0 where
     stamp = new.stamp;
     announced = new.announced;
     draws = new.draws;
-    due = new.due;
     abandoned = new.abandoned;
   }
   -- a timestamp stays, a call that met nobody draws none, and one that draws one draws no more
@@ -86,8 +84,8 @@ pub record MeetsSome (met : List (ℕ × ℕ)) (old new : View) : Type 0 where
   pub stamped : 0 < new.stamp
 
 -- the attempt gives way to this cause, whose seat the call met last
-pub record MeetsAndYields (good : List ℕ → Type 0) (n : ℕ) (base : List ℕ) (met : List (ℕ × ℕ)) (cause : Cause) (old new : View) : Type 0 where
-  pub gave_way : GaveWay good n base cause
+pub record MeetsAndYields (met : List (ℕ × ℕ)) (cause : Cause) (old new : View) : Type 0 where
+  pub gave_way : GaveWay cause
       (record (with_locks new old) {
         meetings = old.meetings ++ met;
         met = cause.seat ∷ [];

@@ -9,7 +9,7 @@ use Rattle.history_model.specs.Views.{number, HasWriteGrant, IsGranted}
 use Rattle.locks_rule.specs.Actions.{Action}
 use Rattle.stamps_rule.specs.Stamps.{AreRestartsBounded}
 use Rattle.word_table.specs.Calls.{GrantsStay, SameCall}
-use Rattle.word_table.specs.Desks.{DeskView, RuleHolds, AreGoodWords}
+use Rattle.word_table.specs.Desks.{DeskView, RuleHolds}
 use Rattle.lock_or_yield.specs.declared.turn.Intent.{Intent}
 use Rattle.lock_or_yield.specs.declared.turn.Intent.TheVariants as intent
 use Rattle.lock_or_yield.specs.declared.turn.Tried.{Tried}
@@ -40,7 +40,7 @@ module _ {S : Type 0} (shapes : Shapes S) (desk : DeskView S) (intent : Intent) 
     pub granted : r ≡ tried.Granted → IsHeldTo intent new k × MeetsNobody old new
     pub waits : (j : ℕ) → r ≡ tried.Wait j → MeetsSome ((k, j) ∷ []) old new
     pub yields : (cause : Cause) → r ≡ tried.Yield cause
-        → MeetsAndYields (AreGoodWords shapes desk) desk.seats desk.base ((k, cause.seat) ∷ []) cause old new
+        → MeetsAndYields ((k, cause.seat) ∷ []) cause old new
     pub met : (r ≡ tried.Granted) ⊎ MeetsAndJudges (IsStepTo intent) (RuleHolds shapes desk) old k r new
     pub held : IsHeldTo intent old k → (r ≡ tried.Granted) × (new ≡ old)
     pub bounded : (r ≡ tried.Granted) ⊎ AreRestartsBounded desk.seats (number old) new
@@ -49,7 +49,7 @@ module _ {S : Type 0} (shapes : Shapes S) (desk : DeskView S) (intent : Intent) 
   pub record AsksUntilHeld (r : Got) (new : View) : Type 0 where
     pub granted : r ≡ got.Granted → IsHeldTo intent new k × WentOn old new
     pub yields : (cause : Cause) → r ≡ got.Yield cause → (waited : List (ℕ × ℕ))
-        × MeetsAndYields (AreGoodWords shapes desk) desk.seats desk.base (waited ++ (k, cause.seat) ∷ []) cause old new
+        × MeetsAndYields (waited ++ (k, cause.seat) ∷ []) cause old new
     pub met : (cause : Cause) → r ≡ got.Yield cause → (before : View)
         × WentOn old before × MeetsAndJudges (IsStepTo intent) (RuleHolds shapes desk) before k (tried.Yield cause) new
     pub bounded : (cause : Cause) → r ≡ got.Yield cause → AreRestartsBounded desk.seats (number old) new

@@ -68,8 +68,8 @@ pub record JudgedToWait (met new : View) : Type 0 where
   pub kept : 0 < met.stamp → new.stamp ≡ met.stamp
 
 -- the attempt of a call that met a seat gives way to this cause
-pub record JudgedToYield (good : List ℕ → Type 0) (n : ℕ) (base : List ℕ) (cause : Cause) (met new : View) : Type 0 where
-  pub gave_way : GaveWay good n base cause
+pub record JudgedToYield (cause : Cause) (met new : View) : Type 0 where
+  pub gave_way : GaveWay cause
       (record met { stamp = new.stamp; announced = true; draws = draws_once met }) new
   pub earlier : (0 < cause.stamp) × (cause.stamp < new.stamp)
   pub last : newest (past_causes new) ≡ Some cause

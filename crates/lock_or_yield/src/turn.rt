@@ -7,7 +7,7 @@ ghost use Rattle.stamps_rule.specs.Stamps.{AreRestartsBounded};
 ghost use Rattle.lock_or_yield.specs.Asking.{Asks, AsksToRead, AsksToWrite, draws_once};
 ghost use Rattle.lock_or_yield.specs.Intents.{AsksOnce, ComesTo, IsClear, MeetsSeat, TakesTurn, TurnsOnce};
 ghost use Rattle.lock_or_yield.specs.Turns.{JudgedToWait, JudgedToYield, JudgesMet, ScansClear, ScansUpTo};
-ghost use Rattle.word_table.specs.Desks.{AreGoodWords, RuleHolds};
+ghost use Rattle.word_table.specs.Desks.{RuleHolds};
 
 use history_model::{Cause, LOCKS, Phase, Shape, lock_of};
 use word_table::{Claimed, Desk, Judged, Pass, Scanned, Shared};
@@ -76,8 +76,7 @@ pub(crate) fn judge_met<S: Shape>(desk: &Desk<S>, pass: &mut Pass<S>, other: u32
     ensures waits { (j : ℕ) → result ≡ Tried.Wait j
         → (j ≡ other) × JudgedToWait pass.old.view pass.new.view }
     ensures yields { (cause : Cause) → result ≡ Tried.Yield cause → (cause.seat ≡ other)
-        × JudgedToYield (AreGoodWords S.Shape desk.now)
-        desk.now.seats desk.now.base cause pass.old.view pass.new.view }
+        × JudgedToYield cause pass.old.view pass.new.view }
     ensures bounded { AreRestartsBounded desk.now.seats (number pass.old.view) pass.new.view }
 {
     draw_once(desk, pass);

@@ -44,7 +44,7 @@ abbrev pub load_version_action : ℕ → ℕ → View → Action
 load_version_action j k v = record {
   at = version_word v.seats k;
   writes = λ w. w;
-  view = λ h w. record v { uses = v.uses ++ (k, w) ∷ [] };
+  view = λ w. record v { uses = v.uses ++ (k, w) ∷ [] };
 }
 
 -- 1 more than the version x that the call found of lock k is stored, while its kept write of the lock is owed
@@ -58,7 +58,7 @@ abbrev pub store_version_action : ℕ → ℕ → ℕ → View → Action
 store_version_action j k x v = record {
   at = version_word v.seats k;
   writes = λ w. x + 1;
-  view = λ h w. record v { owed = without k v.owed };
+  view = λ w. record v { owed = without k v.owed };
 }
 
 -- the claim of lock k is given up, where no version of it is owed

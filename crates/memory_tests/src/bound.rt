@@ -194,7 +194,7 @@ pub(crate) fn end(desk: &Desk<Triple>, pass: &mut Pass<Triple>, lock: u32) -> bo
     requires desk { (pass.old.table ≡ desk.now.table) × (length pass.old.view.base ≡ 3) }
     requires runs { (pass.old.view.phase ≡ Phase.Running) × (pass.old.view.undo ≡ []) }
 {
-    let _ = desk.commit(pass, true);
+    desk.commit(pass, true);
     let Some(least) = pass.next_claim() else {
         return false;
     };
@@ -259,7 +259,7 @@ fn commit_again(desk: &Desk<Triple>, pass: &mut Pass<Triple>, cause: Cause) -> b
     if !desk.gone(pass, cause.seat, cause.stamp) {
         return false;
     }
-    let _ = desk.commit(pass, true);
+    desk.commit(pass, true);
     true
 }
 

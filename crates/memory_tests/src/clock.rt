@@ -144,8 +144,8 @@ fn release(desk: &Desk<Pair>, pass: &mut Pass<Pair>) -> bool
     pass.next_bit().is_none()
 }
 
-// Holds word a, commits, releases all locks and ends the call: the entry's place.
-fn take_and_end(desk: &Desk<Pair>, pass: &mut Pass<Pair>, a: u32) -> Option<u64>
+// Holds word a, commits, releases all locks and ends the call.
+fn take_and_end(desk: &Desk<Pair>, pass: &mut Pass<Pair>, a: u32) -> Option<()>
     requires desk { (pass.old.table ≡ desk.now.table) × (length pass.old.view.base ≡ 2) }
     requires word { a < 2 }
     requires fresh { (pass.old.view.phase ≡ Phase.Running) × (pass.old.view.undo ≡ []) }
@@ -154,7 +154,7 @@ fn take_and_end(desk: &Desk<Pair>, pass: &mut Pass<Pair>, a: u32) -> Option<u64>
     if !hold(desk, pass, a) {
         return None;
     }
-    let place = desk.commit(pass, true);
+    desk.commit(pass, true);
     let lock = pass.next_claim()?;
     desk.unclaim(pass, lock);
     if let Some(second) = pass.next_claim() {
@@ -163,17 +163,17 @@ fn take_and_end(desk: &Desk<Pair>, pass: &mut Pass<Pair>, a: u32) -> Option<u64>
     if !finish(desk, pass) {
         return None;
     }
-    Some(place)
+    Some(())
 }
 
-// Commits a call that gave way `restarts` times, once its cause is gone: the entry's place.
+// Commits a call that gave way `restarts` times, once its cause is gone.
 fn commit_again(
     desk: &Desk<Pair>,
     pass: &mut Pass<Pair>,
     other: u32,
     stamp: u64,
     restarts: u32,
-) -> Option<u64>
+) -> Option<()>
     requires desk { (pass.old.table ≡ desk.now.table) × (length pass.old.view.base ≡ 2) }
     requires yields { (pass.old.view.phase ≡ Phase.Yielding) × (pass.old.view.undo ≡ []) }
     requires cause { (other < pass.old.view.seats)
@@ -187,7 +187,8 @@ fn commit_again(
     if !desk.gone(pass, other, stamp) {
         return None;
     }
-    Some(desk.commit(pass, true))
+    desk.commit(pass, true);
+    Some(())
 }
 
 // Two calls of which each wants the word that the other holds: the cause to which the second gives way.
@@ -231,13 +232,13 @@ fn want_each_others(
     Some((other, stamp))
 }
 
-// The first call ends, and the second after it, which gave way to the first: the places of their entries.
+// The first call ends, and the second after it, which gave way to the first.
 fn end_in_turn(
     desk: &Desk<Pair>,
     zero: &mut Pass<Pair>,
     one: &mut Pass<Pair>,
     cause: (u32, u64),
-) -> Option<(u64, u64)>
+) -> Option<()>
     requires zero { (zero.old.table ≡ desk.now.table) × (length zero.old.view.base ≡ 2) }
     requires runs { (zero.old.view.phase ≡ Phase.Running) × (zero.old.view.undo ≡ []) }
     requires one { (one.old.table ≡ desk.now.table) × (length one.old.view.base ≡ 2) }
@@ -254,18 +255,17 @@ fn end_in_turn(
     if desk.gone(one, cause.0, cause.1) {
         return None;
     }
-    let first = take_and_end(desk, zero, 1)?;
-    let second = commit_again(desk, one, cause.0, cause.1, 1)?;
-    Some((first, second))
+    take_and_end(desk, zero, 1)?;
+    commit_again(desk, one, cause.0, cause.1, 1)?;
+    Some(())
 }
 
-// Both calls, until they end: the cause to which the second gives way, the timestamps that they have then, and the
-// places of their entries.
+// Both calls, until they end: the cause to which the second gives way, and the timestamps that they have then.
 fn cross(
     desk: &Desk<Pair>,
     zero: &mut Pass<Pair>,
     one: &mut Pass<Pair>,
-) -> Option<((u32, u64), (u64, u64), (u64, u64))>
+) -> Option<((u32, u64), (u64, u64))>
     requires words { length desk.now.base ≡ 2 }
     requires zero { zero.old
         ≡ record { table = desk.now.table; view = opening_view desk.now.base 2 (0 ∷ []) [] } }
@@ -277,15 +277,15 @@ fn cross(
 {
     let cause = want_each_others(desk, zero, one)?;
     let stamps = (zero.stamp(), one.stamp());
-    let places = end_in_turn(desk, zero, one, cause)?;
-    Some((cause, stamps, places))
+    end_in_turn(desk, zero, one, cause)?;
+    Some((cause, stamps))
 }
 
 #[test]
 fn the_later_call_gives_way_and_the_earlier_waits(rt: HostRuntime) -> Result<(), Fail> {
     let (desk, mut zero, mut one) = open_pair(rt.alloc(), 0, 0)?;
     let crossed = cross(&desk, &mut zero, &mut one);
-    assert_eq!(rt; (crossed, one.stamp()), (Some(((0, 1), (1, 2), (1, 2))), 2));
+    assert_eq!(rt; (crossed, one.stamp()), (Some(((0, 1), (1, 2))), 2));
     Ok(())
 }
 
@@ -394,13 +394,13 @@ fn give_way_to(
     Some((other, stamp))
 }
 
-// The third call gives way to the first, and then to the second, and then has its entry: the causes and the place.
+// The third call gives way to the first, and then to the second, and then has its entry: the causes.
 fn give_way_twice(
     desk: &Desk<Pair>,
     zero: &mut Pass<Pair>,
     one: &mut Pass<Pair>,
     two: &mut Pass<Pair>,
-) -> Option<((u32, u64), (u32, u64), u64)>
+) -> Option<((u32, u64), (u32, u64))>
     requires zero { (zero.old.table ≡ desk.now.table) × (length zero.old.view.base ≡ 2) }
     requires one { (one.old.table ≡ desk.now.table) × (length one.old.view.base ≡ 2) }
     requires two { (two.old.table ≡ desk.now.table) × (length two.old.view.base ≡ 2) }
@@ -417,17 +417,17 @@ fn give_way_twice(
         return None;
     }
     let second = give_way_to(desk, one, two)?;
-    let place = commit_again(desk, two, second.0, second.1, 2)?;
-    Some((first, second, place))
+    commit_again(desk, two, second.0, second.1, 2)?;
+    Some((first, second))
 }
 
-// The third call holds a word that the others want, and then gives way to each of them: the causes and the place.
+// The third call holds a word that the others want, and then gives way to each of them: the causes.
 fn restart_twice(
     desk: &Desk<Pair>,
     zero: &mut Pass<Pair>,
     one: &mut Pass<Pair>,
     two: &mut Pass<Pair>,
-) -> Option<((u32, u64), (u32, u64), u64)>
+) -> Option<((u32, u64), (u32, u64))>
     requires words { length desk.now.base ≡ 2 }
     requires zero { zero.old
         ≡ record { table = desk.now.table; view = opening_view desk.now.base 3 (0 ∷ []) [] } }
@@ -452,6 +452,6 @@ fn restart_twice(
 fn a_call_restarts_once_less_than_there_are_passes(rt: HostRuntime) -> Result<(), Fail> {
     let (desk, mut zero, mut one, mut two) = open_three(rt.alloc())?;
     let ended = restart_twice(&desk, &mut zero, &mut one, &mut two);
-    assert_eq!(rt; (ended, two.stamp()), (Some(((0, 1), (1, 2), 3)), 3));
+    assert_eq!(rt; (ended, two.stamp()), (Some(((0, 1), (1, 2))), 3));
     Ok(())
 }

@@ -177,7 +177,7 @@ fn attempt<R: Wait>(
         return Some(cause);
     }
     let _ = add_one(desk, pass, second);
-    let _ = desk.commit(pass, true);
+    desk.commit(pass, true);
     None
 }
 

@@ -92,18 +92,18 @@ impl Job for Trial {
     }
 }
 
-// The place of a call's entry, and the words that a table of zeros is left with.
-fn words_after(rt: &impl Wait, alloc: Global, job: &Trial) -> Result<(u64, Vec<u64>), OutOfMemory> {
+// The number of a call, and the words that a table of zeros is left with.
+fn words_after(rt: &impl Wait, alloc: Global, job: &Trial) -> Result<(u32, Vec<u64>), OutOfMemory> {
     let (desk, mut zero, one) = open_wide(alloc)?;
     let receipt = transact(rt, alloc, &desk, &mut zero, job, &OpenGate)?;
     let words = close_two(alloc, desk, zero, one)?;
-    Ok((receipt.serial, words))
+    Ok((receipt.call, words))
 }
 
 #[test]
 fn what_was_tried_is_taken_back(rt: HostRuntime) -> Result<(), Fail> {
-    let (serial, words) = words_after(&rt, rt.alloc(), &Trial::TwoWords)?;
-    assert_eq!(rt; serial, 1);
+    let (call, words) = words_after(&rt, rt.alloc(), &Trial::TwoWords)?;
+    assert_eq!(rt; call, 1);
     for (a, word) in words.iter().enumerate() {
         let left = match a {
             1 => 9,
@@ -117,8 +117,8 @@ fn what_was_tried_is_taken_back(rt: HostRuntime) -> Result<(), Fail> {
 
 #[test]
 fn going_back_grows_past_the_reserve_of_the_undo_log(rt: HostRuntime) -> Result<(), Fail> {
-    let (serial, words) = words_after(&rt, rt.alloc(), &Trial::ManyWords)?;
-    assert_eq!(rt; serial, 1);
+    let (call, words) = words_after(&rt, rt.alloc(), &Trial::ManyWords)?;
+    assert_eq!(rt; call, 1);
     assert!(rt; words.iter().all(|word| *word == 0));
     Ok(())
 }

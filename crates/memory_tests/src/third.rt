@@ -4,8 +4,9 @@ ghost use Rattle.std.specs.Prelude.{◌≡◌, ◌<◌, [], ◌∷◌, length, I
 ghost use Rattle.locks_rule.specs.Splits.{opening_view};
 
 use crate::bound::{Triple, ask, end, open_three, wait_for_third};
+use crate::transactions::used;
 use crossbeam_utils::atomic::AtomicCell;
-use history_model::Phase;
+use history_model::{LockUse, Phase};
 use io_ends::OutOfMemory;
 use lock_or_yield::Tried;
 use std::alloc::Global;
@@ -142,14 +143,14 @@ fn lead(
     Some((first, second))
 }
 
-// The third call: its serial, and its restarts.
+// The third call: the locks that it used, and its restarts.
 fn follow<R: Wait>(
     rt: &R,
     alloc: Global,
     desk: &Desk<Triple>,
     mut two: Pass<Triple>,
     gate: &Turns,
-) -> Result<(u64, u32), OutOfMemory>
+) -> Result<(Vec<LockUse>, u32), OutOfMemory>
     requires two { two ≡ record {
       table = desk.now.table;
       view = opening_view desk.now.base 3
@@ -157,13 +158,13 @@ fn follow<R: Wait>(
     } }
 {
     let receipt: Receipt<()> = transact(rt, alloc, desk, &mut two, &WriteAll, gate)?;
-    Ok((receipt.serial, receipt.restarts))
+    Ok((receipt.uses, receipt.restarts))
 }
 
 // What the two earlier calls came to, and the third.
 type Ended = (
     Option<((u32, u64), (u32, u64))>,
-    Result<(u64, u32), OutOfMemory>,
+    Result<(Vec<LockUse>, u32), OutOfMemory>,
 );
 
 // The three calls, in two threads.
@@ -208,7 +209,7 @@ fn run_three<R: Threads + Wait + Sync>(
                       (1 ∷ []) [];
                 }) }
         { lead(desk, zero, one, gate) },
-        move || -> Result<(u64, u32), OutOfMemory>
+        move || -> Result<(Vec<LockUse>, u32), OutOfMemory>
             requires { two ≡ record {
               table = desk.now.table;
               view = opening_view desk.now.base 3
@@ -228,7 +229,12 @@ fn one_call_of_three_gives_way_twice(rt: HostRuntime) -> Result<(), Fail> {
         to_second: AtomicCell::new(0),
     };
     let (led, third) = run_three(&rt, rt.alloc(), &desk, zero, one, two, &gate);
-    assert_eq!(rt; (led, third?), (Some(((2, 1), (2, 2))), (3, 2)));
+    let (uses, restarts) = third?;
+    assert_eq!(rt; (led, restarts), (Some(((2, 1), (2, 2))), 2));
+    assert_eq!(rt;
+        uses.as_slice(),
+        [used(0, 0, true), used(1, 0, true), used(2, 0, true)].as_slice()
+    );
     assert_eq!(rt;
         (
             gate.held.load(),

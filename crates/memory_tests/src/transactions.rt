@@ -166,7 +166,7 @@ fn two_words_of_one_lock_are_written_in_one_call(rt: HostRuntime) -> Result<(), 
     let (desk, mut zero, one) = open_wide(rt.alloc())?;
     let receipt = call(&rt, rt.alloc(), &desk, &mut zero, &Step::Write)?;
     let words = close_two(rt.alloc(), desk, zero, one)?;
-    assert_eq!(rt; (receipt.serial, receipt.call, receipt.restarts), (1, 1, 0));
+    assert_eq!(rt; (receipt.call, receipt.restarts), (1, 0));
     assert_eq!(rt; receipt.uses.as_slice(), [used(5, 0, true)].as_slice());
     let written = words.iter().filter(|word| **word != 0).count();
     assert_eq!(rt;
@@ -179,11 +179,11 @@ fn two_words_of_one_lock_are_written_in_one_call(rt: HostRuntime) -> Result<(), 
 #[test]
 fn a_pass_that_was_told_of_a_call_reads_what_it_wrote(rt: HostRuntime) -> Result<(), Fail> {
     let (desk, mut zero, mut one) = open_wide(rt.alloc())?;
-    let written = call(&rt, rt.alloc(), &desk, &mut zero, &Step::Write)?;
+    let _ = call(&rt, rt.alloc(), &desk, &mut zero, &Step::Write)?;
     let note = desk.note(&mut zero);
     desk.meet(&mut one, note);
     let read = call(&rt, rt.alloc(), &desk, &mut one, &Step::Read)?;
-    assert_eq!(rt; (written.serial, read.serial, read.answer), (1, 2, 5));
+    assert_eq!(rt; read.answer, 5);
     assert_eq!(rt; read.uses.as_slice(), [used(5, 1, false)].as_slice());
     Ok(())
 }
@@ -196,10 +196,7 @@ fn job_out_of_memory_leaves_an_idle_pass(rt: HostRuntime) -> Result<(), Fail> {
     let read = call(&rt, rt.alloc(), &desk, &mut zero, &Step::Read)?;
     let words = close_two(rt.alloc(), desk, zero, one)?;
     assert!(rt; failed && idle);
-    assert_eq!(rt;
-        (read.serial, read.call, read.restarts, read.answer),
-        (1, 2, 0, 0)
-    );
+    assert_eq!(rt; (read.call, read.restarts, read.answer), (2, 0, 0));
     assert!(rt; words.iter().all(|word| *word == 0));
     Ok(())
 }
@@ -210,7 +207,7 @@ fn a_call_that_reverts_has_uses_that_did_not_write(rt: HostRuntime) -> Result<()
     let (desk, mut zero, _one) = open_wide(rt.alloc())?;
     let reverted = call(&rt, rt.alloc(), &desk, &mut zero, &Step::WriteAndRevert)?;
     let read = call(&rt, rt.alloc(), &desk, &mut zero, &Step::Read)?;
-    assert_eq!(rt; (reverted.serial, read.serial, read.answer), (1, 2, 0));
+    assert_eq!(rt; (reverted.call, read.call, read.answer), (1, 2, 0));
     assert_eq!(rt; reverted.uses.as_slice(), [used(5, 0, false)].as_slice());
     assert_eq!(rt; read.uses.as_slice(), [used(5, 0, false)].as_slice());
     Ok(())
@@ -221,7 +218,7 @@ fn undo_log_grows_past_its_reserve(rt: HostRuntime) -> Result<(), Fail> {
     let (desk, mut zero, one) = open_wide(rt.alloc())?;
     let receipt = call(&rt, rt.alloc(), &desk, &mut zero, &Step::WriteMany)?;
     let words = close_two(rt.alloc(), desk, zero, one)?;
-    assert_eq!(rt; (receipt.serial, receipt.call, receipt.restarts), (1, 1, 0));
+    assert_eq!(rt; (receipt.call, receipt.restarts), (1, 0));
     for (a, word) in words.iter().enumerate() {
         assert_eq!(rt; *word, if a < 1_025 { 1 } else { 0 }, "word {a}");
     }
@@ -239,7 +236,7 @@ fn is_written_or_not(rt: &impl Wait, alloc: Global) -> Result<bool, OutOfMemory>
     Ok(
         idle && match ended {
             Ok(receipt) => {
-                (receipt.serial, receipt.call, receipt.restarts) == (1, 1, 0)
+                (receipt.call, receipt.restarts) == (1, 0)
                     && (words.get(5), words.get(1029), written) == (Some(&5), Some(&6), 2)
             }
             Err(OutOfMemory) => written == 0,

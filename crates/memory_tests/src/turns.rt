@@ -150,8 +150,8 @@ fn end(desk: &Desk<Pair>, pass: &mut Pass<Pair>) -> bool
     true
 }
 
-// Asks for word 1, commits, and ends the call: the entry's place.
-fn take_and_end(desk: &Desk<Pair>, pass: &mut Pass<Pair>) -> Option<u64>
+// Asks for word 1, commits, and ends the call.
+fn take_and_end(desk: &Desk<Pair>, pass: &mut Pass<Pair>) -> Option<()>
     requires desk { (pass.old.table ≡ desk.now.table) × (length pass.old.view.base ≡ 2) }
     requires fresh { (pass.old.view.phase ≡ Phase.Running) × (pass.old.view.undo ≡ [])
         × (pass.old.view.met ≡ []) }
@@ -159,16 +159,15 @@ fn take_and_end(desk: &Desk<Pair>, pass: &mut Pass<Pair>) -> Option<u64>
     let Tried::Granted = ask(desk, pass, 1) else {
         return None;
     };
-    let place = desk.commit(pass, true);
+    desk.commit(pass, true);
     if !end(desk, pass) {
         return None;
     }
-    Some(place)
+    Some(())
 }
 
-// Commits a call that gave way once, once its cause is gone: the entry's place. The entry tells of one attempt that
-// gave way.
-fn commit_again(desk: &Desk<Pair>, pass: &mut Pass<Pair>, cause: Cause) -> Option<u64>
+// Commits a call that gave way once, once its cause is gone. The entry tells of one attempt that gave way.
+fn commit_again(desk: &Desk<Pair>, pass: &mut Pass<Pair>, cause: Cause) -> Option<()>
     requires desk { (pass.old.table ≡ desk.now.table) × (length pass.old.view.base ≡ 2) }
     requires yields { (pass.old.view.phase ≡ Phase.Yielding) × (pass.old.view.undo ≡ []) }
     requires cause { (cause.seat < pass.old.view.seats)
@@ -182,16 +181,17 @@ fn commit_again(desk: &Desk<Pair>, pass: &mut Pass<Pair>, cause: Cause) -> Optio
     if !desk.gone(pass, cause.seat, cause.stamp) {
         return None;
     }
-    Some(desk.commit(pass, true))
+    desk.commit(pass, true);
+    Some(())
 }
 
-// The first call ends, and after it the second, which gave way to the first: the places of their entries.
+// The first call ends, and after it the second, which gave way to the first.
 fn end_in_turn(
     desk: &Desk<Pair>,
     zero: &mut Pass<Pair>,
     one: &mut Pass<Pair>,
     cause: Cause,
-) -> Option<(u64, u64)>
+) -> Option<()>
     requires zero { (zero.old.table ≡ desk.now.table) × (length zero.old.view.base ≡ 2) }
     requires runs { (zero.old.view.phase ≡ Phase.Running) × (zero.old.view.undo ≡ [])
         × (zero.old.view.met ≡ []) }
@@ -208,18 +208,18 @@ fn end_in_turn(
     if desk.gone(one, cause.seat, cause.stamp) {
         return None;
     }
-    let first = take_and_end(desk, zero)?;
-    let second = commit_again(desk, one, cause)?;
-    Some((first, second))
+    take_and_end(desk, zero)?;
+    commit_again(desk, one, cause)?;
+    Some(())
 }
 
-// Both calls, until they end: whom the first waits for, to which cause the second gives way, the timestamps that they
-// have then, and the places of their entries.
+// Both calls, until they end: whom the first waits for, to which cause the second gives way, and the timestamps that
+// they have then.
 fn cross(
     desk: &Desk<Pair>,
     zero: &mut Pass<Pair>,
     one: &mut Pass<Pair>,
-) -> Option<(u32, Cause, (u64, u64), (u64, u64))>
+) -> Option<(u32, Cause, (u64, u64))>
     requires words { length desk.now.base ≡ 2 }
     requires zero { zero.old
         ≡ record { table = desk.now.table; view = opening_view desk.now.base 2 (0 ∷ []) [] } }
@@ -231,8 +231,8 @@ fn cross(
 {
     let (other, cause) = ask_for_each_others(desk, zero, one)?;
     let stamps = (zero.stamp(), one.stamp());
-    let places = end_in_turn(desk, zero, one, cause)?;
-    Some((other, cause, stamps, places))
+    end_in_turn(desk, zero, one, cause)?;
+    Some((other, cause, stamps))
 }
 
 #[test]
@@ -240,9 +240,6 @@ fn the_earlier_call_waits_and_the_later_gives_way(rt: HostRuntime) -> Result<(),
     let (desk, mut zero, mut one) = open_pair(rt.alloc())?;
     let crossed = cross(&desk, &mut zero, &mut one);
     let cause = Cause { seat: 0, stamp: 1 };
-    assert_eq!(rt;
-        (crossed, one.stamp()),
-        (Some((1, cause, (1, 2), (1, 2))), 2)
-    );
+    assert_eq!(rt; (crossed, one.stamp()), (Some((1, cause, (1, 2))), 2));
     Ok(())
 }

@@ -98,8 +98,8 @@ pub(crate) fn finish(desk: &Desk<Pair>, pass: &mut Pass<Pair>) -> bool
     true
 }
 
-// Adds to word 0, as a call of its own: the value before, and the entry's place.
-pub(crate) fn add(desk: &Desk<Pair>, pass: &mut Pass<Pair>, amount: u64) -> Option<(u64, u64)>
+// Adds to word 0, as a call of its own: the value before.
+pub(crate) fn add(desk: &Desk<Pair>, pass: &mut Pass<Pair>, amount: u64) -> Option<u64>
     requires desk { (pass.old.table ≡ desk.now.table) × (length pass.old.view.base ≡ 2) }
     requires idle { pass.old.view.phase ≡ Phase.Idle }
     ensures desk { (pass.new.table ≡ desk.now.table) × (length pass.new.view.base ≡ 2) }
@@ -115,12 +115,12 @@ pub(crate) fn add(desk: &Desk<Pair>, pass: &mut Pass<Pair>, amount: u64) -> Opti
     }
     let value = desk.load(pass, 0);
     desk.store(pass, 0, value.wrapping_add(amount));
-    let place = desk.commit(pass, true);
+    desk.commit(pass, true);
     desk.unclaim(pass, 0);
     if !finish(desk, pass) {
         return None;
     }
-    Some((value, place))
+    Some(value)
 }
 
 // Writes word 0, undoes the write, and gives the call up: the value that the write covered.
@@ -149,8 +149,8 @@ fn undo_one(desk: &Desk<Pair>, pass: &mut Pass<Pair>) -> Option<u64>
 }
 
 // Writes word 0, undoes the write, and commits the call as one whose writes are not kept: the value that the write
-// covered, and the entry's place.
-fn revert_one(desk: &Desk<Pair>, pass: &mut Pass<Pair>) -> Option<(u64, u64)>
+// covered.
+fn revert_one(desk: &Desk<Pair>, pass: &mut Pass<Pair>) -> Option<u64>
     requires desk { (pass.old.table ≡ desk.now.table) × (length pass.old.view.base ≡ 2) }
     requires idle { pass.old.view.phase ≡ Phase.Idle }
     ensures desk { (pass.new.table ≡ desk.now.table) × (length pass.new.view.base ≡ 2) }
@@ -167,16 +167,16 @@ fn revert_one(desk: &Desk<Pair>, pass: &mut Pass<Pair>) -> Option<(u64, u64)>
     let value = desk.load(pass, 0);
     desk.store(pass, 0, 77);
     desk.undo_store(pass, 0, value);
-    let place = desk.commit(pass, false);
+    desk.commit(pass, false);
     desk.unclaim(pass, 0);
     if !finish(desk, pass) {
         return None;
     }
-    Some((value, place))
+    Some(value)
 }
 
-// Reads word 0 under its shared lock, as a call of its own: the value, and the entry's place.
-pub(crate) fn read_one(desk: &Desk<Pair>, pass: &mut Pass<Pair>) -> Option<(u64, u64)>
+// Reads word 0 under its shared lock, as a call of its own: the value.
+pub(crate) fn read_one(desk: &Desk<Pair>, pass: &mut Pass<Pair>) -> Option<u64>
     requires desk { (pass.old.table ≡ desk.now.table) × (length pass.old.view.base ≡ 2) }
     requires idle { pass.old.view.phase ≡ Phase.Idle }
     requires undo { pass.old.view.undo ≡ [] }
@@ -192,7 +192,7 @@ pub(crate) fn read_one(desk: &Desk<Pair>, pass: &mut Pass<Pair>) -> Option<(u64,
         return None;
     };
     let value = desk.load(pass, 0);
-    let place = desk.commit(pass, true);
+    desk.commit(pass, true);
     let Some(lock) = pass.next_bit() else {
         return None;
     };
@@ -200,15 +200,11 @@ pub(crate) fn read_one(desk: &Desk<Pair>, pass: &mut Pass<Pair>) -> Option<(u64,
     if !finish(desk, pass) {
         return None;
     }
-    Some((value, place))
+    Some(value)
 }
 
-// One pass adds and the other reads, and then the first undoes a write and the other adds: the values and the places.
-fn call_by_turns(
-    desk: &Desk<Pair>,
-    zero: &mut Pass<Pair>,
-    one: &mut Pass<Pair>,
-) -> Option<((u64, u64), (u64, u64), u64, (u64, u64))>
+// One pass adds and the other reads, and then the first undoes a write and the other adds: the values.
+fn call_by_turns(desk: &Desk<Pair>, zero: &mut Pass<Pair>, one: &mut Pass<Pair>) -> Option<[u64; 4]>
     requires zero { (zero.old.table ≡ desk.now.table) × (length zero.old.view.base ≡ 2)
         × (zero.old.view.phase ≡ Phase.Idle) }
     requires one { (one.old.table ≡ desk.now.table) × (length one.old.view.base ≡ 2)
@@ -219,23 +215,23 @@ fn call_by_turns(
     let second = read_one(desk, one)?;
     let undone = undo_one(desk, zero)?;
     let last = add(desk, one, 1)?;
-    Some((first, second, undone, last))
+    Some([first, second, undone, last])
 }
 
 #[test]
 fn a_commit_is_seen_and_an_undone_write_is_not(rt: HostRuntime) -> Result<(), Fail> {
     let (desk, mut zero, mut one) = open_pair(rt.alloc(), 3, 4)?;
     let calls = call_by_turns(&desk, &mut zero, &mut one);
-    assert_eq!(rt; calls, Some(((3, 1), (4, 2), 4, (4, 3))));
+    assert_eq!(rt; calls, Some([3, 4, 4, 4]));
     Ok(())
 }
 
-// One pass reverts its call, and then the other reads: the values and the places.
+// One pass reverts its call, and then the other reads: the values.
 fn read_after_reverting(
     desk: &Desk<Pair>,
     zero: &mut Pass<Pair>,
     one: &mut Pass<Pair>,
-) -> Option<((u64, u64), (u64, u64))>
+) -> Option<(u64, u64)>
     requires zero { (zero.old.table ≡ desk.now.table) × (length zero.old.view.base ≡ 2)
         × (zero.old.view.phase ≡ Phase.Idle) }
     requires one { (one.old.table ≡ desk.now.table) × (length one.old.view.base ≡ 2)
@@ -251,7 +247,7 @@ fn read_after_reverting(
 fn a_reverted_call_has_its_entry_and_leaves_the_words(rt: HostRuntime) -> Result<(), Fail> {
     let (desk, mut zero, mut one) = open_pair(rt.alloc(), 3, 4)?;
     let calls = read_after_reverting(&desk, &mut zero, &mut one);
-    assert_eq!(rt; calls, Some(((3, 1), (3, 2))));
+    assert_eq!(rt; calls, Some((3, 3)));
     Ok(())
 }
 
@@ -262,7 +258,7 @@ fn count(alloc: Global, desk: &Desk<Pair>, mut pass: Pass<Pair>) -> Result<Vec<u
 {
     let mut values = Vec::with_capacity(alloc, 100)?;
     for _ in 0..100 {
-        let Some((value, _)) = add(desk, &mut pass, 1) else {
+        let Some(value) = add(desk, &mut pass, 1) else {
             break;
         };
         values.push(value)?;

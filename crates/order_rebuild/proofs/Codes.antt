@@ -13,11 +13,9 @@ use Rattle.history_model.specs.declared.placed.Spot.{Spot}
 use Rattle.order_rebuild.specs.Order.{Precedes, Orderable}
 use Rattle.order_rebuild.specs.Turns.{key_of, IsRising, HasAbove, IsLockCode, caller_code, IsTurnOf}
 
-pub same_use : (us : List LockUse) (i : ℕ) (u v : LockUse) → slice_get us i ≡ Some u → slice_get us i ≡ Some v → u ≡ v
-same_use us i u v e f = let q : Some u ≡ Some v = sym e ∙ f in cc
-
-same_spot : (list : List Spot) (p : ℕ) (x y : Spot) → slice_get list p ≡ Some x → slice_get list p ≡ Some y → x ≡ y
-same_spot list p x y e f = let q : Some x ≡ Some y = sym e ∙ f in cc
+-- what stands at a place is one alone
+pub same_there : {A : Type 0} (xs : List A) (i : ℕ) (x y : A) → slice_get xs i ≡ Some x → slice_get xs i ≡ Some y → x ≡ y
+same_there xs i x y e f = let q : Some x ≡ Some y = sym e ∙ f in cc
 
 -- a use with a lower key comes before one with a greater, and the other way round
 pub earlier : (v w : ℕ) (b c : Bool) → v * 2 + flag b < w * 2 + flag c → (v < w) ⊎ ((v ≡ w) × (b ≡ false) × (c ≡ true))
@@ -131,8 +129,8 @@ turns_before list p q c d x y ex ey s t line l = ⊎_elim
     (λ a. ⊎_elim
     (λ b. let k : a.0 ≡ b.0 = (let f = lock_line s.0.uses a.0 c a.1 in let g = lock_line t.0.uses b.0 d b.1 in omega arith) in
     let u = codes_before s.0.uses t.0.uses b.0 c d (subst (λ (n : ℕ). IsLockCode s.0.uses n c) k a.1) b.1 l in
-    inl (subst (λ (z : Spot). UsedBefore z.uses y.uses) (same_spot list p s.0 x s.1 ex)
-    (subst (λ (z : Spot). UsedBefore s.0.uses z.uses) (same_spot list q t.0 y t.1 ey) u)))
+    inl (subst (λ (z : Spot). UsedBefore z.uses y.uses) (same_there list p s.0 x s.1 ex)
+    (subst (λ (z : Spot). UsedBefore s.0.uses z.uses) (same_there list q t.0 y t.1 ey) u)))
     (λ b. absurd (let f = lock_line s.0.uses a.0 c a.1 in let g = caller_line t.0.caller t.0.index b.1 in let h = ap (λ (n : ℕ). n / LINE) b.0 in omega arith))
     t.2)
     (λ a. ⊎_elim
@@ -142,14 +140,14 @@ turns_before list p q c d x y ex ey s t line l = ⊎_elim
     let same : s.0.caller ≡ t.0.caller = omega arith in
     let m = ap (λ (n : ℕ). (2 * n + 1) * LINE) same in let aa = a.0 in let bb = b.0 in
     let low : s.0.index < t.0.index = omega arith in
-    inr (subst (λ (z : Spot). (z.caller ≡ y.caller) × (z.index < y.index)) (same_spot list p s.0 x s.1 ex)
-    (subst (λ (z : Spot). (s.0.caller ≡ z.caller) × (s.0.index < z.index)) (same_spot list q t.0 y t.1 ey) (same, low))))
+    inr (subst (λ (z : Spot). (z.caller ≡ y.caller) × (z.index < y.index)) (same_there list p s.0 x s.1 ex)
+    (subst (λ (z : Spot). (s.0.caller ≡ z.caller) × (s.0.index < z.index)) (same_there list q t.0 y t.1 ey) (same, low))))
     t.2)
     s.2
 
 pub turns_same : (list : List Spot) (p c d : ℕ) → IsTurnOf list p c → IsTurnOf list p d → c / LINE ≡ d / LINE → c ≡ d
 turns_same list p c d s t line =
-    let z : t.0 ≡ s.0 = same_spot list p t.0 s.0 t.1 s.1 in ⊎_elim
+    let z : t.0 ≡ s.0 = same_there list p t.0 s.0 t.1 s.1 in ⊎_elim
     (λ a. ⊎_elim
     (λ b. let k : b.0 ≡ a.0 = (let f = lock_line s.0.uses a.0 c a.1 in let g = lock_line t.0.uses b.0 d b.1 in omega arith) in
     code_same s.0.uses a.0 c d a.1 (subst (λ (n : ℕ). IsLockCode s.0.uses n d) k (subst (λ (w : Spot). IsLockCode w.uses b.0 d) z b.1)))
@@ -188,4 +186,4 @@ rising_code us i c u rising at is fits = record {
     one : (j : ℕ) (v : LockUse) → slice_get us j ≡ Some v → v.lock ≡ u.lock → v ≡ u
     one j v e l = dite (dec_lt j i) (λ h. absurd (let r = rising j i v u e at h in omega arith))
         (λ n. dite (dec_lt i j) (λ h. absurd (let r = rising i j u v at e h in omega arith))
-        (λ m. let s : j ≡ i = omega arith in same_use us i v u (ap (λ (k : ℕ). slice_get us k) (sym s) ∙ e) at))
+        (λ m. let s : j ≡ i = omega arith in same_there us i v u (ap (λ (k : ℕ). slice_get us k) (sym s) ∙ e) at))

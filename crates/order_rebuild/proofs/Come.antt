@@ -20,7 +20,7 @@ use Rattle.order_rebuild.specs.Going.{AreGone, AreStopped, AreWaits, AreClosed, 
 use Rattle.order_rebuild.proofs.Marks.{set_same, set_other}
 use Rattle.order_rebuild.proofs.Waits.{count_same, count_other, count_moved}
 
-marks : (m : _) → m ≡ Some true → m ≡ Some false → ⊥
+pub marks : (m : _) → m ≡ Some true → m ≡ Some false → ⊥
 marks m a b = cc
 
 mark_cases : (left : List Bool) (q : ℕ) → q < length left → (slice_get left q ≡ Some true) ⊎ (slice_get left q ≡ Some false)

@@ -18,3 +18,13 @@ pub mod Makes
 pub mod Loops
 -- the state before the first item
 pub mod Begin
+-- sums over the uses of calls
+pub mod Counts
+-- rows of counts
+pub mod Cells
+-- the lanes of a list
+pub mod Callers
+-- the counts tell who may come
+pub mod Due
+-- one item more, by the counts
+pub mod Steps

@@ -4,31 +4,32 @@ use mathlib.Core.Logic.{dite}
 use native.Mathlib.Decide.{ℕ_discrete}
 use Rattle.std.proofs.lemmas.Option.{slice_get_within, slice_get-get_or}
 use Rattle.history_model.specs.declared.item.LockUse.{LockUse}
-use Rattle.order_rebuild.specs.Turns.{key_of, IsRising, HasKey, IsLeastKey, HasAbove}
-use Rattle.order_rebuild.proofs.Codes.{same_use}
+use Rattle.order_rebuild.specs.Turns.{key_of, HasKey, IsLeastKey, HasAbove}
+use Rattle.order_rebuild.proofs.Codes.{same_there}
 
-abbrev pub IsRisingBelow : List LockUse → ℕ → Type 0
-IsRisingBelow us n = (i j : ℕ) (u v : LockUse) → slice_get us i ≡ Some u → slice_get us j ≡ Some v → i < j → j < n → u.lock < v.lock
+-- f rises along the first n of the list
+abbrev pub IsRisingBelow : {A : Type 0} → (A → ℕ) → List A → ℕ → Type 0
+IsRisingBelow f xs n = (i j : ℕ) (x y : _) → slice_get xs i ≡ Some x → slice_get xs j ≡ Some y → i < j → j < n → f x < f y
 
-pub rising_more : (us : List LockUse) (i : ℕ) (d : LockUse) → 1 ≤ i → i < length us → IsRisingBelow us i
-    → (get_or us (i - 1) d).lock < (get_or us i d).lock → IsRisingBelow us (i + 1)
-rising_more us i d one lt below step a b u v eu ev ab bi = dite (ℕ_discrete b i)
+pub rising_more : {A : Type 0} (f : A → ℕ) (xs : List A) (i : ℕ) (d : A) → 1 ≤ i → i < length xs → IsRisingBelow f xs i
+    → f (get_or xs (i - 1) d) < f (get_or xs i d) → IsRisingBelow f xs (i + 1)
+rising_more f xs i d one lt below step a b x y ex ey ab bi = dite (ℕ_discrete b i)
     (λ s.
-    let v_is : get_or us i d ≡ v = same_use us i (get_or us i d) v (slice_get-get_or us i d lt) (ap (λ (k : ℕ). slice_get us k) (sym s) ∙ ev) in
-    let at : slice_get us (i - 1) ≡ Some (get_or us (i - 1) d) = slice_get-get_or us (i - 1) d (omega arith) in
-    let lv = ap (λ (w : LockUse). w.lock) v_is in
+    let y_is : get_or xs i d ≡ y = same_there xs i (get_or xs i d) y (slice_get-get_or xs i d lt) (ap (λ (k : ℕ). slice_get xs k) (sym s) ∙ ey) in
+    let at : slice_get xs (i - 1) ≡ Some (get_or xs (i - 1) d) = slice_get-get_or xs (i - 1) d (omega arith) in
+    let ly = ap f y_is in
     dite (ℕ_discrete a (i - 1))
-    (λ t. let u_is : get_or us (i - 1) d ≡ u =
-    same_use us (i - 1) (get_or us (i - 1) d) u at (ap (λ (k : ℕ). slice_get us k) (sym t) ∙ eu) in let lu =
-    ap (λ (w : LockUse). w.lock) u_is in omega arith)
-    (λ n. let h = below a (i - 1) u (get_or us (i - 1) d) eu at (omega arith) (omega arith) in omega arith))
-    (λ n. below a b u v eu ev ab (omega arith))
+    (λ t. let x_is : get_or xs (i - 1) d ≡ x =
+    same_there xs (i - 1) (get_or xs (i - 1) d) x at (ap (λ (k : ℕ). slice_get xs k) (sym t) ∙ ex) in let lx = ap f x_is in omega arith)
+    (λ n. let h = below a (i - 1) x (get_or xs (i - 1) d) ex at (omega arith) (omega arith) in omega arith))
+    (λ n. below a b x y ex ey ab (omega arith))
 
-pub rising_all : (us : List LockUse) (n : ℕ) → length us ≤ n → IsRisingBelow us n → IsRising us
-rising_all us n le below i j u v eu ev lt = below i j u v eu ev lt (let w = slice_get_within us j v ev in omega arith)
+pub rising_all : {A : Type 0} (f : A → ℕ) (xs : List A) (n : ℕ) → length xs ≤ n → IsRisingBelow f xs n → (i j : ℕ) (x y : A)
+    → slice_get xs i ≡ Some x → slice_get xs j ≡ Some y → i < j → f x < f y
+rising_all f xs n le below i j x y ex ey lt = below i j x y ex ey lt (let w = slice_get_within xs j y ey in omega arith)
 
-pub rising_first : (us : List LockUse) → IsRisingBelow us 1
-rising_first us i j u v eu ev a b = absurd (omega arith)
+pub rising_first : {A : Type 0} (f : A → ℕ) (xs : List A) → IsRisingBelow f xs 1
+rising_first f xs i j x y ex ey a b = absurd (omega arith)
 
 abbrev pub IsLeastBelow : List LockUse → ℕ → ℕ → ℕ → Type 0
 IsLeastBelow us k low n = (i : ℕ) (u : LockUse) → i < n → slice_get us i ≡ Some u → u.lock ≡ k → low ≤ key_of u
@@ -36,7 +37,7 @@ IsLeastBelow us k low n = (i : ℕ) (u : LockUse) → i < n → slice_get us i �
 pub least_more : (us : List LockUse) (k old low n : ℕ) (w : LockUse) → IsLeastBelow us k old n → low ≤ old
     → slice_get us n ≡ Some w → (w.lock ≡ k → low ≤ key_of w) → IsLeastBelow us k low (n + 1)
 least_more us k old low n w below le at here i u lt e l = dite (ℕ_discrete i n)
-    (λ s. let same : w ≡ u = same_use us n w u at (ap (λ (j : ℕ). slice_get us j) (sym s) ∙ e) in let h =
+    (λ s. let same : w ≡ u = same_there us n w u at (ap (λ (j : ℕ). slice_get us j) (sym s) ∙ e) in let h =
     here (ap (λ (z : LockUse). z.lock) same ∙ l) in let q = ap key_of same in omega arith)
     (λ m. let h = below i u (omega arith) e l in omega arith)
 
@@ -49,7 +50,7 @@ NoneAboveBelow us k low n = (i : ℕ) (u : LockUse) → i < n → slice_get us i
 pub none_more : (us : List LockUse) (k low n : ℕ) (w : LockUse) → NoneAboveBelow us k low n → slice_get us n ≡ Some w
     → (w.lock ≡ k → low < key_of w → ⊥) → NoneAboveBelow us k low (n + 1)
 none_more us k low n w below at here i u lt e l high = dite (ℕ_discrete i n)
-    (λ s. let same : w ≡ u = same_use us n w u at (ap (λ (j : ℕ). slice_get us j) (sym s) ∙ e) in
+    (λ s. let same : w ≡ u = same_there us n w u at (ap (λ (j : ℕ). slice_get us j) (sym s) ∙ e) in
     here (ap (λ (z : LockUse). z.lock) same ∙ l) (let q = ap key_of same in omega arith))
     (λ m. below i u (omega arith) e l high)
 

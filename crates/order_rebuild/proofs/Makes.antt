@@ -196,7 +196,8 @@ turns_more list p s old new are at g fits = record {
     one : {a b : Spot} → Some a ≡ Some b → a ≡ b
     one q = cc
 
-pub moved_in : (xs ys : List Turn) → IsPermutation xs ys → (t : Turn) → (i : ℕ) × (slice_get xs i ≡ Some t) → (i : ℕ) × (slice_get ys i ≡ Some t)
+-- what is in a list is in the same list in another order
+pub moved_in : {A : Type 0} (xs ys : List A) → IsPermutation xs ys → (t : A) → (i : ℕ) × (slice_get xs i ≡ Some t) → (i : ℕ) × (slice_get ys i ≡ Some t)
 moved_in xs ys moved t m =
     let c = Contains-permutation xs ys t moved (m.0, slice_get_within xs m.0 t m.1, get_or_from_slice_get xs m.0 t t m.1) in
     (c.0, slice_get-get_or ys c.0 t c.1 ∙ ap Some c.2)

@@ -12,12 +12,12 @@ use Rattle.history_model.specs.declared.placed.Spot.{Spot}
 use Rattle.order_rebuild.specs.Order.{MayCome, IsNext, IsOrder, Orderable, IsRest, OpenAt, NoneOpen, LeastOpen}
 use Rattle.order_rebuild.proofs.Stuck.{is_in, not_stuck}
 
-pub set_same : (s : List Bool) (i : ℕ) (w v : Bool) → slice_get s i ≡ Some w → slice_get (slice_set s i v) i ≡ Some v
+pub set_same : {A : Type 0} (s : List A) (i : ℕ) (w v : A) → slice_get s i ≡ Some w → slice_get (slice_set s i v) i ≡ Some v
 set_same [] i w v h = cc
 set_same (x ∷ s) zero w v h = refl
 set_same (x ∷ s) (suc i) w v h = set_same s i w v h
 
-pub set_other : (s : List Bool) (i j : ℕ) (v : Bool) → (j ≡ i → ⊥) → slice_get (slice_set s i v) j ≡ slice_get s j
+pub set_other : {A : Type 0} (s : List A) (i j : ℕ) (v : A) → (j ≡ i → ⊥) → slice_get (slice_set s i v) j ≡ slice_get s j
 set_other [] i j v h = refl
 set_other (x ∷ s) zero zero v h = absurd (h refl)
 set_other (x ∷ s) zero (suc j) v h = refl

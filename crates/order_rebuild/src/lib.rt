@@ -1,25 +1,31 @@
 //! The order in which calls are printed, rebuilt from the versions of the locks that they used.
 //!
 //! A call comes before another where both used a lock and it found the lower version, or the same one where it only read
-//! and the other wrote, and where the same caller made it earlier. Each item stands in a line for each lock that it used
-//! and in one of its caller (`turn`); the lines are sorted once (`lines`), and the items are placed while the lines go on
-//! (`ready`, `placing`). So the time is that of the sort, and beside it in proportion to the uses, and to the items times
-//! the logarithm of the callers.
+//! and the other wrote, and where the same caller made it earlier.
+//!
+//! Lists as a table gives them, in which versions leave few gaps and a caller's items stand side by side, are put in
+//! order by counting (`counted`, `ranks`, `lanes`): of each use it is known how many uses of its lock come before it,
+//! and of each lock how many uses are placed; so a caller's next item may come where for each of its uses so many are.
+//! That takes time in proportion to the uses, and to the items times the callers. Other lists go a longer way: each item
+//! stands in a line for each lock that it used and in one of its caller (`turn`); the lines are sorted once (`lines`),
+//! and the items are placed while the lines go on (`ready`, `placing`), in the time of that sort.
 #![tactic(auto)]
 
 ghost use Rattle.std.specs.Prelude.{map, IfOk, ℕ, ◌≡◌, ◌<◌, slice_index, vec_len};
 ghost use Rattle.order_rebuild.specs.Legal.{ArrangedIsOrderable, OrderIsLegal};
 ghost use Rattle.order_rebuild.specs.Order.{IsOrder, Orderable, OneOrder};
 
-use crate::lines::Lines;
-use crate::placing::place_all;
+use crate::counted::counted_order;
+use crate::placing::sorted_order;
 use history_model::{Placed, Shape};
 use io_ends::OutOfMemory;
 use std::alloc::Global;
-use std::collections::BinaryHeap;
 
+mod counted;
+mod lanes;
 mod lines;
 mod placing;
+mod ranks;
 mod ready;
 #[cfg(test)]
 mod tests;
@@ -31,32 +37,10 @@ pub fn order_of<P: Placed>(alloc: Global, done: &[P]) -> Result<Vec<usize>, OutO
     ensures { Orderable (map P.spot done.now)
         → IfOk result (λ out. IsOrder (map P.spot done.now) out.items) }
 {
-    let lines = Lines::of(alloc, done)?;
-    let mut left = vec![in alloc; true; done.len()]?;
-    let mut next = numbers(alloc, lines.item.len())?;
-    let mut wait = Vec::from_slice(alloc, lines.last.as_slice())?;
-    let mut out = Vec::new(alloc);
-    place_all(
-        &lines,
-        &mut left,
-        &mut next,
-        &mut wait,
-        BinaryHeap::new(alloc),
-        &mut out,
-    )?;
-    Ok(out)
-}
-
-/// The numbers below n.
-fn numbers(alloc: Global, n: usize) -> Result<Vec<usize>, OutOfMemory>
-    ensures count { IfOk result (λ v. vec_len v ≡ n) }
-    ensures each { IfOk result (λ v. (i : ℕ) → i < n → slice_index v.items i ≡ i) }
-{
-    let mut numbers = Vec::with_capacity(alloc, n)?;
-    for i in 0..n {
-        numbers.push(i)?;
+    if let Some(out) = counted_order(alloc, done) {
+        return Ok(out);
     }
-    Ok(numbers)
+    sorted_order(alloc, done)
 }
 
 /// A list has one order alone, where no two items have the same caller and index.

@@ -186,7 +186,7 @@ fn shuffle(random: &mut Random, calls: &mut [Call]) {
     }
 }
 
-/// Whether a serial run of this size, shuffled, gets the plain order.
+/// Whether a serial run of this size gets the plain order, with the calls of a caller side by side and shuffled.
 fn is_plain(
     alloc: Global,
     random: &mut Random,
@@ -195,8 +195,11 @@ fn is_plain(
     locks: usize,
 ) -> Result<bool, OutOfMemory> {
     let mut calls = serial_run(alloc, random, count, callers, locks, 3)?;
+    calls.sort_by_key(|call| call.caller)?;
+    let by_caller = order_of(alloc, calls.as_slice())? == plain_order(alloc, calls.as_slice())?;
     shuffle(random, calls.as_mut_slice());
-    Ok(order_of(alloc, calls.as_slice())? == plain_order(alloc, calls.as_slice())?)
+    let shuffled = order_of(alloc, calls.as_slice())? == plain_order(alloc, calls.as_slice())?;
+    Ok(by_caller && shuffled)
 }
 
 #[test]

@@ -1,5 +1,5 @@
 -- The index of records, made of them one by one in the order of their identifiers.
-use Rattle.std.proofs.Common.{◌≡◌, ℕ, ◌+◌, Bool, true, false, cond, List, [], ◌∷◌, ◌++◌, map, Option, Some, None, refl, sym, ap, ◌∙◌, subst, append_assoc}
+use Rattle.std.proofs.Common.{◌≡◌, ℕ, false, cond, List, [], ◌∷◌, ◌++◌, map, Some, None, refl, sym, ap, ◌∙◌, subst, append_assoc}
 use Rattle.std.specs.FinMap as finite
 use Rattle.std.specs.FinMap.{find, from_entries_push}
 use Rattle.std.specs.BTreeMap.{is_at}

@@ -1,5 +1,5 @@
 -- Records that have their blocks have them after every script.
-use Rattle.std.proofs.Common.{◌≡◌, ℕ, ◌+◌, ◌*◌, ◌≤◌, Bool, true, false, not, ◌&&◌, List, [], ◌∷◌, Option, Some, None, if◌then◌else◌, refl, sym, ap, ◌∙◌, subst, arith}
+use Rattle.std.proofs.Common.{◌≡◌, ℕ, ◌+◌, ◌≤◌, Bool, true, false, not, ◌&&◌, List, [], ◌∷◌, Option, Some, None, if◌then◌else◌, refl, arith}
 use Rattle.std.specs.FinMap as finite
 use Rattle.record_text.specs.declared.script.RecordOp.{RecordOp}
 use Rattle.record_text.specs.declared.script.RecordOp.TheVariants as op

@@ -14,3 +14,11 @@ pub mod Runs
 pub mod Removals
 -- a record is put
 pub mod Puts
+-- the ranges of operations are those of their lines
+pub mod Inputs
+-- a fault of a text has one of five reasons
+pub mod Reasons
+-- the text of replies and of journal lines, one piece after another
+pub mod Printing
+-- records are printed in the order of the index
+pub mod Ranked

@@ -1,5 +1,5 @@
 -- Putting a record: what the step comes to, and the blocks after it.
-use Rattle.std.proofs.Common.{◌≡◌, ℕ, ◌+◌, ◌*◌, ◌<◌, ◌≤◌, Bool, true, false, not, ◌&&◌, cond, nat_lt, Option, Some, None, IsSome, is_some, refl, sym, ap, ◌∙◌, subst, arith}
+use Rattle.std.proofs.Common.{◌≡◌, ℕ, ◌≤◌, Bool, true, false, not, ◌&&◌, Option, Some, None, IsSome, is_some, refl, sym, ap, ◌∙◌, subst, arith}
 use Rattle.std.specs.Bool.{if◌then◌else◌}
 use Rattle.std.specs.FinMap as finite
 use Rattle.std.specs.BTreeMap.{BTreeMap, get_by}
@@ -10,7 +10,7 @@ use Rattle.books_model.proofs.Maps.Trees.{get-lookup, len_after_change, len_afte
 use Rattle.record_text.specs.declared.script.RecordOp.TheVariants as op
 use Rattle.record_text.specs.declared.reply.RecordValue.{RecordValue}
 use Rattle.record_text.specs.declared.reply.RecordValue.TheVariants as value
-use Rattle.record_text.specs.Records.{Records, RecordStore, blocks_of, is_full}
+use Rattle.record_text.specs.Records.{RecordStore, blocks_of, is_full}
 use Rattle.record_text.specs.Interpreter.{Step, Gives, LacksBlocks, step_of}
 use Rattle.record_text.specs.Ranges.{HasRoom}
 

@@ -2,7 +2,6 @@
 use Rattle.std.proofs.Common.{◌≡◌, ℕ, ◌+◌, List, [], ◌∷◌, ◌++◌, refl, sym, ap, append_assoc, append-nil, ◌∙◌}
 use Rattle.record_text.specs.declared.script.RecordOp.{RecordOp}
 use Rattle.record_text.specs.declared.reply.RecordValue.{RecordValue}
-use Rattle.record_text.specs.declared.reply.RecordReply.{RecordReply}
 use Rattle.record_text.specs.declared.reply.RecordReply.TheVariants as reply
 use Rattle.record_text.specs.Records.{Records}
 use Rattle.record_text.specs.Interpreter.{Step, Gives, LacksRecord, LacksBlocks, Run, Ends, Stops, step_of, run_from, after_value, after_step}

@@ -1,5 +1,12 @@
 pub mod Records
 pub mod Interpreter
 pub mod Ranges
+pub mod Language
+pub mod Input
+pub mod Grammar
+pub mod Words
+pub mod Journal
+pub mod Output
+pub mod Lines
 pub mod Laws
 pub mod Inner

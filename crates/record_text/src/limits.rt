@@ -18,5 +18,5 @@ pub const GREATEST_DATA: u64 = 1_000_000_000_000_000_000;
 /// The most identifiers that an operation lists. The fewest is 1.
 pub const MOST_LISTED: u32 = 16;
 
-/// The most operations of a script.
-pub const MOST_OPERATIONS: usize = 64;
+/// The most operations of a script: as many as of one on books.
+pub const MOST_OPERATIONS: usize = books_model::limits::MOST_OPERATIONS;

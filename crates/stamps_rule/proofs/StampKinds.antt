@@ -1,37 +1,33 @@
 -- The kinds of step on timestamps keep the timestamp invariant.
-use Rattle.std.proofs.Common.{◌≡◌, ◌≢◌, ℕ, suc, ◌+◌, ◌<◌, ◌≤◌, Bool, true, false, ◌&&◌, ◌⊎◌, inl, inr, ⊎_elim, List, [], ◌∷◌, ◌++◌, length, Option, Some, None}
+use Rattle.std.proofs.Common.{◌≡◌, ◌≢◌, ℕ, suc, ◌+◌, ◌<◌, ◌≤◌, Bool, true, false, ◌&&◌, ◌⊎◌, inl, inr, ⊎_elim, List, [], ◌∷◌, ◌++◌, Option, Some, None}
 use Rattle.std.proofs.Common.{nat_lt, if◌then◌else◌, slice_index, slice_set, refl, sym, ap, ◌∙◌, subst, arith, eq-eqb, ne_eqb, get_or-set_other}
 use Rattle.std.proofs.Common.{get_or-set_same}
 use Rattle.std.proofs.lemmas.Bool.Decides.{leb_tells}
-use Rattle.std.proofs.lemmas.List.{set-set, set-get_or}
 use Rattle.std.proofs.lemmas.Option.{same_Some}
 use mathlib.Core.Logic.{dite}
 use native.Mathlib.Decide.{ℕ_discrete}
-use Rattle.history_model.specs.declared.entry.Entry.{Entry}
 use Rattle.history_model.specs.declared.event.Cause.{Cause}
 use Rattle.history_model.specs.declared.view.View.{View}
-use Rattle.history_model.specs.declared.view.Phase.TheVariants.{Running}
 use Rattle.history_model.specs.Legal.{IsIn}
 use Rattle.history_model.specs.Sets.{has, without, flag}
-use Rattle.history_model.specs.Table.{Knows, history_of, serial_word, clock_word, calls_word, stamps_word}
+use Rattle.history_model.specs.Table.{Knows, clock_word, calls_word, stamps_word}
 use Rattle.history_model.proofs.SetLemmas.{bool_cases, differ, not_true, has-without}
-use Rattle.history_model.proofs.Views.Places.{put_here}
 use Rattle.locks_rule.specs.Locks.{LocksHold, IsSeat}
 use Rattle.locks_rule.proofs.Counting.{calls_below-same}
 use Rattle.locks_rule.proofs.Own.{own}
-use Rattle.stamps_rule.specs.Causes.{past_causes, newest, older, listed, causes_of, pending_of, waited_of}
+use Rattle.stamps_rule.specs.Causes.{past_causes, newest, older, pending_of, waited_of}
 use Rattle.stamps_rule.specs.Keeping.{KeepsStamps}
 use Rattle.stamps_rule.specs.Stamps.{is_idle, is_unstamped, shown_stamp, Shows, GoesAfter, AreSeatsDistinct, WasMet, StampsHold}
-use Rattle.stamps_rule.specs.Steps.{MayDrawStamp, MayAnnounceStamp, MayJudgeStamp, MayLoadSerialAtYield, MayLoadCauseStamp, draw_stamp_action}
-use Rattle.stamps_rule.specs.Steps.{announce_stamp_action, judge_stamp_action, load_serial_at_yield_action, load_cause_stamp_action, judged, attempt_of}
-use Rattle.stamps_rule.specs.Steps.{after_giving_way, after_waiting, after_restarting, judge_and_yield_action, after_judgement}
-use Rattle.stamps_rule.proofs.Asides.{words_unchanged, notes_same, no_due, stamps_kept, all_kept, causes_kept, causes_empty, waited_kept, earlier_kept}
+use Rattle.stamps_rule.specs.Steps.{MayDrawStamp, MayAnnounceStamp, MayJudgeStamp, MayLoadCauseStamp, draw_stamp_action}
+use Rattle.stamps_rule.specs.Steps.{announce_stamp_action, judge_stamp_action, load_cause_stamp_action, judged, attempt_of}
+use Rattle.stamps_rule.specs.Steps.{after_giving_way, after_waiting, after_restarting, after_judgement}
+use Rattle.stamps_rule.proofs.Asides.{words_unchanged, notes_same, stamps_kept, all_kept, causes_kept, causes_empty, waited_kept, earlier_kept}
 use Rattle.stamps_rule.proofs.Asides.{stands_aside}
-use Rattle.stamps_rule.proofs.CauseLists.{newest_added, older_added, newest_last, past_added, in_added, pending_running, waited_running, pending_yielding}
-use Rattle.stamps_rule.proofs.CauseLists.{waited_yielding, causes_past, empty_list, distinct_added}
+use Rattle.stamps_rule.proofs.CauseLists.{newest_added, older_added, newest_last, past_added, in_added, waited_running, pending_yielding}
+use Rattle.stamps_rule.proofs.CauseLists.{waited_yielding, empty_list, distinct_added}
 use Rattle.stamps_rule.proofs.Counting.{unstamped_stamped, unstamped_running}
 use Rattle.stamps_rule.proofs.Frames.{moves}
-use Rattle.stamps_rule.proofs.LocksStand.{runs, yields, yielded, judge_stamp_locks}
+use Rattle.stamps_rule.proofs.LocksStand.{runs, yields}
 
 hidden : (v : View) → v.announced ≡ false → shown_stamp v ≡ 0
 hidden v e = ap (λ (b : Bool). if b then v.stamp else 0) e
@@ -51,7 +47,7 @@ draw_stamp_stamps j n base ws vs id v h q me may =
     let ws' : List ℕ = slice_set ws clock_word x in
     let here : slice_index ws' clock_word ≡ x = get_or-set_same ws clock_word x 0 (let count = h.word_count in omega arith) in
     let unshown : v.announced ≡ false = not_true v.announced (λ t. let some = q.shown.announced_stamped id v me t in let none = may.unstamped in omega arith) in
-    let none : causes_of w ≡ [] = empty_list (causes_of v) (λ c t. let e =
+    let none : past_causes w ≡ [] = empty_list (past_causes v) (λ c t. let e =
     (q.grounds.earlier id v c me (runs v may.phase) t).1 in let zero = may.unstamped in omega arith) in
     moves n base ws ws' vs id v w h q me record {
       who = refl;
@@ -73,7 +69,7 @@ draw_stamp_stamps j n base ws vs id v h q me may =
             omega arith;
       };
       causes = causes_empty n base ws vs id v h q me w none (λ l t. q.grounds.met_were_met id l v me t)
-          (λ c t. absurd (no_due v c may.no_cause t)) (λ busy. (j, may.who));
+          (λ busy. (j, may.who));
     }
 
 pub announce_stamp_stamps : (j : ℕ) → KeepsStamps (MayAnnounceStamp j) (announce_stamp_action j)
@@ -108,7 +104,6 @@ announce_stamp_stamps j n base ws vs id v h q me may =
         joined = refl;
         causes = refl;
         busy = λ busy. busy;
-        running = λ c t. absurd (no_due v c may.no_cause t);
         notes = notes_same v w refl refl;
       } refl refl refl;
     }
@@ -136,11 +131,11 @@ module _ (n : ℕ) (base ws : List ℕ) (vs : List View) (id j i : ℕ) (v : Vie
   abbrev the_cause : Cause
   the_cause = record { seat = i; stamp = found }
 
-  abbrev finds : View
-  finds = record v { met = without i v.met; due = Some the_cause }
-
   abbrev passes : View
-  passes = record v { met = without i v.met; due = None }
+  passes = record v { met = without i v.met }
+
+  abbrev yielding : View
+  yielding = after_giving_way the_cause passes
 
   other_seat : (i < n) × (has i v.who ≡ false)
   other_seat = h.met_are_others id i v me may.met
@@ -162,40 +157,45 @@ module _ (n : ℕ) (base ws : List ℕ) (vs : List View) (id j i : ℕ) (v : Vie
       let has_stamp = s.0 in
       ⊎_elim (λ (z : p.1.stamp ≡ 0). omega arith) (λ (z : v.stamp < p.1.stamp). omega arith) a
 
-  was_cause : (d : Cause) → IsIn d (past_causes v) → IsIn d (causes_of v)
-  was_cause d t = subst (λ (l : List Cause). IsIn d l) (sym (causes_past v may.no_cause)) t
+  past : past_causes yielding ≡ past_causes v ++ the_cause ∷ []
+  past = past_added v.abandoned (attempt_of the_cause passes)
 
-  cause_cases : (d : Cause) → IsIn d (causes_of finds) → IsIn d (past_causes v) ⊎ (the_cause ≡ d)
-  cause_cases d t = in_added (past_causes v) the_cause d t
+  cause_cases : (d : Cause) → IsIn d (past_causes yielding) → IsIn d (past_causes v) ⊎ (the_cause ≡ d)
+  cause_cases d t = in_added (past_causes v) the_cause d (subst (λ (l : List Cause). IsIn d l) past t)
 
-  judge_finds : 0 < found → found < v.stamp → StampsHold n (slice_set ws (stamps_word v.seats i) found) (slice_set vs id finds)
-  judge_finds some earlier = moves n base ws (slice_set ws (stamps_word v.seats i) found) vs id v finds h q me record {
+  waited : waited_of yielding ≡ waited_of v
+  waited = ap older past ∙ (older_added (past_causes v) the_cause ∙ sym (waited_running v may.phase))
+
+  pending : pending_of yielding ≡ Some the_cause
+  pending = ap newest past ∙ newest_added (past_causes v) the_cause
+
+  judge_finds : 0 < found → found < v.stamp → StampsHold n (slice_set ws (stamps_word v.seats i) found) (slice_set vs id yielding)
+  judge_finds some earlier = moves n base ws (slice_set ws (stamps_word v.seats i) found) vs id v yielding h q me record {
     who = refl;
-    stamps = stamps_kept n base ws vs id v h q me finds (slice_set ws (stamps_word v.seats i) found)
-        (words_unchanged n ws (stamps_word v.seats i)) refl refl refl refl;
+    stamps = stamps_kept n base ws vs id v h q me yielding (slice_set ws (stamps_word v.seats i) found)
+        (words_unchanged n ws (stamps_word v.seats i)) refl refl refl (sym (ap is_idle may.phase));
     causes = record {
-      waited = waited_kept n base ws vs id v h q me finds refl refl;
+      waited = waited_kept n base ws vs id v h q me yielding refl waited;
       pending = λ other u d s ne t.
-          let is : the_cause ≡ d = same_Some the_cause d (sym (pending_running finds may.phase) ∙ t) in
+          let is : the_cause ≡ d = same_Some the_cause d (sym pending ∙ t) in
           subst (λ (c : Cause). Shows u c.stamp ⊎ GoesAfter u v.stamp) is
           (inl (shows u found (shown_there other u (subst (λ (c : Cause). IsSeat vs other u c.seat) (sym is) s)) some));
-      distinct = distinct_added (past_causes v) the_cause
-          (subst (λ (l : List Cause). AreSeatsDistinct l) (causes_past v may.no_cause) (q.seats.distinct id v me)) (not_waited some earlier);
+      distinct = subst (λ (l : List Cause). AreSeatsDistinct l) (sym past)
+          (distinct_added (past_causes v) the_cause (q.seats.distinct id v me) (not_waited some earlier));
       earlier = λ d busy t. ⊎_elim
-          (λ z. q.grounds.earlier id v d me (runs v may.phase) (was_cause d z))
+          (λ z. q.grounds.earlier id v d me (runs v may.phase) z)
           (λ z. subst (λ (c : Cause). (0 < c.stamp) × (c.stamp < v.stamp)) z (some, earlier)) (cause_cases d t);
       elsewhere = λ l d single t. ⊎_elim
-          (λ z. q.grounds.elsewhere id l v d me single (was_cause d z))
+          (λ z. q.grounds.elsewhere id l v d me single z)
           (λ z. subst (λ (c : Cause). (c.seat < n) × (c.seat ≢ l)) z (
             other_seat.0,
             λ e. differ (has i v.who)
                 (subst (λ (k : ℕ). has k v.who ≡ true) (sym e) (own n base ws vs id l v h me single).seat.named) other_seat.1,
           )) (cause_cases d t);
       were_met = λ d t. ⊎_elim
-          (λ z. q.grounds.were_met id v d me (was_cause d z))
+          (λ z. q.grounds.were_met id v d me z)
           (λ z. subst (λ (c : Cause). WasMet v c.seat) z (q.grounds.met_were_met id i v me may.met)) (cause_cases d t);
       met_were_met = λ l t. q.grounds.met_were_met id l v me (met_before l t);
-      running = λ d t. may.phase;
       alone = λ busy. (j, may.who);
       dealers = λ a b ta tb ne un. let o = own n base ws vs id j v h me may.who in absurd (ne (o.is a ta ∙ sym (o.is b tb)));
     };
@@ -208,85 +208,29 @@ module _ (n : ℕ) (base ws : List ℕ) (vs : List View) (id j i : ℕ) (v : Vie
     stamp = refl;
     announced = refl;
     draws = refl;
-    due = sym may.no_cause;
-    no_cause = may.no_cause;
     abandoned = refl;
     idle = refl;
     yielding = refl;
     notes = record { met = λ l t. inl (met_before l t); meetings = λ k l t. t };
   }
 
-  judge_keeps : StampsHold n (slice_set ws (stamps_word v.seats i) found) (slice_set vs id (record v { met = without i v.met; due = judged i found v.stamp }))
-  judge_keeps = ⊎_elim
-      (λ t. subst (λ (due : Option Cause). StampsHold n (slice_set ws (stamps_word v.seats i) found)
-      (slice_set vs id (record v { met = without i v.met; due = due }))) (sym t) judge_passes)
-      (λ t. subst (λ (due : Option Cause). StampsHold n (slice_set ws (stamps_word v.seats i) found)
-      (slice_set vs id (record v { met = without i v.met; due = due }))) (sym t.0) (judge_finds t.1 t.2))
-      (judged_cases i found v.stamp)
+  judge_keeps : StampsHold n (slice_set ws (stamps_word v.seats i) found) (slice_set vs id (after_judgement (judged i found v.stamp) passes))
+  judge_keeps =
+      let Stands : Option Cause → Type 0 = λ o. StampsHold n (slice_set ws (stamps_word v.seats i) found) (slice_set vs id (after_judgement o passes)) in
+      ⊎_elim (λ t. subst Stands (sym t) judge_passes) (λ t. subst Stands (sym t.0) (judge_finds t.1 t.2)) (judged_cases i found v.stamp)
 
 pub judge_stamp_stamps : (j i : ℕ) → KeepsStamps (MayJudgeStamp j i) (judge_stamp_action j i)
 judge_stamp_stamps j i n base ws vs id v h q me may = judge_keeps n base ws vs id j i v h q me may
 
--- a load of any word with which an attempt gives way to the cause that was due, where this is the history then
-yields_by : (n : ℕ) (base ws : List ℕ) (vs : List View) (id i : ℕ) (v : View) (c : Cause) (history : List Entry) → LocksHold n base ws vs
-    → StampsHold n ws vs → Knows vs id v → v.phase ≡ Running → v.due ≡ Some c
-    → StampsHold n (slice_set ws i (slice_index ws i)) (slice_set vs id (after_giving_way c history v))
-yields_by n base ws vs id i v c history h q me runs_now is_due =
-    let w : View = after_giving_way c history v in
-    let ws' : List ℕ = slice_set ws i (slice_index ws i) in
-    let past : past_causes w ≡ past_causes v ++ c ∷ [] = past_added v.abandoned (attempt_of c (length history) v) in
-    let causes : causes_of w ≡ causes_of v = causes_past w refl ∙ (past ∙ ap (λ (o : Option Cause). past_causes v ++ listed o) (sym is_due)) in
-    let pending : pending_of w ≡ pending_of v = ap newest past ∙ (newest_added (past_causes v) c ∙ sym (pending_running v runs_now ∙ is_due)) in
-    let waited : waited_of w ≡ waited_of v = ap older past ∙ (older_added (past_causes v) c ∙ sym (waited_running v runs_now)) in
-    moves n base ws ws' vs id v w h q me record {
-      who = refl;
-      stamps = stamps_kept n base ws vs id v h q me w ws' (words_unchanged n ws i) refl refl refl (sym (ap is_idle runs_now));
-      causes = all_kept n base ws vs id v h q me w record {
-        who = refl;
-        joined = refl;
-        causes = causes;
-        busy = λ busy. runs v runs_now;
-        running = λ d t. absurd (no_due w d refl t);
-        notes = notes_same v w refl refl;
-      } refl pending waited;
-    }
-
-pub load_serial_at_yield_stamps : (j : ℕ) → KeepsStamps (MayLoadSerialAtYield j) (load_serial_at_yield_action j)
-load_serial_at_yield_stamps j n base ws vs id v h q me may =
-    yielded (λ (u : View). StampsHold n (slice_set ws serial_word (slice_index ws serial_word)) (slice_set vs id u)) v may.cause.0 may.cause.1 (history_of vs)
-    (yields_by n base ws vs id serial_word v may.cause.0 (history_of vs) h q me may.phase may.cause.1)
-
--- a judgement that gives way at once does what a judgement does, and then what giving way does
-pub judge_and_yield_stamps : (j i : ℕ) → KeepsStamps (MayJudgeStamp j i) (judge_and_yield_action j i)
-judge_and_yield_stamps j i n base ws vs id v h q me may =
-    let found : ℕ = slice_index ws (stamps_word v.seats i) in
-    let ws' : List ℕ = slice_set ws (stamps_word v.seats i) found in
-    let passes : View = record v { met = without i v.met; due = None } in
-    let Stands : Option Cause → Type 0 = λ o. StampsHold n ws' (slice_set vs id (after_judgement o passes)) in
-    ⊎_elim
-    (λ t. subst Stands (sym t) (judge_passes n base ws vs id j i v h q me may))
-    (λ t. subst Stands (sym t.0) (let c : Cause = record { seat = i; stamp = found } in
-    let finds : View = record v { met = without i v.met; due = Some c } in
-    let vs' : List View = slice_set vs id finds in
-    let locks : LocksHold n base ws' vs' = subst (λ (o : Option Cause). LocksHold n base ws' (slice_set vs id (record v { met = without i v.met; due = o })))
-    t.0 (judge_stamp_locks n base j i ws vs id v h me may) in
-    let both = yields_by n base ws' vs' id serial_word finds c v.seen locks (judge_finds n base ws vs id j i v h q me may t.1 t.2)
-    (put_here vs id v finds me) may.phase refl in
-    subst (λ (l : List View). StampsHold n ws' l) (set-set vs id finds (after_giving_way c v.seen passes))
-    (subst (λ (l : List ℕ). StampsHold n l (slice_set vs' id (after_giving_way c v.seen passes))) (set-get_or ws' serial_word 0) both)))
-    (judged_cases i found v.stamp)
-
 -- the cause is still there
-waits_on : (n : ℕ) (base ws : List ℕ) (vs : List View) (id i : ℕ) (v : View) → LocksHold n base ws vs → StampsHold n ws vs → Knows vs id v → v.due ≡ None
+waits_on : (n : ℕ) (base ws : List ℕ) (vs : List View) (id i : ℕ) (v : View) → LocksHold n base ws vs → StampsHold n ws vs → Knows vs id v
     → StampsHold n (slice_set ws i (slice_index ws i)) (slice_set vs id (after_waiting v))
-waits_on n base ws vs id i v h q me none = stands_aside n base ws vs id v h q me (after_waiting v) i (slice_index ws i) (words_unchanged n ws i) record {
+waits_on n base ws vs id i v h q me = stands_aside n base ws vs id v h q me (after_waiting v) i (slice_index ws i) (words_unchanged n ws i) record {
   who = refl;
   joined = refl;
   stamp = refl;
   announced = refl;
   draws = refl;
-  due = refl;
-  no_cause = none;
   abandoned = refl;
   idle = refl;
   yielding = refl;
@@ -319,14 +263,13 @@ restarts n base ws vs id j i stamp v h q me may other_stamp =
         joined = refl;
         causes = refl;
         busy = λ busy. yields v may.phase;
-        running = λ d t. refl;
         notes = notes_same v w refl refl;
       }
           (λ other u d s ne t. ⊎_elim
           (λ old. q.waited.waited_out id other v u d me (subst (λ (l : List Cause). IsIn d l) (sym (waited_yielding v may.phase)) old) s)
           (λ is. after other u (subst (λ (e : Cause). IsSeat vs other u e.seat) (sym is) s))
           (in_added (older (past_causes v)) c d (subst (λ (l : List Cause). IsIn d l) (newest_last (past_causes v) c may.last) t)))
-          (λ other u d s ne t. absurd (no_due v d may.no_cause t))
+          (λ other u d s ne t. absurd (let z : None ≡ Some d = t in cc))
           (earlier_kept n base ws vs id v h q me w refl refl (λ busy. yields v may.phase));
     }
 
@@ -336,5 +279,5 @@ load_cause_stamp_stamps j i stamp n base ws vs id v h q me may =
     let x : ℕ = slice_index ws at in
     let P : Bool → Type 0 = λ b. StampsHold n (slice_set ws at x) (slice_set vs id (if b then after_waiting v else after_restarting v)) in
     dite (ℕ_discrete x stamp)
-    (λ e. subst P (sym (eq-eqb x stamp e)) (waits_on n base ws vs id at v h q me may.no_cause))
+    (λ e. subst P (sym (eq-eqb x stamp e)) (waits_on n base ws vs id at v h q me))
     (λ ne. subst P (sym (ne_eqb x stamp ne)) (restarts n base ws vs id j i stamp v h q me may ne))

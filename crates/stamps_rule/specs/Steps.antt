@@ -2,14 +2,13 @@
 -- draws a timestamp only once it met another, is that of 2PLSF (Ramalhete, Correia, Felber, PPoPP 2023); that the later
 -- of two calls gives way and keeps its timestamp is from wait-die (Rosenkrantz, Stearns, Lewis, TODS 1978). The seat has
 -- the number j, and i is another seat.
-use Rattle.std.specs.Prelude.{◌≡◌, ◌≢◌, ℕ, ◌+◌, ◌<◌, true, false, ◌&&◌, List, [], ◌∷◌, ◌++◌, length, Option, Some, None, nat_lt, ◌==◌, if◌then◌else◌}
+use Rattle.std.specs.Prelude.{◌≡◌, ◌≢◌, ℕ, ◌+◌, ◌<◌, true, false, ◌&&◌, [], ◌∷◌, ◌++◌, length, Option, Some, None, nat_lt, ◌==◌, if◌then◌else◌}
 use Rattle.history_model.specs.declared.entry.Abandoned.{Abandoned}
-use Rattle.history_model.specs.declared.entry.Entry.{Entry}
 use Rattle.history_model.specs.declared.event.Cause.{Cause}
 use Rattle.history_model.specs.declared.view.View.{View}
 use Rattle.history_model.specs.declared.view.Phase.TheVariants.{Running, Yielding}
 use Rattle.history_model.specs.Sets.{has, without}
-use Rattle.history_model.specs.Table.{serial_word, clock_word, stamps_word}
+use Rattle.history_model.specs.Table.{clock_word, stamps_word}
 use Rattle.history_model.specs.Views.{HasBit, HasClaim}
 use Rattle.locks_rule.specs.Actions.{Action}
 use Rattle.locks_rule.specs.Versions.{uses_of}
@@ -21,13 +20,12 @@ pub record MayDrawStamp (j : ℕ) (v : View) : Type 0 where
   pub phase : v.phase ≡ Running
   pub unjudged : v.met ≢ []
   pub unstamped : v.stamp ≡ 0
-  pub no_cause : v.due ≡ None
 
 abbrev pub draw_stamp_action : ℕ → View → Action
 draw_stamp_action j v = record {
   at = clock_word;
   writes = λ w. w + 1;
-  view = λ h w. record v { stamp = w + 1; draws = v.draws + 1 };
+  view = λ w. record v { stamp = w + 1; draws = v.draws + 1 };
 }
 
 -- the timestamp is stored to the own STAMPS word
@@ -36,83 +34,51 @@ pub record MayAnnounceStamp (j : ℕ) (v : View) : Type 0 where
   pub phase : v.phase ≡ Running
   pub stamped : 0 < v.stamp
   pub unannounced : v.announced ≡ false
-  pub no_cause : v.due ≡ None
 
 abbrev pub announce_stamp_action : ℕ → View → Action
 announce_stamp_action j v = record {
   at = stamps_word v.seats j;
   writes = λ w. v.stamp;
-  view = λ h w. record v { announced = true };
+  view = λ w. record v { announced = true };
 }
 
--- the timestamp of a seat that the call met is loaded: an earlier one is a cause to give way
+-- the timestamp of a seat that the call met is loaded: an earlier one is a cause, to which the attempt gives way by this
+-- step
 pub record MayJudgeStamp (j i : ℕ) (v : View) : Type 0 where
   pub who : v.who ≡ j ∷ []
   pub phase : v.phase ≡ Running
   pub announced : v.announced ≡ true
   pub met : has i v.met ≡ true
-  pub no_cause : v.due ≡ None
 
 -- what seat i, which shows the number shown, is to a call with this timestamp
 abbrev pub judged : ℕ → ℕ → ℕ → Option Cause
 judged i shown stamp =
     if nat_lt 0 shown && nat_lt shown stamp then Some (record { seat = i; stamp = shown }) else None
 
-abbrev pub judge_stamp_action : ℕ → ℕ → View → Action
-judge_stamp_action j i v = record {
-  at = stamps_word v.seats i;
-  writes = λ w. w;
-  view = λ h w. record v { met = without i v.met; due = judged i w v.stamp };
-}
-
--- the attempt of a view that gives way to a cause, and whose reads are legal on so many entries. It wrote no lock that
--- it used: it undoes all
-abbrev pub attempt_of : Cause → ℕ → View → Abandoned
-attempt_of cause front v = record {
+-- the attempt of a view that gives way to a cause: all that its pass has seen is before it. It wrote no lock that it used:
+-- it undoes all
+abbrev pub attempt_of : Cause → View → Abandoned
+attempt_of cause v = record {
   cause = cause;
-  front = front;
+  front = length v.seen;
   trace = v.trace;
   uses = uses_of false v.trace v.uses;
 }
 
--- the attempt gives way to a cause, where this is the history
-abbrev pub after_giving_way : Cause → List Entry → View → View
-after_giving_way cause history v = record v {
-  seen = history;
-  phase = Yielding;
-  due = None;
-  abandoned = v.abandoned ++ attempt_of cause (length history) v ∷ [];
-}
+-- the attempt gives way to a cause
+abbrev pub after_giving_way : Cause → View → View
+after_giving_way cause v = record v { phase = Yielding; abandoned = v.abandoned ++ attempt_of cause v ∷ [] }
 
 -- the same where there is a cause
-abbrev pub after_yielding : Option Cause → List Entry → View → View
-after_yielding None history v = v
-after_yielding (Some cause) history v = after_giving_way cause history v
-
--- a judgement that gives way at once: what was seen stays, and all of it is before the attempt
 abbrev pub after_judgement : Option Cause → View → View
 after_judgement None v = v
-after_judgement (Some cause) v = after_giving_way cause v.seen v
+after_judgement (Some cause) v = after_giving_way cause v
 
--- the same load, where no number of entries is looked at: an attempt that has a cause gives way by this step
-abbrev pub judge_and_yield_action : ℕ → ℕ → View → Action
-judge_and_yield_action j i v = record {
+abbrev pub judge_stamp_action : ℕ → ℕ → View → Action
+judge_stamp_action j i v = record {
   at = stamps_word v.seats i;
   writes = λ w. w;
-  view = λ h w. after_judgement (judged i w v.stamp) (record v { met = without i v.met; due = None });
-}
-
--- a call that has to give way loads the number of entries, and its attempt is abandoned
-pub record MayLoadSerialAtYield (j : ℕ) (v : View) : Type 0 where
-  pub who : v.who ≡ j ∷ []
-  pub phase : v.phase ≡ Running
-  pub cause : (cause : Cause) × (v.due ≡ Some cause)
-
-abbrev pub load_serial_at_yield_action : ℕ → View → Action
-load_serial_at_yield_action j v = record {
-  at = serial_word;
-  writes = λ w. w;
-  view = λ h w. after_yielding v.due h v;
+  view = λ w. after_judgement (judged i w v.stamp) (record v { met = without i v.met });
 }
 
 -- an attempt that gave way, undid and released all loads the timestamp of its cause: seat i showed the number stamp
@@ -123,7 +89,6 @@ pub record MayLoadCauseStamp (j i stamp : ℕ) (v : View) : Type 0 where
   pub no_bit : (k : ℕ) → ¬ HasBit v k
   pub no_claim : (k : ℕ) → ¬ HasClaim v k
   pub undone : v.undo ≡ []
-  pub no_cause : v.due ≡ None
 
 -- the call finds its cause still there
 abbrev pub after_waiting : View → View
@@ -137,5 +102,5 @@ abbrev pub load_cause_stamp_action : ℕ → ℕ → ℕ → View → Action
 load_cause_stamp_action j i stamp v = record {
   at = stamps_word v.seats i;
   writes = λ w. w;
-  view = λ h w. if w == stamp then after_waiting v else after_restarting v;
+  view = λ w. if w == stamp then after_waiting v else after_restarting v;
 }

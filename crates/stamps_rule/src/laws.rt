@@ -8,7 +8,7 @@
 
 ghost use Rattle.std.specs.Prelude.{◌≡◌, ℕ, List, [], ◌∷◌};
 ghost use Rattle.history_model.specs.declared.view.View.{View};
-ghost use Rattle.history_model.specs.Table.{Knows, history_of};
+ghost use Rattle.history_model.specs.Table.{Knows};
 ghost use Rattle.locks_rule.specs.Actions.{Action, Keeps, found_by, words_after, views_after};
 ghost use Rattle.locks_rule.specs.Joins.{MayTakeNote, left_by_note, note_of, MayMeetNote, after_note, MayJoinSeats, after_joining};
 ghost use Rattle.locks_rule.specs.Locks.{LocksHold};
@@ -18,7 +18,7 @@ ghost use Rattle.stamps_rule.specs.Asides.{IsStampWord, SameStamps, BeginsCall, 
 ghost use Rattle.stamps_rule.specs.Keeping.{KeepsStamps, KeepsStampsSplit, KeepsStampsJoin};
 ghost use Rattle.stamps_rule.specs.Opening.{IsClockUnused};
 ghost use Rattle.stamps_rule.specs.Stamps.{StampsHold, AreRestartsBounded};
-ghost use Rattle.stamps_rule.specs.Steps.{MayDrawStamp, MayAnnounceStamp, MayJudgeStamp, MayLoadSerialAtYield, MayLoadCauseStamp, draw_stamp_action, announce_stamp_action, judge_stamp_action, judge_and_yield_action, load_serial_at_yield_action, load_cause_stamp_action};
+ghost use Rattle.stamps_rule.specs.Steps.{MayDrawStamp, MayAnnounceStamp, MayJudgeStamp, MayLoadCauseStamp, draw_stamp_action, announce_stamp_action, judge_stamp_action, load_cause_stamp_action};
 
 /// A seat that draws a timestamp keeps both invariants: no call has a later one, and this call had no cause before it.
 pub fn draw_stamp()
@@ -34,28 +34,12 @@ pub fn announce_stamp()
     ensures stamps { (j : ℕ) → KeepsStamps (MayAnnounceStamp j) (announce_stamp_action j) }
 {}
 
-/// A seat that looks at the timestamp of one that it met keeps both invariants: a cause that it finds is none that it
-/// waited for before.
+/// A seat that looks at the timestamp of one that it met, and gives way at once where that is a cause, keeps both
+/// invariants: the cause is none that it waited for before. It needs no word that all share.
 pub fn judge_stamp()
     ensures locks { (n : ℕ) (base : List ℕ) (j i : ℕ)
         → Keeps (LocksHold n base) (MayJudgeStamp j i) (judge_stamp_action j i) }
     ensures stamps { (j i : ℕ) → KeepsStamps (MayJudgeStamp j i) (judge_stamp_action j i) }
-{}
-
-/// A seat that looks at such a timestamp and gives way at once where it finds a cause keeps both invariants: it does what
-/// looking does, and then what giving way does, and needs no word that all share.
-pub fn judge_and_yield()
-    ensures locks { (n : ℕ) (base : List ℕ) (j i : ℕ)
-        → Keeps (LocksHold n base) (MayJudgeStamp j i) (judge_and_yield_action j i) }
-    ensures stamps { (j i : ℕ) → KeepsStamps (MayJudgeStamp j i) (judge_and_yield_action j i) }
-{}
-
-/// A seat that gives way keeps both invariants: the cause that was due is that of its last attempt.
-pub fn load_serial_at_yield()
-    ensures locks { (n : ℕ) (base : List ℕ) (j : ℕ)
-        → Keeps (LocksHold n base) (MayLoadSerialAtYield j) (load_serial_at_yield_action j) }
-    ensures stamps { (j : ℕ)
-        → KeepsStamps (MayLoadSerialAtYield j) (load_serial_at_yield_action j) }
 {}
 
 /// A seat that looks whether its cause is gone keeps both invariants. Where it is, that seat's later timestamps are
@@ -101,7 +85,7 @@ pub fn aside()
         (action : Action)
         → LocksHold n base words views → StampsHold n words views → Knows views id v
         → ¬ IsStampWord n action.at
-        → SameStamps v (action.view (history_of views) (found_by action words))
+        → SameStamps v (action.view (found_by action words))
         → StampsHold n (words_after action words) (views_after action id words views) }
 {}
 
@@ -112,7 +96,7 @@ pub fn opens()
         (action : Action)
         → LocksHold n base words views → StampsHold n words views → Knows views id v
         → StoresCall n j words action
-        → BeginsCall j v (action.view (history_of views) (found_by action words))
+        → BeginsCall j v (action.view (found_by action words))
         → StampsHold n (words_after action words) (views_after action id words views) }
 {}
 
@@ -123,7 +107,7 @@ pub fn ends()
         (action : Action)
         → LocksHold n base words views → StampsHold n words views → Knows views id v
         → StoresNoStamp n j words action
-        → EndsCall j v (action.view (history_of views) (found_by action words))
+        → EndsCall j v (action.view (found_by action words))
         → StampsHold n (words_after action words) (views_after action id words views) }
 {}
 

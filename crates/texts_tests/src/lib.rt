@@ -1,5 +1,5 @@
-//! Tests of the public calls of io_ends, books_model, script_reader and books_report, in a crate of their own: they rest on
-//! what those promise, and do not prove them again.
+//! Tests of the public calls of io_ends, books_model, script_reader, books_report and record_text, in a crate of their own:
+//! they rest on what those promise, and do not prove them again.
 #![tactic(auto)]
 
 #[cfg(test)]
@@ -16,6 +16,8 @@ mod languages;
 mod model;
 #[cfg(test)]
 mod reader;
+#[cfg(test)]
+mod records;
 #[cfg(test)]
 mod report;
 pub mod steps;

@@ -1,2 +1,4 @@
+-- what a teller's calls did
+pub mod Doing
 -- what all tellers did together
 pub mod Serving

@@ -2,7 +2,9 @@
 
 ghost use Rattle.std.specs.Prelude.{◌≡◌, ◌<◌, ◌≤◌, ◌*◌, ◌^◌, [], All, length, map, IfOk};
 ghost use Rattle.std.specs.List.{sum};
+ghost use Rattle.word_table.specs.Closing.{AreRecords, IsCoherent, IsLegalInEachOrder};
 ghost use Rattle.word_table.specs.declared.limits.TheConstants.{LAST_CALL, MOST_PASSES, MOST_WORDS};
+ghost use Rattle.transfers.specs.Making.{HaveSumOf};
 ghost use Rattle.transfers.specs.Telling.{AreServed};
 
 use crate::teller::{Move, Teller};
@@ -48,8 +50,17 @@ pub fn run_transfers<R: Threads + Wait + Sync>(
     ensures count { IfOk result (λ ended.
         length ended.closed.words ≡ length accounts.items) }
     ensures total { IfOk result (λ ended. sum ended.closed.words ≡ sum accounts.items) }
+    // All that was committed, with the attempts that gave way, has an arrangement. In every arrangement each item finds
+    // words with that sum, on which its trace is legal, and the words at the end are what the last leaves.
+    ensures began { IfOk result (λ ended. (ended.closed.base ≡ accounts.items)
+        × (ended.closed.seats ≡ length lists.items)) }
+    ensures coherent { IfOk result (λ ended.
+        IsCoherent (HaveSumOf accounts.items) ended.closed) }
+    ensures legal { IfOk result (λ ended.
+        IsLegalInEachOrder (HaveSumOf accounts.items) ended.closed) }
+    ensures records { IfOk result (λ ended. AreRecords ended.closed) }
     // All moves were made, each list's in its order, and each audit told that sum.
-    ensures served { IfOk result (λ ended. AreServed accounts.items ended.closed.history
+    ensures served { IfOk result (λ ended. AreServed accounts.items ended.closed.records
         (map (λ list. list.items) lists.items) ended.clients.items) }
 {
     let vault = Vault {

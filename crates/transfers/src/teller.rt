@@ -1,6 +1,8 @@
 //! What one thread does: a list of moves, with an audit after each.
 
 ghost use Rattle.std.specs.Prelude.{◌≡◌, ◌*◌, ◌≤◌, [], length, OnOk};
+ghost use Rattle.history_model.specs.declared.entry.Entry.{Entry};
+ghost use Rattle.history_model.specs.Legal.{IsIn};
 ghost use Rattle.history_model.specs.Views.{number};
 ghost use Rattle.word_table.specs.declared.limits.TheConstants.{LAST_CALL};
 ghost use Rattle.transfers.specs.Telling.{IsServed};
@@ -51,6 +53,8 @@ fn make_moves<R: Wait>(
     ensures served { OnOk result
         (IsServed desk.now.base pass.new.view.seen (number pass.new.view) moves.now
         told.new.items) }
+    ensures own { OnOk result ((e : Entry) → IsIn e pass.new.view.seen
+        → e.who ≡ number pass.new.view) }
 {
     desk.began_good();
     let audit = Audit { vault };

@@ -1,14 +1,13 @@
 -- What a day of some workers is, and what is printed of it.
 use Rattle.std.specs.Prelude.{◌≡◌, ℕ, List, map}
 use Rattle.history_model.specs.Fitting.{IsGood}
-use Rattle.history_model.specs.Histories.{replay}
-use Rattle.history_model.specs.Legal.{IsLegalHistory}
 use Rattle.script_reader.specs.Input.{ClearingInput}
 use Rattle.books_report.specs.declared.line.Line.{Line}
 use Rattle.books_model.specs.Books.{ClearingBooks}
 use Rattle.books_report.specs.Output.{Ran, books_after}
 use Rattle.txn_books.specs.Layout.{words_of}
 use Rattle.txn_books.specs.Standing.{Stands, IsGoodFor}
+use Rattle.word_table.specs.Closing.{AreRecords, IsCoherent, IsLegalInEachOrder}
 use Rattle.worker_pool.specs.declared.done.Done.{Done}
 use Rattle.worker_pool.specs.declared.done.DayEnd.{DayEnd}
 use Rattle.worker_pool.specs.Days.{place_of_item, AreCallersWhole, IsDay}
@@ -30,13 +29,14 @@ journal_of day = map ran_of_item day.done.items
 abbrev pub closing_books : ClearingInput → DayEnd → ClearingBooks
 closing_books input day = books_after input input.books (days.places_of_items day.done.items)
 
--- a day of the input by so many workers: a table with a seat for each, whose words stood for the opening books, and a
--- legal history of all that was done on it, whose replay its words are at the end; each caller was run whole by one
--- worker
+-- a day of the input by so many workers: a table with a seat for each, whose words stood for the opening books; all that
+-- was committed on it, with the attempts that gave way, has an arrangement, and each arrangement is a legal history, whose
+-- replay its words are at the end; each caller was run whole by one worker
 pub record IsDayOf (input : ClearingInput) (workers : ℕ) (day : DayEnd) : Type 0 where
   pub seats : day.closed.seats ≡ workers
   pub opening : Stands day.closed.shape day.closed.base input.books
-  pub legal : IsLegalHistory (IsGood (words_of day.closed.shape) (IsGoodFor day.closed.shape)) day.closed.seats day.closed.base day.closed.history
-  pub words : day.closed.words ≡ replay day.closed.base day.closed.history
+  pub coherent : IsCoherent (IsGood (words_of day.closed.shape) (IsGoodFor day.closed.shape)) day.closed
+  pub legal : IsLegalInEachOrder (IsGood (words_of day.closed.shape) (IsGoodFor day.closed.shape)) day.closed
+  pub records : AreRecords day.closed
   pub is_day : IsDay input day.closed day.done.items
   pub whole : AreCallersWhole day.done.items

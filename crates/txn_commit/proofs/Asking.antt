@@ -6,7 +6,7 @@ use Rattle.history_model.specs.declared.shape.Shape.{Ghosts as Shapes}
 use Rattle.history_model.specs.declared.view.View.{View}
 use Rattle.history_model.specs.Locks.{lock_of_word}
 use Rattle.history_model.specs.Traces.{Trace}
-use Rattle.word_table.specs.Desks.{DeskView, AreGoodWords}
+use Rattle.word_table.specs.Desks.{DeskView}
 use Rattle.lock_or_yield.specs.declared.turn.Intent.{Intent}
 use Rattle.lock_or_yield.specs.declared.turn.Intent.TheVariants as intent
 use Rattle.lock_or_yield.specs.declared.want.Got.TheVariants as got
@@ -17,7 +17,7 @@ use Rattle.txn_commit.specs.declared.attempt.Asked.TheVariants as asked
 use Rattle.txn_commit.specs.declared.attempt.Halt.{Halt}
 use Rattle.txn_commit.specs.declared.attempt.Halt.TheVariants as halt
 use Rattle.txn_commit.specs.Inner.Asking.{AsksForWord}
-use Rattle.txn_commit.proofs.Attempts.{gave_way_to, saw_others}
+use Rattle.txn_commit.proofs.Attempts.{gave_way_to}
 use Rattle.txn_commit.proofs.Footprints.{met_cause}
 
 -- it was held before
@@ -44,16 +44,15 @@ module _ {S : Type 0} (shapes : Shapes S) (desk : DeskView S) (i : Intent) (a : 
 
   pub asked_yields : (x : Cause) → AsksSince shapes desk i a old (got.Yield x) new
       → AsksForWord desk.seats i a old h asked.Yield (Some (halt.Yield x)) new
-  asked_yields x since = let good = AreGoodWords shapes desk in let way = since.answer.yields x refl in record {
+  asked_yields x since = let way = since.answer.yields x refl in record {
     asks = since.asks;
     locks = since.locks;
     judged = since.judged;
     yields = λ e. (
       x,
       refl,
-      gave_way_to good desk.seats desk.base _ x old new way.1 (since.answer.bounded x refl),
-      saw_others good desk.seats desk.base _ x old new way.1,
-      met_cause good desk.seats desk.base (lock_of_word a) way.0 x old new way.1,
+      gave_way_to desk.seats _ x old new way.1 (since.answer.bounded x refl),
+      met_cause (lock_of_word a) way.0 x old new way.1,
     );
     goes_on = λ no. absurd (no refl);
   }

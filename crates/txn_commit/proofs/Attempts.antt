@@ -1,16 +1,15 @@
 -- An attempt between two of its calls: what asking for a lock, a load, a store and a halt leave of it.
 use Rattle.std.proofs.Common.{◌≡◌, ◌≢◌, ℕ, zero, suc, ◌+◌, ◌<◌, ◌≤◌, List, [], ◌∷◌, ◌++◌, length, All, true, false, inr, Option, Some, None, Result, Ok, Err}
-use Rattle.std.proofs.Common.{IsOk, OnOk, OnErr, is_err, get_or, slice_get, slice_index, refl, sym, ap, ◌∙◌, subst, arith, length-append}
+use Rattle.std.proofs.Common.{IsOk, OnOk, OnErr, is_err, get_or, slice_get, refl, sym, ap, ◌∙◌, subst, arith, length-append}
 use Rattle.std.proofs.lemmas.List.{append-nil}
 use Rattle.std.proofs.lemmas.List.Elements.{All-append}
 use Rattle.std.proofs.lemmas.Option.{slice_get_within, get_or_from_slice_get}
-use Rattle.history_model.specs.declared.entry.Entry.{Entry}
 use Rattle.history_model.specs.declared.entry.Abandoned.{Abandoned}
 use Rattle.history_model.specs.declared.event.Cause.{Cause}
 use Rattle.history_model.specs.declared.event.Event.TheVariants.{Read, Write}
 use Rattle.history_model.specs.declared.view.View.{View}
 use Rattle.history_model.specs.Fitting.{Fits, IsGood, SomeFits}
-use Rattle.history_model.specs.Histories.{replay}
+use Rattle.history_model.specs.Items.{replay_items}
 use Rattle.history_model.specs.declared.view.Phase.TheVariants.{Running, Yielding}
 use Rattle.history_model.specs.Locks.{lock_of_word}
 use Rattle.history_model.specs.Marks.{count_writes}
@@ -23,7 +22,7 @@ use Rattle.history_model.proofs.Traces.MarkLaws.{notes_counted, read_unnoted, wr
 use Rattle.stamps_rule.specs.Stamps.{AreRestartsBounded}
 use Rattle.values_rule.specs.Steps.{store_value_action}
 use Rattle.undo_log.specs.Room.{Room}
-use Rattle.word_table.specs.Calls.{ReadsHistory}
+use Rattle.word_table.specs.Calls.{ReadsArranged}
 use Rattle.word_table.specs.Copies.{PassView}
 use Rattle.word_table.specs.Desks.{DeskView}
 use Rattle.lock_or_yield.specs.Asking.{Asks, MeetsAndYields, WentOn}
@@ -32,25 +31,18 @@ use Rattle.txn_commit.specs.declared.attempt.Halt.{Halt}
 use Rattle.txn_commit.specs.declared.attempt.Halt.TheVariants as halt
 use Rattle.txn_commit.specs.declared.attempt.TheConstants.{UNDO_ROOM}
 use Rattle.txn_commit.specs.Attempts.{DidEvents, GaveWayTo, IsSoundAttempt, Runs, StaysInCall, stop_of}
-use Rattle.txn_commit.specs.Transactions.{GainsOthers}
 use Rattle.txn_commit.proofs.Footprints.{footprint_events, footprint_loaded, footprint_yields}
-use Rattle.txn_commit.proofs.Others.{gains_history, gains_more, gains_none}
 
 -- an attempt that gave way, and what the pass then had seen
-pub gave_way_to : (good : List ℕ → Type 0) (n : ℕ) (base : List ℕ) (met : List (ℕ × ℕ)) (cause : Cause) (old new : View)
-    → MeetsAndYields good n base met cause old new → AreRestartsBounded n (number old) new → GaveWayTo n cause old new
-gave_way_to good n base met cause old new g bounded = record {
-  phase = ap (λ (v : View). v.phase) g.gave_way.view;
-  abandoned = (_, ap (λ (v : View). v.abandoned) g.gave_way.view, refl, ap (λ (v : View). v.trace) (sym g.gave_way.view));
+pub gave_way_to : (n : ℕ) (met : List (ℕ × ℕ)) (cause : Cause) (old new : View)
+    → MeetsAndYields met cause old new → AreRestartsBounded n (number old) new → GaveWayTo n cause old new
+gave_way_to n met cause old new g bounded = record {
+  phase = ap (λ (v : View). v.phase) g.gave_way;
+  abandoned = (_, ap (λ (v : View). v.abandoned) g.gave_way, refl, ap (λ (v : View). v.trace) (sym g.gave_way));
   last = g.last;
   seat = g.seat;
-  bounded = subst (λ (j : ℕ). AreRestartsBounded n j new) (ap number (sym g.gave_way.view)) bounded;
+  bounded = subst (λ (j : ℕ). AreRestartsBounded n j new) (ap number (sym g.gave_way)) bounded;
 }
-
-pub saw_others : (good : List ℕ → Type 0) (n : ℕ) (base : List ℕ) (met : List (ℕ × ℕ)) (cause : Cause) (old new : View)
-    → MeetsAndYields good n base met cause old new → GainsOthers (number old) old.seen new.seen
-saw_others good n base met cause old new g = subst (λ (h : List Entry). GainsOthers (number old) old.seen h) (ap (λ (v : View). v.seen) (sym g.gave_way.view))
-    (gains_history (number old) old.seen g.gave_way.history g.gave_way.begins g.gave_way.others)
 
 -- the attempt ran when it gave way
 gave_way_since : (n : ℕ) (cause : Cause) (began old new : View) → Runs began old → GaveWayTo n cause old new → GaveWayTo n cause began new
@@ -69,17 +61,16 @@ same_call began old new f s = record {
   call = s.call ∙ f.call;
   floor = s.floor ∙ f.floor;
   stamp = λ h. s.stamp (subst (λ (x : ℕ). 0 < x) (sym (f.stamp h)) h) ∙ f.stamp h;
-  seen = gains_more (number began) began.seen old.seen new.seen f.seen
-      (subst (λ (j : ℕ). GainsOthers j old.seen new.seen) (ap (λ (l : List ℕ). slice_index l 0) f.seat.who) s.seen);
+  seen = s.seen ∙ f.seen;
 }
 
-asks_same_call : (a : ℕ) (old new : View) → Asks a old new → GainsOthers (number old) old.seen new.seen → StaysInCall old new
-asks_same_call a old new asks gains = record {
+asks_same_call : (a : ℕ) (old new : View) → Asks a old new → StaysInCall old new
+asks_same_call a old new asks = record {
   seat = record { who = ap (λ (v : View). v.who) asks.rest; base = ap (λ (v : View). v.base) asks.rest; seats = ap (λ (v : View). v.seats) asks.rest };
   call = ap (λ (v : View). v.call) asks.rest;
   floor = ap (λ (v : View). v.floor) asks.rest;
   stamp = asks.stamped;
-  seen = gains;
+  seen = ap (λ (v : View). v.seen) asks.rest;
 }
 
 -- what a refused note says, and what a note that was made says
@@ -108,9 +99,6 @@ held_not_yield e = cc
 pub granted_not_yield : asked.Granted ≢ asked.Yield
 granted_not_yield e = cc
 
-saw_same : (who : ℕ) (old new : List Entry) → new ≡ old → GainsOthers who old new
-saw_same who old new e = subst (λ (l : List Entry). GainsOthers who old l) (sym e) (gains_none who old)
-
 runs_on : (began old new : View) → Runs began old → new.phase ≡ old.phase → new.abandoned ≡ old.abandoned → Runs began new
 runs_on began old new r phase abandoned = record { phase = phase ∙ r.phase; abandoned = abandoned ∙ r.abandoned }
 
@@ -129,23 +117,28 @@ events_same_call trace notes uses old new e = record {
   call = ap (λ (v : View). v.call) e;
   floor = ap (λ (v : View). v.floor) e;
   stamp = λ h. ap (λ (v : View). v.stamp) e;
-  seen = saw_same (number old) old.seen new.seen (ap (λ (v : View). v.seen) e);
+  seen = ap (λ (v : View). v.seen) e;
 }
 
--- what is legal on what the history leaves fits some good list
+-- what is legal behind all that was done fits some good list
 pub some_fits : (count : ℕ) (good : List ℕ → Type 0) (n : ℕ) (base : List ℕ) (v : View)
-    → ReadsHistory (IsGood count good) n base v → SomeFits count good v.trace
-some_fits count good n base v r = (replay base r.history, record { count = r.left_good.count; good = r.left_good.good; legal = r.fits })
+    → ReadsArranged (IsGood count good) n base v → SomeFits count good v.trace
+some_fits count good n base v r = let left = r.left_good r.order r.arranged in
+    (replay_items base r.order, record { count = left.count; good = left.good; legal = r.fits r.order r.arranged })
 
 -- a write is legal on every list
-reads_write : (count : ℕ) (good : List ℕ → Type 0) (n : ℕ) (base : List ℕ) (j a x : ℕ) (v : View) → ReadsHistory (IsGood count good) n base v
-    → ReadsHistory (IsGood count good) n base ((store_value_action j a x v).view [] 0)
+reads_write : (count : ℕ) (good : List ℕ → Type 0) (n : ℕ) (base : List ℕ) (j a x : ℕ) (v : View) → ReadsArranged (IsGood count good) n base v
+    → ReadsArranged (IsGood count good) n base ((store_value_action j a x v).view 0)
 reads_write count good n base j a x v r = record {
-  history = r.history;
-  legal = r.legal;
-  begins = r.begins;
+  items = r.items;
+  seen = r.seen;
+  attempts = r.attempts;
+  order = r.order;
+  arranged = r.arranged;
+  placed = r.placed;
   left_good = r.left_good;
-  fits = (fits_write count good v.trace (replay base r.history) a x (record { count = r.left_good.count; good = r.left_good.good; legal = r.fits })).legal;
+  fits = λ order h. let left = r.left_good order h in
+      (fits_write count good v.trace (replay_items base order) a x (record { count = left.count; good = left.good; legal = r.fits order h })).legal;
 }
 
 yielding_runs : (v : View) → v.phase ≡ Yielding → v.phase ≡ Running → ⊥
@@ -173,9 +166,9 @@ did_load events first asked loaded same event = subst (λ (v : View). DidEvents 
     (sym (event ∙ ap (λ (v : View). record v { trace = events; uses = loaded.uses }) same)) refl
 
 pub did_store : (j a x : ℕ) (first loaded stored : View) → DidEvents first loaded
-    → stored ≡ (store_value_action j a x loaded).view [] 0 → DidEvents first stored
+    → stored ≡ (store_value_action j a x loaded).view 0 → DidEvents first stored
 did_store j a x first loaded stored did step =
-    let more : View = (store_value_action j a x loaded).view [] 0 in
+    let more : View = (store_value_action j a x loaded).view 0 in
     subst (λ (v : View). DidEvents first v) (sym step) (ap (λ (v : View). record v { trace = more.trace; undo = more.undo }) did)
 
 pub did_more : (first old new : View) → DidEvents first old → DidEvents old new → DidEvents first new
@@ -207,13 +200,13 @@ module _ {S : Type 0} (word_count : S → ℕ) (good : S → List ℕ → Type 0
   -- the attempt asked for a lock and gave way
   pub yields_sound : (a : ℕ) (old new : PassView) (log : Room) (cause : Cause) → IsSoundAttempt word_count good desk began old log None
       → new.table ≡ old.table → Asks a old.view new.view → new.view.met ≡ []
-      → GaveWayTo desk.seats cause old.view new.view → GainsOthers (number old.view) old.view.seen new.view.seen
+      → GaveWayTo desk.seats cause old.view new.view
       → has_pair (lock_of_word a) cause.seat new.view.meetings ≡ true
       → IsSoundAttempt word_count good desk began new log (Some (halt.Yield cause))
-  yields_sound a old new log cause s table asks judged gave gains met = record {
+  yields_sound a old new log cause s table asks judged gave met = record {
     table = table ∙ s.table;
     words = ap (λ (v : View). length v.base) asks.rest ∙ s.words;
-    call = same_call began.view old.view new.view s.call (asks_same_call a old.view new.view asks gains);
+    call = same_call began.view old.view new.view s.call (asks_same_call a old.view new.view asks);
     stands = gave_way_since desk.seats cause began.view old.view new.view s.stands gave;
     judged = judged;
     log_is = s.log_is ∙ ap (λ (v : View). v.undo) (sym asks.rest);
@@ -241,7 +234,7 @@ module _ {S : Type 0} (word_count : S → ℕ) (good : S → List ℕ → Type 0
       → All (λ note. note.0 < word_count desk.shape) later.list
       → ((w : List ℕ) → Fits (word_count desk.shape) (good desk.shape) trace w → notes ≡ notes_of trace w)
       → AreGranted old.view notes → UNDO_ROOM ≤ later.spare + length later.list
-      → ReadsHistory (IsGood (word_count desk.shape) (good desk.shape)) desk.seats desk.base new.view → (more : Trace)
+      → ReadsArranged (IsGood (word_count desk.shape) (good desk.shape)) desk.seats desk.base new.view → (more : Trace)
       → trace ≡ old.view.trace ++ more → IsSoundAttempt word_count good desk began new later None
   events_sound trace notes old new log later s table e list within noted granted room fits more longer = record {
     table = table ∙ s.table;
@@ -288,7 +281,7 @@ module _ {S : Type 0} (word_count : S → ℕ) (good : S → List ℕ → Type 0
   pub store_sound : (a x was : ℕ) (before : Trace) (old new : PassView) (log later : Room)
       → IsSoundAttempt word_count good desk began old log None → a < word_count desk.shape → HasWriteGrant old.view (lock_of_word a)
       → old.view.trace ≡ before ++ Read a was ∷ []
-      → new.table ≡ old.table → new.view ≡ (store_value_action (number old.view) a x old.view).view [] 0
+      → new.table ≡ old.table → new.view ≡ (store_value_action (number old.view) a x old.view).view 0
       → new.view.undo ≡ old.view.undo ++ (a, was) ∷ []
       → later.list ≡ log.list ++ (a, was) ∷ [] → log.spare ≤ later.spare + 1 → IsSoundAttempt word_count good desk began new later None
   store_sound a x was before old new log later s within granted last table step noted list spare =
@@ -304,7 +297,7 @@ module _ {S : Type 0} (word_count : S → ℕ) (good : S → List ℕ → Type 0
       (subst (λ (l : Notes). AreGranted old.view l) s.log_is s.granted) (one_granted old.view a was granted))
       (let long : length later.list ≡ length log.list + 1 = ap (λ (l : Notes). length l) list
       ∙ length-append log.list ((a, was) ∷ []) in let room = s.room in omega arith)
-      (subst (λ (v : View). ReadsHistory (IsGood (word_count desk.shape) (good desk.shape)) desk.seats desk.base v) (sym step)
+      (subst (λ (v : View). ReadsArranged (IsGood (word_count desk.shape) (good desk.shape)) desk.seats desk.base v) (sym step)
       (reads_write (word_count desk.shape) (good desk.shape) desk.seats desk.base (number old.view) a x old.view
       (s.current s.stands.phase))) (Write a x ∷ []) refl
 
@@ -313,7 +306,7 @@ module _ {S : Type 0} (word_count : S → ℕ) (good : S → List ℕ → Type 0
       → IsSoundAttempt word_count good desk began old log halted
       → mid.table ≡ old.table → Asks a old.view mid.view → mid.view.met ≡ [] → WentOn old.view mid.view
       → new.table ≡ mid.table → new.view ≡ record mid.view { trace = mid.view.trace ++ Read a x ∷ []; uses = new.view.uses }
-      → ReadsHistory (IsGood (word_count desk.shape) (good desk.shape)) desk.seats desk.base new.view → IsSoundAttempt word_count good desk began new log None
+      → ReadsArranged (IsGood (word_count desk.shape) (good desk.shape)) desk.seats desk.base new.view → IsSoundAttempt word_count good desk began new log None
   held_sound a x old mid new log halted going held table asks judged went same event fits =
       let s : IsSoundAttempt word_count good desk began old log None =
       subst (λ (h : Option Halt). IsSoundAttempt word_count good desk began old log h) (not_halted halted going) held in
@@ -322,7 +315,7 @@ module _ {S : Type 0} (word_count : S → ℕ) (good : S → List ℕ → Type 0
         words = ap (λ (v : View). length v.base) event ∙ (ap (λ (v : View). length v.base) asks.rest ∙ s.words);
         call = same_call began.view mid.view new.view
             (same_call began.view old.view mid.view s.call
-            (asks_same_call a old.view mid.view asks (saw_same (number old.view) old.view.seen mid.view.seen (ap (λ (v : View). v.seen) went)))) on;
+            (asks_same_call a old.view mid.view asks)) on;
         stands = runs_on began.view old.view new.view s.stands (ap (λ (v : View). v.phase) event
             ∙ ap (λ (v : View). v.phase) went) (ap (λ (v : View). v.abandoned) event ∙ ap (λ (v : View). v.abandoned) went);
         judged = ap (λ (v : View). v.met) event ∙ judged;

@@ -1,17 +1,15 @@
 -- How a transaction begins and ends.
-use Rattle.std.proofs.Common.{◌≡◌, ◌≢◌, ℕ, ◌+◌, ◌<◌, ◌≤◌, Bool, true, false, List, [], ◌∷◌, ◌++◌, length, length-append, slice_index, All, Option, None, Some}
+use Rattle.std.proofs.Common.{◌≡◌, ℕ, ◌+◌, ◌<◌, ◌≤◌, Bool, true, List, [], ◌∷◌, ◌++◌, length, length-append, slice_index, All, Option, None, Some}
 use Rattle.std.proofs.Common.{Result, Ok, Err, OnErr, refl, sym, ap, ◌∙◌, subst, arith}
 use Rattle.history_model.specs.declared.entry.Abandoned.{Abandoned}
 use Rattle.history_model.specs.declared.entry.Entry.{Entry}
+use Rattle.history_model.specs.declared.item.Item.{Item}
 use Rattle.history_model.specs.declared.view.View.{View}
 use Rattle.history_model.specs.declared.event.Cause.{Cause}
-use Rattle.history_model.specs.declared.view.Phase.{Phase}
-use Rattle.history_model.specs.declared.view.Phase.TheVariants.{Idle}
 use Rattle.history_model.specs.Counts.{is_attempt}
-use Rattle.history_model.specs.Fitting.{Fits, IsGood}
-use Rattle.history_model.specs.Legal.{IsPrefix, AreAttemptsLegal}
-use Rattle.history_model.specs.Table.{history_of}
-use Rattle.history_model.specs.Histories.{replay}
+use Rattle.history_model.specs.Fitting.{Fits, IsGood, SomeFits}
+use Rattle.history_model.specs.Items.{replay_items}
+use Rattle.history_model.specs.Legal.{IsIn}
 use Rattle.history_model.specs.Traces.{Trace, after, IsLegalTrace}
 use Rattle.history_model.specs.Locks.{lock_of_word}
 use Rattle.history_model.specs.Undoing.{Notes, notes_of}
@@ -19,9 +17,10 @@ use Rattle.history_model.specs.Views.{number, HasWriteGrant}
 use Rattle.locks_rule.proofs.Own.{own_number}
 use Rattle.locks_rule.specs.Actions.{Action}
 use Rattle.stamps_rule.specs.Stamps.{AreRestartsBounded}
-use Rattle.values_rule.specs.Steps.{begin_call_action, clear_stamp_action, entry_of}
+use Rattle.values_rule.specs.Steps.{begin_call_action, clear_stamp_action, entry_of, after_commit}
 use Rattle.undo_log.specs.Room.{Room}
-use Rattle.word_table.specs.Calls.{CommitsAt, ReadsHistory}
+use Rattle.values_rule.specs.History.{items_of_attempts, knew_of}
+use Rattle.word_table.specs.Calls.{ReadsArranged}
 use Rattle.word_table.specs.Copies.{HoldsNothing, PassView}
 use Rattle.word_table.specs.Desks.{DeskHolds, DeskView}
 use Rattle.word_table.specs.Kinds.{TakenIn}
@@ -33,15 +32,13 @@ use Rattle.txn_commit.specs.Attempts.{GaveWayTo, IsSoundAttempt, Runs, StaysInCa
 use Rattle.locks_rule.specs.Versions.{uses_of}
 use Rattle.txn_commit.specs.Uses.{ListsUses}
 use Rattle.txn_commit.specs.Inner.Releasing.{Releases, Undoes}
-use Rattle.txn_commit.specs.Transactions.{AsksItsFootprint, EndsWithoutEntry, GainsOthers, GetsEntry, LeavesFootprint, ReadOneState}
+use Rattle.txn_commit.specs.Transactions.{AsksItsFootprint, EndsWithoutEntry, GetsEntry, IsMeant, LeavesFootprint}
 use Rattle.txn_commit.proofs.Attempts.{same_call, some_fits}
 use Rattle.txn_commit.proofs.Footprints.{asked_none, footprint_same, still_its_footprint}
-use Rattle.txn_commit.proofs.Releasing.{still_begun}
-use Rattle.txn_commit.proofs.Others.{gains_history, gains_more, gains_none}
 
 -- a call that is over has as few attempts that gave way as before
 pub ends_bounded : (n j : ℕ) (old new : View) → AreRestartsBounded n (number old) old
-    → new ≡ (clear_stamp_action j old).view [] 0 → AreRestartsBounded n (number new) new
+    → new ≡ (clear_stamp_action j old).view 0 → AreRestartsBounded n (number new) new
 ends_bounded n j old new b e = subst (λ (v : View). AreRestartsBounded n (number v) v) (sym e) (record {
   few = b.few;
   elsewhere = b.elsewhere;
@@ -59,38 +56,43 @@ module _ {S : Type 0} (word_count : S → ℕ) (good : S → List ℕ → Type 0
   -- and knows as many words as the desk's shape says
   pub words_counted : (j : ℕ) → TakenIn (DeskHolds word_count good desk) action old found new → old.who ≡ j ∷ [] → length old.base ≡ word_count desk.shape
   words_counted j t one = ap (λ (l : List ℕ). length l)
-      (t.holds.locks.bases_alike t.place j old (record { knows = t.knows; named = own_number old j one })) ∙ t.holds.values.history.base_good.count
-
-  -- and its attempts that gave way read one state each
-  pub one_state : TakenIn (DeskHolds word_count good desk) action old found new → old.phase ≢ Idle
-      → ReadOneState (IsGood (word_count desk.shape) (good desk.shape)) desk.seats desk.base old
-  one_state t begun = let alone = t.holds.values.calls.callers_alone t.place old t.knows begun in record {
-    history = history_of t.views;
-    legal = t.holds.values.history.legal;
-    begins = t.holds.values.seen.seen_begin t.place old t.knows;
-    stamp = old.stamp;
-    attempts =
-        subst (λ (j : ℕ). AreAttemptsLegal desk.seats desk.base (history_of t.views) j old.stamp old.floor (length old.seen) old.abandoned)
-        (sym (ap (λ (l : List ℕ). slice_index l 0) alone.1)) (t.holds.values.floor.attempts t.place alone.0 old t.knows alone.1 begun);
-  }
+      (t.holds.locks.bases_alike t.place j old (record { knows = t.knows; named = own_number old j one })) ∙ t.holds.values.items.agree.base_good.count
 
 -- what an error says of several things
 pub both_on_err : {A E : Type 0} (P Q : Type 0) (r : Result A E) → OnErr r P → OnErr r Q → OnErr r (P × Q)
 both_on_err P Q (Ok x) p q = p
 both_on_err P Q (Err x) p q = (p, q)
 
-attempt_begun : (p : Phase) → is_attempt p ≡ true → p ≢ Idle
-attempt_begun p t e = let z : true ≡ false = sym t ∙ ap is_attempt e in cc
+-- what the attempts of a call rest on
+pub record SameReads (old new : View) : Type 0 where
+  pub who : new.who ≡ old.who
+  pub call : new.call ≡ old.call
+  pub seats : new.seats ≡ old.seats
+  pub seen : new.seen ≡ old.seen
+  pub abandoned : new.abandoned ≡ old.abandoned
+  pub trace : new.trace ≡ old.trace
 
--- a view that has seen the same and whose attempt did the same
-pub still_reads : (good : List ℕ → Type 0) (n : ℕ) (base : List ℕ) (old new : View) → new.seen ≡ old.seen
-    → new.trace ≡ old.trace → ReadsHistory good n base old → ReadsHistory good n base new
-still_reads good n base old new seen trace r = record {
-  history = r.history;
-  legal = r.legal;
-  begins = subst (λ (l : List Entry). IsPrefix l r.history) (sym seen) r.begins;
+same_attempts : (old new : View) → SameReads old new → items_of_attempts (number new) new.call (knew_of new.seats new.seen) 0 new.abandoned
+    ≡ items_of_attempts (number old) old.call (knew_of old.seats old.seen) 0 old.abandoned
+same_attempts old new s =
+    ap (λ (l : List ℕ). items_of_attempts (slice_index l 0) new.call (knew_of new.seats new.seen) 0 new.abandoned) s.who
+    ∙ (ap (λ (c : ℕ). items_of_attempts (number old) c (knew_of new.seats new.seen) 0 new.abandoned) s.call
+    ∙ (ap (λ (m : ℕ). items_of_attempts (number old) old.call (knew_of m new.seen) 0 new.abandoned) s.seats
+    ∙ (ap (λ (l : List Entry). items_of_attempts (number old) old.call (knew_of old.seats l) 0 new.abandoned) s.seen
+    ∙ ap (λ (l : List Abandoned). items_of_attempts (number old) old.call (knew_of old.seats old.seen) 0 l) s.abandoned)))
+
+-- a view that has seen the same and whose attempts did the same
+pub still_reads : (good : List ℕ → Type 0) (n : ℕ) (base : List ℕ) (old new : View) → SameReads old new
+    → ReadsArranged good n base old → ReadsArranged good n base new
+still_reads good n base old new same r = record {
+  items = r.items;
+  seen = λ e i. r.seen e (subst (λ (l : List Entry). IsIn e l) same.seen i);
+  attempts = λ x i. r.attempts x (subst (λ (l : List Item). IsIn x l) (same_attempts old new same) i);
+  order = r.order;
+  arranged = r.arranged;
+  placed = r.placed;
   left_good = r.left_good;
-  fits = subst (λ (t : Trace). IsLegalTrace t (replay base r.history)) (sym trace) r.fits;
+  fits = λ order a. subst (λ (t : Trace). IsLegalTrace t (replay_items base order)) (sym same.trace) (r.fits order a);
 }
 
 none_within : (n : ℕ) → All (λ (note : ℕ × ℕ). note.0 < n) []
@@ -106,8 +108,8 @@ none_granted v notes none = subst (λ (l : Notes). All (λ (note : ℕ × ℕ). 
 
 -- a call was begun, and has done nothing yet
 pub begins_sound : {S : Type 0} (word_count : S → ℕ) (good : S → List ℕ → Type 0) (desk : DeskView S) (old : View) (began new : PassView) (log : Room)
-    → began ≡ new → new.table ≡ desk.table → length old.base ≡ word_count desk.shape → new.view ≡ (begin_call_action (number old) old).view [] 0
-    → log.list ≡ [] → UNDO_ROOM ≤ log.spare → ReadsHistory (IsGood (word_count desk.shape) (good desk.shape)) desk.seats desk.base new.view
+    → began ≡ new → new.table ≡ desk.table → length old.base ≡ word_count desk.shape → new.view ≡ (begin_call_action (number old) old).view 0
+    → log.list ≡ [] → UNDO_ROOM ≤ log.spare → ReadsArranged (IsGood (word_count desk.shape) (good desk.shape)) desk.seats desk.base new.view
     → IsSoundAttempt word_count good desk began new log None
 begins_sound word_count good desk old began new log same table words step empty room fits = record {
   table = table;
@@ -117,7 +119,7 @@ begins_sound word_count good desk old began new log same table words step empty 
     call = refl;
     floor = refl;
     stamp = λ h. refl;
-    seen = gains_none (number new.view) new.view.seen;
+    seen = refl;
   });
   stands = record { phase = ap (λ (v : View). v.phase) step; abandoned = ap (λ (p : PassView). p.view.abandoned) (sym same) };
   judged = ap (λ (v : View). v.met) step;
@@ -132,84 +134,83 @@ begins_sound word_count good desk old began new log same table words step empty 
   footprint = asked_none new.view (ap (λ (v : View). v.asked) step);
 }
 
-pub ends_holding_nothing : (j : ℕ) (old new : View) → HoldsNothing old → new ≡ (clear_stamp_action j old).view [] 0 → HoldsNothing new
+pub ends_holding_nothing : (j : ℕ) (old new : View) → HoldsNothing old → new ≡ (clear_stamp_action j old).view 0 → HoldsNothing new
 ends_holding_nothing j old new nothing clear =
     subst (λ (v : View). HoldsNothing v) (sym clear) (record { no_bit = nothing.no_bit; no_claim = nothing.no_claim })
 
 -- a call ended without an entry: its locks were released, and it is over
-pub ends_without : {S : Type 0} (word_count : S → ℕ) (good : S → List ℕ → Type 0) (desk : DeskView S) (j found : ℕ)
-    (old began given_up released new : View) → began ≡ (begin_call_action (number old) old).view [] 0
-    → GainsOthers (number began) began.seen given_up.seen × (given_up.floor ≡ began.floor)
+pub ends_without : {S : Type 0} (word_count : S → ℕ) (good : S → List ℕ → Type 0) (desk : DeskView S) (j : ℕ)
+    (old began given_up released new : View) → began ≡ (begin_call_action (number old) old).view 0
+    → (given_up.seen ≡ began.seen) × (given_up.floor ≡ began.floor)
     × (is_attempt given_up.phase ≡ true) × LeavesFootprint given_up
-    × ReadsHistory (IsGood (word_count desk.shape) (good desk.shape)) desk.seats desk.base given_up
+    × ReadsArranged (IsGood (word_count desk.shape) (good desk.shape)) desk.seats desk.base given_up
     → given_up.call ≡ old.call + 1 → Releases given_up released
-    → HoldsNothing released → AreRestartsBounded desk.seats (number released) released → new ≡ (clear_stamp_action j released).view [] 0
-    → TakenIn (DeskHolds word_count good desk) (clear_stamp_action j released) released found new
+    → HoldsNothing released → AreRestartsBounded desk.seats (number released) released → new ≡ (clear_stamp_action j released).view 0
     → EndsWithoutEntry (IsGood (word_count desk.shape) (good desk.shape)) desk.seats desk.base old new
-ends_without word_count good desk j found old began given_up released new begin up call rel nothing bounded clear taken = record {
-  seen = subst (λ (l : List Entry). GainsOthers (number old) old.seen l) (sym (ap (λ (v : View). v.seen) clear ∙ ap (λ (v : View). v.seen) rel.rest))
-      (subst (λ (v : View). GainsOthers (number v) v.seen given_up.seen) begin up.0);
+ends_without word_count good desk j old began given_up released new begin up call rel nothing bounded clear = record {
+  seen = ap (λ (v : View). v.seen) clear ∙ (ap (λ (v : View). v.seen) rel.rest ∙ (up.0 ∙ ap (λ (v : View). v.seen) begin));
   call = ap (λ (v : View). v.call) clear ∙ (ap (λ (v : View). v.call) rel.rest ∙ call);
   floor = ap (λ (v : View). v.floor) clear ∙ (ap (λ (v : View). v.floor) rel.rest ∙ (up.1 ∙ ap (λ (v : View). v.floor) begin));
   nothing = ends_holding_nothing j released new nothing clear;
   bounded = ends_bounded desk.seats j released new bounded clear;
-  opaque =
-      let one = one_state word_count good desk (clear_stamp_action j released) released found new taken
-      (still_begun given_up released rel (attempt_begun given_up.phase up.2)) in
-      subst (λ (v : View). ReadOneState (IsGood (word_count desk.shape) (good desk.shape)) desk.seats desk.base v) (sym clear)
-      (record { history = one.history; legal = one.legal; begins = one.begins; stamp = one.stamp; attempts = one.attempts });
+  opaque = still_reads (IsGood (word_count desk.shape) (good desk.shape)) desk.seats desk.base given_up new (record {
+    who = ap (λ (v : View). v.who) clear ∙ ap (λ (v : View). v.who) rel.rest;
+    call = ap (λ (v : View). v.call) clear ∙ ap (λ (v : View). v.call) rel.rest;
+    seats = ap (λ (v : View). v.seats) clear ∙ ap (λ (v : View). v.seats) rel.rest;
+    seen = ap (λ (v : View). v.seen) clear ∙ ap (λ (v : View). v.seen) rel.rest;
+    abandoned = ap (λ (v : View). v.abandoned) clear ∙ ap (λ (v : View). v.abandoned) rel.rest;
+    trace = ap (λ (v : View). v.trace) clear ∙ ap (λ (v : View). v.trace) rel.rest;
+  }) up.4;
   footprint =
       footprint_same given_up new (ap (λ (v : View). v.trace) clear ∙ ap (λ (v : View). v.trace) rel.rest)
       (ap (λ (v : View). v.abandoned) clear ∙ ap (λ (v : View). v.abandoned) rel.rest)
       (ap (λ (v : View). v.meetings) clear ∙ ap (λ (v : View). v.meetings) rel.rest) (ap (λ (v : View). v.asked) clear
       ∙ ap (λ (v : View). v.asked) rel.rest) up.3;
-  last =
-      still_reads (IsGood (word_count desk.shape) (good desk.shape)) desk.seats desk.base given_up new
-      (ap (λ (v : View). v.seen) clear ∙ ap (λ (v : View). v.seen) rel.rest)
-      (ap (λ (v : View). v.trace) clear ∙ ap (λ (v : View). v.trace) rel.rest) up.4;
 }
 
 -- a call that has its entry was over, once its locks were released
 pub ends_with_footprint : (j : ℕ) (committed released new : View) → Releases committed released
-    → new ≡ (clear_stamp_action j released).view [] 0 → AsksItsFootprint committed → AsksItsFootprint new
+    → new ≡ (clear_stamp_action j released).view 0 → AsksItsFootprint committed → AsksItsFootprint new
 ends_with_footprint j committed released new rel clear = still_its_footprint committed new
     (ap (λ (v : View). v.seen) clear ∙ ap (λ (v : View). v.seen) rel.rest) (ap (λ (v : View). v.asked) clear ∙ ap (λ (v : View). v.asked) rel.rest)
     (ap (λ (v : View). v.meetings) clear ∙ ap (λ (v : View). v.meetings) rel.rest)
 
 -- an attempt was committed
-pub gets_entry : {A : Type 0} (word_count : ℕ) (good words : List ℕ → Type 0) (base : List ℕ) (means : List ℕ → Bool → A
+pub gets_entry : {A : Type 0} (word_count : ℕ) (good words : List ℕ → Type 0) (means : List ℕ → Bool → A
     → List ℕ → Type 0) (kept : Bool) (call : ℕ) (first old new : View) (receipt : Receipt A)
     → StaysInCall first old → first.floor ≡ length first.seen → first.call ≡ call
-    → CommitsAt word_count good base kept old new receipt.serial → receipt.call ≡ call → length old.abandoned ≡ receipt.restarts
+    → new ≡ after_commit kept old → receipt.call ≡ call → length old.abandoned ≡ receipt.restarts
     → ListsUses (uses_of kept old.trace old.uses) receipt.uses.items
     → ((s : List ℕ) → Fits word_count good old.trace s → means s kept receipt.answer (after old.trace s))
     → ((s : List ℕ) → words s → IsGood word_count good s)
-    → GetsEntry words base means (number first) call first.seen new.seen receipt
-gets_entry word_count good words base means kept call first old new receipt same floor number_is commits call_is restarts uses meaning is_good =
-    let who : number old ≡ number first = ap (λ (l : List ℕ). slice_index l 0) same.seat.who in
-    let more = gains_history (number old) old.seen commits.history commits.begins commits.others in
-    let all = gains_more (number first) first.seen old.seen commits.history same.seen (subst (λ (j : ℕ). GainsOthers j old.seen commits.history) who more) in
-    let seen : new.seen ≡ commits.history ++ entry_of kept old ∷ [] = ap (λ (v : View). v.seen) commits.view in record {
-      others = all.others;
-      entry = entry_of kept old;
-      seen = seen ∙ ap (λ (h : List Entry). h ++ entry_of kept old ∷ []) all.seen;
-      by_others = all.by_others;
-      made_by = who;
-      call_is = (same.call ∙ number_is, call_is);
-      floor_is = same.floor ∙ floor;
-      serial_is = commits.place_is ∙ sym (ap (λ (h : List Entry). length h) seen ∙ length-append commits.history (entry_of kept old ∷ []));
-      restarts_are = sym restarts;
-      uses_are = uses;
-      meaning = subst (λ (h : List Entry). means (replay base h) kept receipt.answer (after old.trace (replay base h)))
-          all.seen (meaning (replay base commits.history) commits.fits);
-      anywhere = λ s at legal. let begun = is_good s at in
-          meaning s (record { count = begun.count; good = begun.good; legal = legal });
-    }
+    → GetsEntry words means (number first) call first.seen new.seen receipt
+gets_entry word_count good words means kept call first old new receipt same floor number_is commits call_is restarts uses meaning is_good = record {
+  entry = entry_of kept old;
+  seen = ap (λ (v : View). v.seen) commits ∙ ap (λ (h : List Entry). h ++ entry_of kept old ∷ []) same.seen;
+  made_by = ap (λ (l : List ℕ). slice_index l 0) same.seat.who;
+  call_is = (same.call ∙ number_is, call_is);
+  floor_is = same.floor ∙ floor;
+  restarts_are = sym restarts;
+  uses_are = uses;
+  meaning = λ s at legal. let begun = is_good s at in meaning s (record { count = begun.count; good = begun.good; legal = legal });
+}
+
+-- what an attempt did means something on the words that fit it
+pub is_meant : {A : Type 0} (word_count : ℕ) (good words : List ℕ → Type 0) (means : List ℕ → Bool → A → List ℕ → Type 0)
+    (kept : Bool) (trace : Trace) (answer : A) → SomeFits word_count good trace
+    → ((s : List ℕ) → Fits word_count good trace s → means s kept answer (after trace s))
+    → ((s : List ℕ) → IsGood word_count good s → words s) → IsMeant words means answer
+is_meant word_count good words means kept trace answer some meaning is_good = record {
+  found = some.0;
+  kept = kept;
+  left = after trace some.0;
+  good_words = is_good some.0 (record { count = some.1.count; good = some.1.good });
+  meaning = meaning some.0 some.1;
+}
 
 -- an attempt was undone
-pub undone_others : (first old new : View) → StaysInCall first old → Undoes old new → GainsOthers (number first) first.seen new.seen
-undone_others first old new same undone =
-    subst (λ (l : List Entry). GainsOthers (number first) first.seen l) (sym (ap (λ (v : View). v.seen) undone.some.rest)) same.seen
+pub undone_seen : (first old new : View) → StaysInCall first old → Undoes old new → new.seen ≡ first.seen
+undone_seen first old new same undone = ap (λ (v : View). v.seen) undone.some.rest ∙ same.seen
 
 -- an attempt gave way, and the call makes another
 pub one_more : (n m : ℕ) (cause : Cause) (first began old new : View) → began ≡ first → length first.abandoned ≡ m

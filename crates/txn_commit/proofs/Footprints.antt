@@ -1,5 +1,5 @@
 -- Which words a call asked for: those that its attempts touch, and those at which one of them gave way.
-use Rattle.std.proofs.Common.{◌≡◌, ℕ, ◌+◌, Bool, true, ◌⊎◌, inl, inr, ⊎_elim, List, [], ◌∷◌, ◌++◌, length, sym, ap, ◌∙◌, subst}
+use Rattle.std.proofs.Common.{◌≡◌, ℕ, suc, ◌+◌, Bool, true, ◌⊎◌, inl, inr, ⊎_elim, List, [], ◌∷◌, ◌++◌, length, slice_get, sym, ap, ◌∙◌, subst, arith}
 use Rattle.std.proofs.lemmas.List.{append_assoc}
 use Rattle.history_model.specs.declared.entry.Abandoned.{Abandoned}
 use Rattle.history_model.specs.declared.entry.Entry.{Entry}
@@ -18,7 +18,15 @@ use Rattle.values_rule.proofs.Members.{in_first}
 use Rattle.lock_or_yield.specs.Asking.{Asks, MeetsAndYields, WentOn}
 use Rattle.txn_commit.specs.Attempts.{GaveWayTo}
 use Rattle.txn_commit.specs.Transactions.{IsFootprint, LeavesFootprint, AsksItsFootprint}
-use Rattle.txn_commit.proofs.Others.{get_second}
+
+-- what stands at a place of the second part
+get_second : {A : Type 0} (xs ys : List A) (i : ℕ) → slice_get (xs ++ ys) (length xs + i) ≡ slice_get ys i
+get_second [] ys i = ap (λ (k : ℕ). slice_get ys k) (none i) where
+  none : (i : ℕ) → 0 + i ≡ i
+  none i = omega arith
+get_second (x ∷ xs) ys i = ap (λ (k : ℕ). slice_get (x ∷ (xs ++ ys)) k) (later (length xs) i) ∙ get_second xs ys i where
+  later : (n i : ℕ) → suc n + i ≡ suc (n + i)
+  later n i = omega arith
 
 -- what stands at the end of a list
 last_in : {A : Type 0} (xs : List A) (x : A) → IsIn x (xs ++ x ∷ [])
@@ -112,10 +120,10 @@ footprint_restarts n cause began old new gave abandoned meetings asked =
     (λ a t. inr (subst (λ (l : List ℕ). has a l ≡ true) asked t))
 
 -- the meeting at which an attempt gave way is the last
-pub met_cause : (good : List ℕ → Type 0) (n : ℕ) (base : List ℕ) (k : ℕ) (waited : List (ℕ × ℕ)) (cause : Cause) (old new : View)
-    → MeetsAndYields good n base (waited ++ (k, cause.seat) ∷ []) cause old new → has_pair k cause.seat new.meetings ≡ true
-met_cause good n base k waited cause old new g = subst (λ (l : List (ℕ × ℕ)). has_pair k cause.seat l ≡ true)
-    (append_assoc old.meetings waited ((k, cause.seat) ∷ []) ∙ ap (λ (v : View). v.meetings) (sym g.gave_way.view))
+pub met_cause : (k : ℕ) (waited : List (ℕ × ℕ)) (cause : Cause) (old new : View)
+    → MeetsAndYields (waited ++ (k, cause.seat) ∷ []) cause old new → has_pair k cause.seat new.meetings ≡ true
+met_cause k waited cause old new g = subst (λ (l : List (ℕ × ℕ)). has_pair k cause.seat l ≡ true)
+    (append_assoc old.meetings waited ((k, cause.seat) ∷ []) ∙ ap (λ (v : View). v.meetings) (sym g.gave_way))
     (pair-append_last k cause.seat (old.meetings ++ waited))
 
 -- the attempt was committed

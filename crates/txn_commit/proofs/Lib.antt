@@ -1,5 +1,3 @@
--- entries that others made
-pub mod Others
 -- giving up locks and undoing writes
 pub mod Releasing
 -- the uses of an attempt, listed by rising lock
@@ -10,8 +8,6 @@ pub mod Footprints
 pub mod Attempts
 -- what asking for a lock comes to, and a load after it leaves
 pub mod Asking
--- what a job's answer means, by the entry that its call has
-pub mod Meaning
 -- an attempt is settled: its writes are kept or undone, what it used is listed, and it gets its entry, or is given up
 pub mod Settling
 -- how a transaction begins and ends

@@ -80,20 +80,20 @@ releases_more old mid new f s = record {
 }
 
 -- a step that gives up a claim, once what was owed was paid
-pub claim_given_up : (v new : View) (j k : ℕ) → new ≡ (release_writer_action j k (paid k v)).view [] 0 → Releases v new
+pub claim_given_up : (v new : View) (j k : ℕ) → new ≡ (release_writer_action j k (paid k v)).view 0 → Releases v new
 claim_given_up v new j k e = subst (λ (w : View). Releases v w) (sym e) (record { rest = refl; phase = inr refl })
 
-pub claims_without : (v new : View) (j k l : ℕ) → new ≡ (release_writer_action j k (paid k v)).view [] 0 → HasClaim new l → HasClaim v l
+pub claims_without : (v new : View) (j k l : ℕ) → new ≡ (release_writer_action j k (paid k v)).view 0 → HasClaim new l → HasClaim v l
 claims_without v new j k l e h = (has-without l k v.claims (subst (λ (w : View). HasClaim w l) e h)).1
 
 -- a step that clears a bit
-pub bit_cleared : (v new : View) (j k : ℕ) → new ≡ (clear_read_bit_action j k v).view [] 0 → Releases v new
+pub bit_cleared : (v new : View) (j k : ℕ) → new ≡ (clear_read_bit_action j k v).view 0 → Releases v new
 bit_cleared v new j k e = subst (λ (w : View). Releases v w) (sym e) (record { rest = refl; phase = inr refl })
 
-pub claims_stay : (v new : View) (j k : ℕ) → new ≡ (clear_read_bit_action j k v).view [] 0 → new.claims ≡ v.claims
+pub claims_stay : (v new : View) (j k : ℕ) → new ≡ (clear_read_bit_action j k v).view 0 → new.claims ≡ v.claims
 claims_stay v new j k e = ap (λ (w : View). w.claims) e
 
-pub bits_without : (v new : View) (j k l : ℕ) → new ≡ (clear_read_bit_action j k v).view [] 0 → HasBit new l → HasBit v l
+pub bits_without : (v new : View) (j k l : ℕ) → new ≡ (clear_read_bit_action j k v).view 0 → HasBit new l → HasBit v l
 bits_without v new j k l e h = (has-without l k v.bits (subst (λ (w : View). HasBit w l) e h)).1
 
 -- what was undone stays so, or the call has ended

@@ -1,40 +1,19 @@
 -- An attempt is settled: its writes are kept or undone, what it used is listed, and it gets its entry, or is given up.
-use Rattle.std.proofs.Common.{◌≡◌, ◌≢◌, ℕ, ◌<◌, ◌≤◌, Bool, true, false, ◌&&◌, ◌⊎◌, inl, inr, ⊎_elim, List, [], ◌∷◌, ◌++◌, length, Some, slice_get, All, refl, sym, ap, ◌∙◌, subst, arith}
-use Rattle.history_model.specs.declared.entry.Entry.{Entry}
+use Rattle.std.proofs.Common.{◌≡◌, ℕ, ◌<◌, Bool, true, false, ◌⊎◌, inl, inr, ⊎_elim, List, [], All, refl, sym, ap, ◌∙◌, subst, arith}
 use Rattle.history_model.specs.declared.item.LockUse.{LockUse}
 use Rattle.history_model.specs.declared.view.View.{View}
 use Rattle.history_model.specs.declared.view.Phase.{Phase}
 use Rattle.history_model.specs.declared.view.Phase.TheVariants.{Idle, Running, Yielding, Withdrawing, Releasing}
 use Rattle.history_model.specs.Counts.{is_attempt, is_open}
-use Rattle.history_model.specs.Fitting.{Fits}
-use Rattle.history_model.specs.Histories.{replay}
-use Rattle.history_model.specs.Legal.{IsPrefix}
 use Rattle.history_model.specs.Sets.{has}
-use Rattle.history_model.specs.Traces.{Trace}
 use Rattle.history_model.specs.Undoing.{Notes, notes_of}
-use Rattle.history_model.specs.Views.{number}
 use Rattle.history_model.proofs.SetLemmas.{has-nil}
-use Rattle.locks_rule.specs.Versions.{writes_lock, uses_of, locks_of}
-use Rattle.values_rule.specs.Steps.{entry_of, undoing_phase}
-use Rattle.word_table.specs.Calls.{CommitsAt}
+use Rattle.locks_rule.specs.Versions.{uses_of, locks_of}
+use Rattle.values_rule.specs.Steps.{undoing_phase}
 use Rattle.txn_commit.specs.Uses.{ListsUses}
-use Rattle.txn_commit.specs.Inner.Listing.{AreUsesOf}
+use Rattle.word_table.specs.Uses.{AreUsesOf}
 use Rattle.txn_commit.specs.Inner.Releasing.{UndoesSome, Undoes, UndoesUnless}
 use Rattle.txn_commit.proofs.Listing.{entry_listed, notes_written}
-
--- what the commit of an attempt that was undone first says of the attempt before
-pub commits_since : (word_count : ℕ) (good : List ℕ → Type 0) (base : List ℕ) (kept : Bool) (old mid new : View) (place : ℕ)
-    → UndoesUnless kept old mid → CommitsAt word_count good base kept mid new place → CommitsAt word_count good base kept old new place
-commits_since word_count good base true old mid new place u c = subst (λ (v : View). CommitsAt word_count good base true v new place) (u.stays refl) c
-commits_since word_count good base false old mid new place u c = let rest = (u.undone refl).some.rest in record {
-  history = c.history;
-  view = c.view ∙ ap (λ (v : View). record v { seen = c.history ++ entry_of false v ∷ []; owed = []; undo = []; phase = Releasing }) rest;
-  place_is = c.place_is;
-  begins = subst (λ (l : List Entry). IsPrefix l c.history) (ap (λ (v : View). v.seen) rest) c.begins;
-  others = λ q e le at same. c.others q e (subst (λ (l : List Entry). length l ≤ q) (sym (ap (λ (v : View). v.seen) rest)) le) at
-      (same ∙ sym (ap (λ (v : View). number v) rest));
-  fits = subst (λ (t : Trace). Fits word_count good t (replay base c.history)) (ap (λ (v : View). v.trace) rest) c.fits;
-}
 
 -- what was listed between is what the entry has
 pub lists_since : (kept : Bool) (old mid : View) (listed : List LockUse) → UndoesUnless kept old mid → AreUsesOf mid listed

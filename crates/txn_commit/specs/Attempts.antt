@@ -13,14 +13,14 @@ use Rattle.stamps_rule.specs.Stamps.{AreRestartsBounded}
 use Rattle.txn_words.specs.declared.words.Stop.{Stop}
 use Rattle.txn_words.specs.declared.words.Stop.TheVariants as stop
 use Rattle.undo_log.specs.Room.{Room}
-use Rattle.word_table.specs.Calls.{ReadsHistory}
+use Rattle.word_table.specs.Calls.{ReadsArranged}
 use Rattle.word_table.specs.Copies.{PassView}
 use Rattle.word_table.specs.Desks.{DeskView}
 use Rattle.txn_commit.specs.declared.attempt.Halt.{Halt}
 use Rattle.txn_commit.specs.declared.attempt.Halt.TheVariants as halt
 use Rattle.txn_commit.specs.declared.attempt.Start.{Start}
 use Rattle.txn_commit.specs.declared.attempt.TheConstants.{UNDO_ROOM}
-use Rattle.txn_commit.specs.Transactions.{GainsOthers, LeavesFootprint, SameSeat}
+use Rattle.txn_commit.specs.Transactions.{LeavesFootprint, SameSeat}
 
 -- the stop that the job is answered
 abbrev pub stop_of : Option Halt → Option Stop
@@ -32,13 +32,13 @@ stop_of (Some halt.Memory) = Some stop.Memory
 abbrev pub start_of : {S : Type 0} → DeskView S → ℕ → PassView → Start S
 start_of desk name began = record { desk = desk; name = name; pass = began }
 
--- the call is the same, and has the timestamp that it had, if it had one; the pass saw more entries of others alone
+-- the call is the same, and has the timestamp that it had, if it had one; what the pass has seen stays
 pub record StaysInCall (began now : View) : Type 0 where
   pub seat : SameSeat began now
   pub call : now.call ≡ began.call
   pub floor : now.floor ≡ began.floor
   pub stamp : 0 < began.stamp → now.stamp ≡ began.stamp
-  pub seen : GainsOthers (number began) began.seen now.seen
+  pub seen : now.seen ≡ began.seen
 
 -- the attempt reads and writes
 pub record Runs (began now : View) : Type 0 where
@@ -84,5 +84,5 @@ pub record IsSoundAttempt {S : Type 0} (word_count : S → ℕ) (good : S → Li
   pub memory : halted ≡ Some halt.Memory → UNDO_ROOM ≤ length log.list
   pub fits : SomeFits (word_count desk.shape) (good desk.shape) pass.view.trace
   pub footprint : LeavesFootprint pass.view
-  -- until it gives way, what it did is legal on what the committed history leaves
-  pub current : pass.view.phase ≡ Running → ReadsHistory (IsGood (word_count desk.shape) (good desk.shape)) desk.seats desk.base pass.view
+  -- until it gives way, what it did is legal behind all that was done
+  pub current : pass.view.phase ≡ Running → ReadsArranged (IsGood (word_count desk.shape) (good desk.shape)) desk.seats desk.base pass.view

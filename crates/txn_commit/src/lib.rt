@@ -1,5 +1,4 @@
-//! Transactions on the shared table: a job is run until an attempt of it need not give way, and then gets its place in
-//! the committed history.
+//! Transactions on the shared table: a job is run until an attempt of it need not give way, and then gets its entry.
 //!
 //! Strict two-phase locking with in-place writes and an undo log, after 2PLSF (Ramalhete, Correia, Felber, PPoPP 2023).
 //! `GetsEntry` in `specs/Transactions` says what a transaction comes to.
@@ -10,7 +9,6 @@ pub mod laws;
 pub mod release;
 pub mod rollback;
 pub mod transaction;
-mod uses;
 
 pub use attempt::{Attempt, Halt, Start, UNDO_ROOM};
 pub use transaction::{Receipt, transact};

@@ -8,19 +8,19 @@ ghost use Rattle.history_model.specs.Views.{number};
 ghost use Rattle.locks_rule.specs.Versions.{uses_of};
 ghost use Rattle.stamps_rule.specs.Causes.{newest, past_causes};
 ghost use Rattle.txn_words.specs.Verdicts.{is_kept, answer_of};
-ghost use Rattle.word_table.specs.Calls.{CommitsAt, ReadsHistory};
+ghost use Rattle.values_rule.specs.Steps.{after_commit};
+ghost use Rattle.word_table.specs.Calls.{ReadsArranged};
 ghost use Rattle.word_table.specs.Copies.{HoldsNothing};
 ghost use Rattle.word_table.specs.declared.limits.TheConstants.{LAST_CALL};
 ghost use Rattle.txn_commit.specs.Uses.{ListsUses};
 ghost use Rattle.txn_commit.specs.Inner.Releasing.{Undoes};
 ghost use Rattle.txn_commit.specs.Attempts.{IsSoundAttempt, StaysInCall, stop_of};
-ghost use Rattle.txn_commit.specs.Transactions.{AsksItsFootprint, EndsWithoutEntry, GainsOthers, GetsEntry, IsMeant, LeavesFootprint, SameSeat};
-ghost use Rattle.word_table.specs.Desks.{AreGoodWords, IsLegalFor};
+ghost use Rattle.txn_commit.specs.Transactions.{AsksItsFootprint, EndsWithoutEntry, GetsEntry, IsMeant, LeavesFootprint, SameSeat};
+ghost use Rattle.word_table.specs.Desks.{AreGoodWords};
 
 use crate::attempt::{Attempt, Caller, Halt, UNDO_ROOM, tell};
 use crate::release::release_all;
 use crate::rollback::{undo_all, undo_unless};
-use crate::uses::list_uses;
 use crossbeam_utils::Backoff;
 use history_model::{Cause, LockUse, Phase, Shape};
 use io_ends::OutOfMemory;
@@ -35,8 +35,6 @@ use worker_gate::{Gate, Stage};
 /// What a transaction came to.
 #[derive(Debug, PartialEq, Eq, Drop)]
 pub struct Receipt<A> {
-    /// The place of the call's entry in the history, from 1.
-    pub serial: u64,
     /// Which of its seat's calls it is, from 1.
     pub call: u32,
     /// How many attempts gave way before the one that was committed.
@@ -63,7 +61,7 @@ fn wait_out<R: Wait, S: Shape>(rt: &R, desk: &Desk<S>, pass: &mut Pass<S>, cause
       uses = [];
       waits = pass.new.view.waits;
     } }
-    ensures fits { ReadsHistory (AreGoodWords S.Shape desk.now)
+    ensures fits { ReadsArranged (AreGoodWords S.Shape desk.now)
         desk.now.seats desk.now.base pass.new.view }
 {
     let backoff = Backoff::new();
@@ -117,13 +115,13 @@ fn give_way<S: Shape, G: Gate, R: Wait>(attempt: &mut Attempt<S, G, R>, cause: C
     attempt.began = Snapshot::of(&*attempt.pass);
 }
 
-// Settles the attempt: its writes are kept or else undone, what it used is listed, and it is committed. It gives the place
-// of its entry, and the list. Where there is no memory for the list, all is undone, and there is no entry.
+// Settles the attempt: its writes are kept or else undone, what it used is listed, and it is committed. It gives the list.
+// Where there is no memory for that, all is undone, and there is no entry.
 fn settle<S: Shape, G: Gate, R: Wait>(
     alloc: Global,
     attempt: &mut Attempt<S, G, R>,
     kept: bool,
-) -> Result<(u64, Vec<LockUse>), OutOfMemory>
+) -> Result<Vec<LockUse>, OutOfMemory>
     requires sound { IsSoundAttempt S.word_count S.good attempt.old.desk.now attempt.old.began.value
         attempt.old.pass.now attempt.old.undo attempt.old.halt }
     requires going { attempt.old.halt ≡ None }
@@ -133,28 +131,25 @@ fn settle<S: Shape, G: Gate, R: Wait>(
         → S.good attempt.old.desk.now.shape (after attempt.old.pass.now.view.trace s) }
     ensures name { attempt.new.pass.ghost_name ≡ attempt.old.pass.ghost_name }
     ensures desk { attempt.new.pass.now.table ≡ attempt.old.desk.now.table }
-    ensures entry { IfOk result (λ done. CommitsAt (S.word_count attempt.old.desk.now.shape)
-        (S.good attempt.old.desk.now.shape) attempt.old.desk.now.base kept
-        attempt.old.pass.now.view attempt.new.pass.now.view done.0) }
-    ensures uses { IfOk result (λ done. ListsUses
+    ensures entry { OnOk result
+        (attempt.new.pass.now.view ≡ after_commit kept attempt.old.pass.now.view) }
+    ensures uses { IfOk result (λ uses. ListsUses
         (uses_of kept attempt.old.pass.now.view.trace attempt.old.pass.now.view.uses)
-        done.1.items) }
-    ensures legal { OnOk result
-        (IsLegalFor S.Shape attempt.old.desk.now attempt.new.pass.now.view.seen) }
+        uses.items) }
     ensures few { OnOk result
         (length attempt.old.pass.now.view.abandoned < attempt.old.desk.now.seats) }
     ensures undone { OnErr result
         (Undoes attempt.old.pass.now.view attempt.new.pass.now.view) }
 {
     undo_unless(attempt.desk, attempt.pass, &mut attempt.undo, kept);
-    let Ok(uses) = list_uses(alloc, attempt.pass) else {
+    let Ok(uses) = attempt.pass.uses(alloc) else {
         undo_all(attempt.desk, attempt.pass, &mut attempt.undo);
         return Err(OutOfMemory);
     };
     tell(attempt, Stage::BeforeCommit);
-    let serial = attempt.desk.commit(attempt.pass, kept);
+    attempt.desk.commit(attempt.pass, kept);
     tell(attempt, Stage::AfterCommit);
-    Ok((serial, uses))
+    Ok(uses)
 }
 
 // Makes attempts until one need not give way, and commits what the job decided in it. Each attempt that gives way has
@@ -183,22 +178,21 @@ where
     ensures call { attempt.new.pass.now.view.call ≡ call }
     ensures undone { attempt.new.pass.now.view.undo ≡ [] }
     ensures entry { IfOk result (λ receipt. GetsEntry
-        (AreGoodWords S.Shape attempt.old.desk.now)
-        attempt.old.desk.now.base (J.means job.now)
+        (AreGoodWords S.Shape attempt.old.desk.now) (J.means job.now)
         (number attempt.old.pass.now.view) call
         attempt.old.pass.now.view.seen attempt.new.pass.now.view.seen receipt) }
-    ensures legal { OnOk result
-        (IsLegalFor S.Shape attempt.old.desk.now attempt.new.pass.now.view.seen) }
+    ensures meant { IfOk result (λ receipt. IsMeant
+        (AreGoodWords S.Shape attempt.old.desk.now) (J.means job.now) receipt.answer) }
     ensures few { IfOk result (λ receipt. receipt.restarts < attempt.old.desk.now.seats) }
     ensures committed { OnOk result (attempt.new.pass.now.view.phase ≡ Phase.Releasing) }
-    ensures others { OnErr result (GainsOthers (number attempt.old.pass.now.view)
-        attempt.old.pass.now.view.seen attempt.new.pass.now.view.seen) }
+    ensures seen { OnErr result
+        (attempt.new.pass.now.view.seen ≡ attempt.old.pass.now.view.seen) }
     ensures floor { OnErr result
         (attempt.new.pass.now.view.floor ≡ attempt.old.pass.now.view.floor) }
     ensures given_up { OnErr result (is_attempt attempt.new.pass.now.view.phase ≡ true) }
     ensures footprint { OnOk result (AsksItsFootprint attempt.new.pass.now.view) }
     ensures left { OnErr result (LeavesFootprint attempt.new.pass.now.view) }
-    ensures last { OnErr result (ReadsHistory
+    ensures last { OnErr result (ReadsArranged
         (AreGoodWords S.Shape attempt.old.desk.now)
         attempt.old.desk.now.seats attempt.old.desk.now.base attempt.new.pass.now.view) }
 {
@@ -207,11 +201,10 @@ where
         match job.run(attempt) {
             Ok(verdict) => {
                 let (kept, answer) = decision(verdict);
-                let Ok((serial, uses)) = settle(alloc, attempt, kept) else {
+                let Ok(uses) = settle(alloc, attempt, kept) else {
                     return Err(OutOfMemory);
                 };
                 return Ok(Receipt {
-                    serial,
                     call,
                     restarts,
                     uses,
@@ -275,13 +268,12 @@ where
     ensures nothing { HoldsNothing pass.new.view }
     ensures call { OnOk result (pass.new.view.call ≡ pass.old.view.call + 1) }
     ensures entry { IfOk result (λ receipt. GetsEntry
-        (AreGoodWords S.Shape desk.now) desk.now.base (J.means job.now)
+        (AreGoodWords S.Shape desk.now) (J.means job.now)
         (number pass.old.view) (pass.old.view.call + 1)
         pass.old.view.seen pass.new.view.seen receipt) }
     ensures meant { IfOk result (λ receipt. IsMeant
         (AreGoodWords S.Shape desk.now)
         (J.means job.now) receipt.answer) }
-    ensures legal { OnOk result (IsLegalFor S.Shape desk.now pass.new.view.seen) }
     ensures few { IfOk result (λ receipt. receipt.restarts < desk.now.seats) }
     ensures footprint { OnOk result (AsksItsFootprint pass.new.view) }
     ensures err { OnErr result ((pass.new ≡ pass.old)
@@ -289,7 +281,6 @@ where
         desk.now.seats desk.now.base pass.old.view pass.new.view) }
 {
     pass.rests();
-    desk.began_good();
     let undo = UndoLog::with_room(alloc, UNDO_ROOM)?;
     let seat = pass.who();
     let call = desk.begin(pass);

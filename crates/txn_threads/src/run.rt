@@ -2,9 +2,8 @@
 
 ghost use Rattle.std.specs.Prelude.{◌≡◌, ◌≤◌, ◌<◌, ℕ, length, map, get_or, IfOk, All};
 ghost use Rattle.history_model.specs.Fitting.{IsGood};
-ghost use Rattle.history_model.specs.Histories.{replay};
-ghost use Rattle.history_model.specs.Legal.{IsLegalHistory};
 ghost use Rattle.word_table.specs.declared.limits.TheConstants.{MOST_PASSES, MOST_WORDS};
+ghost use Rattle.word_table.specs.Closing.{AreRecords, IsCoherent, IsLegalInEachOrder};
 ghost use Rattle.txn_threads.specs.Clients.{HaveWorked};
 ghost use Rattle.txn_threads.specs.Inner.Seats.{AreNew, AreParts, HasEnded, HaveServed, IsReady, IsReadyFor};
 
@@ -147,14 +146,15 @@ pub fn run_clients<C: Client, R: Threads + Wait + Sync>(
     // The table is the one that was asked for, with a pass for each client.
     ensures closed { IfOk result (λ ended. (ended.closed.base ≡ words.items)
         × (ended.closed.seats ≡ length clients.items) × (ended.closed.shape ≡ shape)) }
-    // What the words are at the end is what its history leaves of them, and is good.
-    ensures words { IfOk result (λ ended.
-        ended.closed.words ≡ replay words.items ended.closed.history) }
+    // What was committed, with the attempts that gave way, has an arrangement; in every arrangement each item stands at a
+    // legal place, and the words are what it leaves. They are good.
+    ensures coherent { IfOk result (λ ended. IsCoherent
+        (IsGood (C.Shape.word_count shape) (C.Shape.good shape)) ended.closed) }
+    ensures legal { IfOk result (λ ended. IsLegalInEachOrder
+        (IsGood (C.Shape.word_count shape) (C.Shape.good shape)) ended.closed) }
+    ensures records { IfOk result (λ ended. AreRecords ended.closed) }
     ensures good { IfOk result (λ ended.
         IsGood (C.Shape.word_count shape) (C.Shape.good shape) ended.closed.words) }
-    ensures legal { IfOk result (λ ended. IsLegalHistory
-        (IsGood (C.Shape.word_count shape) (C.Shape.good shape))
-        (length clients.items) words.items ended.closed.history) }
     // Each client did its work.
     ensures worked { IfOk result (λ ended.
         HaveWorked C.does ended.closed clients.items ended.clients.items) }

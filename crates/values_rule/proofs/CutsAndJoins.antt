@@ -1,6 +1,6 @@
--- views are cut and joined between calls
-pub mod Rearranging
--- the cut of a view in two keeps the value invariant
-pub mod Cuts
--- the join of two views keeps the value invariant
+-- what two lists of entries come to together
+pub mod Gains
+-- the join of two views keeps it
 pub mod Joins
+-- the cut of a view in two keeps it
+pub mod Cuts

@@ -1,5 +1,9 @@
-pub mod Steps
 pub mod Values
-pub mod Keeping
-pub mod Asides
 pub mod Undone
+pub mod History
+pub mod Records
+pub mod Versions
+pub mod Steps
+pub mod Keeping
+pub mod Closing
+pub mod Opening

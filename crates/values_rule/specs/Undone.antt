@@ -1,11 +1,8 @@
 -- The memory with all unfinished writes taken back.
-use Rattle.std.specs.Prelude.{◌≡◌, ℕ, List, [], ◌∷◌, drop}
+use Rattle.std.specs.Prelude.{ℕ, List, [], ◌∷◌, drop}
 use Rattle.history_model.specs.declared.view.View.{View}
-use Rattle.history_model.specs.Histories.{replay}
-use Rattle.history_model.specs.Table.{history_of, value_word}
+use Rattle.history_model.specs.Table.{value_word}
 use Rattle.history_model.specs.Undoing.{written_back}
-use Rattle.locks_rule.specs.Locks.{LocksHold}
-use Rattle.values_rule.specs.Values.{ValuesHold}
 
 -- the memory's words, as they stand in the table
 abbrev pub memory_of : ℕ → List ℕ → List ℕ
@@ -15,10 +12,3 @@ memory_of n words = drop (value_word n 0) words
 unfoldable pub undone_by : List View → List ℕ → List ℕ
 undone_by [] words = words
 undone_by (v ∷ views) words = undone_by views (written_back v.undo words)
-
--- the memory with all unfinished writes taken back is what the history leaves
-abbrev pub UndoingRestores : (List ℕ → Type 0) → Type 0
-UndoingRestores good =
-    (n : ℕ) (base words : List ℕ) (views : List View)
-    → LocksHold n base words views → ValuesHold good n base words views
-    → undone_by views (memory_of n words) ≡ replay base (history_of views)

@@ -4,5 +4,7 @@ pub mod Rows
 pub mod Passes
 -- what a pass keeps of versions, and what it is after a step
 pub mod VersionCopies
+-- the uses that a pass keeps, listed by rising lock
+pub mod Listings
 -- a pass's copy after a step
 pub mod After

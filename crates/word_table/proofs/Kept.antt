@@ -1,6 +1,6 @@
 -- the kinds of step on timestamps keep the value invariant
 pub mod ClockPairs
--- the kinds of step on calls, values and the history keep the timestamp invariant
+-- the kinds of step on calls, values and entries keep the timestamp invariant
 pub mod ValuePairs
 -- the kinds of step on versions keep the other invariants: their words are of nobody else
 pub mod VersionPairs
@@ -12,5 +12,5 @@ pub mod KeptKinds
 pub mod KeptChanges
 -- each atomic operation may be any kind of step that fits it
 pub mod Soundness
--- the counter of entries has room for one more, and so has the clock
+-- a version has room for one more, and so has the clock
 pub mod Growing

@@ -2,8 +2,6 @@
 pub mod Copied
 -- every kind of step, every cut and every join keeps what holds of a table, in its four parts
 pub mod Kept
--- what a table that is sound says of a view that a seat knows: of what was seen and read, and of the words at the end
-pub mod Known
 -- how a table begins, and a desk that a test opens
 pub mod Openings
 -- runs of a table: every state meets the rule, who meets whom, what holds of each call and of the clock

@@ -10,3 +10,5 @@ pub mod Stamped
 pub mod Drawing
 -- which words the steps of a call change
 pub mod Writing
+-- an entry that was made stands in every later state
+pub mod Recorded

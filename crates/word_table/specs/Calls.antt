@@ -1,16 +1,16 @@
 -- What each call of a desk answers, and what it does to what the pass knows. A step of a call is told of in a state of
 -- the table that is sound, as `sound` says.
-use Rattle.std.specs.Prelude.{◌≡◌, ◌≢◌, ◌⊎◌, ℕ, ◌+◌, ◌-◌, ◌%◌, ◌<◌, ◌≤◌, Bool, true, false, ◌&&◌, nat_lt, List, [], ◌∷◌, ◌++◌, length, slice_get, Some, ◌==◌}
+use Rattle.std.specs.Prelude.{◌≡◌, ◌≢◌, ◌⊎◌, ℕ, ◌+◌, ◌-◌, ◌%◌, ◌<◌, true, false, ◌&&◌, nat_lt, List, [], ◌∷◌, ◌++◌, Some, slice_get, ◌==◌}
 use Rattle.std.specs.Prelude.{if◌then◌else◌}
 use Rattle.std.specs.Int.{bit_at}
+use Rattle.history_model.specs.declared.event.Cause.{Cause}
 use Rattle.history_model.specs.declared.view.View.{View}
 use Rattle.history_model.specs.declared.entry.Entry.{Entry}
-use Rattle.history_model.specs.declared.event.Cause.{Cause}
-use Rattle.history_model.specs.declared.view.Phase.TheVariants.{Releasing}
+use Rattle.history_model.specs.declared.item.Item.{Item}
+use Rattle.history_model.specs.Arrangements.{IsArrangement}
 use Rattle.history_model.specs.Conflicts.{IsConflict}
-use Rattle.history_model.specs.Fitting.{Fits}
-use Rattle.history_model.specs.Histories.{replay}
-use Rattle.history_model.specs.Legal.{IsIn, IsPrefix, AreAttemptsLegal, IsLegalHistory}
+use Rattle.history_model.specs.Items.{replay_items}
+use Rattle.history_model.specs.Legal.{IsIn}
 use Rattle.history_model.specs.Locks.{lock_of_word}
 use Rattle.history_model.specs.Sets.{has, without}
 use Rattle.history_model.specs.Table.{Knows}
@@ -18,9 +18,11 @@ use Rattle.history_model.specs.Traces.{IsLegalTrace}
 use Rattle.history_model.specs.Views.{number, HasBit, HasReadGrant, HasClaim, HasWriteGrant, IsGranted}
 use Rattle.locks_rule.specs.Actions.{Action}
 use Rattle.locks_rule.specs.Steps.{is_free, set_read_bit_action, load_writer_action, claim_writer_action, scan_row_action, release_writer_action}
-use Rattle.locks_rule.specs.Versions.{locks_of, load_version_action, store_version_action}
-use Rattle.values_rule.specs.Steps.{entry_of, load_value_action}
-use Rattle.stamps_rule.specs.Steps.{judge_stamp_action, load_serial_at_yield_action, after_giving_way}
+use Rattle.locks_rule.specs.Versions.{load_version_action, store_version_action}
+use Rattle.values_rule.specs.Steps.{load_value_action, after_giving_way}
+use Rattle.values_rule.specs.Closing.{IsPlaced}
+use Rattle.values_rule.specs.History.{item_of_entry, items_of_attempts, knew_of}
+use Rattle.stamps_rule.specs.Steps.{judge_stamp_action}
 use Rattle.word_table.specs.declared.answer.Shared.{Shared}
 use Rattle.word_table.specs.declared.answer.Shared.TheVariants as shared
 use Rattle.word_table.specs.declared.answer.Claimed.{Claimed}
@@ -62,7 +64,7 @@ GrantsStay old new = (k : ℕ) → (HasReadGrant old k → HasReadGrant new k) �
 
 -- the view with the read bit of lock k set, where it was not
 abbrev pub with_bit : ℕ → ℕ → View → View
-with_bit k a v = if has k v.bits then v else (set_read_bit_action (number v) k a v).view [] 0
+with_bit k a v = if has k v.bits then v else (set_read_bit_action (number v) k a v).view 0
 
 -- the bit of word a's lock was set already, or a step set it
 abbrev pub MakesSeen : (List ℕ → List View → Type 0) → View → ℕ → Type 0
@@ -163,53 +165,33 @@ pub record GaveUp (sound : List ℕ → List View → Type 0) (k : ℕ) (v w : V
   pub found : ℕ
   pub taken : TakenIn sound (release_writer_action (number v) k (paid k v)) (paid k v) found w
 
--- the call got its entry, at this place of the history from 1: behind what the pass had seen and then other seats'
--- entries alone; and its trace is legal on the good words that these leave of the base
-pub record CommitsAt (word_count : ℕ) (good : List ℕ → Type 0) (base : List ℕ) (kept : Bool) (old new : View) (place : ℕ) : Type 0 where
-  pub history : List Entry
-  pub view : new ≡ record old {
-    seen = history ++ entry_of kept old ∷ [];
-    owed = if kept then locks_of old.undo else [];
-    undo = [];
-    phase = Releasing;
-  }
-  pub place_is : place ≡ length history + 1
-  pub begins : IsPrefix old.seen history
-  pub others : (q : ℕ) (e : Entry) → length old.seen ≤ q → slice_get history q ≡ Some e → e.who ≢ number old
-  pub fits : Fits word_count good old.trace (replay base history)
-
 -- what judge answers to a call with the timestamp own where the other seat shows this one
 abbrev pub judged_of : ℕ → ℕ → Judged
 judged_of shown own = if nat_lt 0 shown && nat_lt shown own then judged.Yield shown else judged.Wait
 
--- judge loaded the timestamp of seat i, and where it gives way the counter of entries then
+-- the attempt gave way to this cause, whose seat is judged
+abbrev pub GaveWay : Cause → View → View → Type 0
+GaveWay cause old new = new ≡ after_giving_way cause (without cause.seat old.met) old
+
+-- judge loaded the timestamp of seat i, and by the same step the attempt gave way where that was a cause
 pub record JudgedBy (sound : List ℕ → List View → Type 0) (v : View) (i : ℕ) (r : Judged) (w : View) : Type 0 where
   pub found : ℕ
-  pub between : View
-  pub taken : TakenIn sound (judge_stamp_action (number v) i v) v found between
+  pub taken : TakenIn sound (judge_stamp_action (number v) i v) v found w
   pub answer : r ≡ judged_of found v.stamp
   -- it gives way exactly where the timestamp found is above 0 and below the call's own
   pub yield_earlier : (stamp : ℕ) → r ≡ judged.Yield stamp → (found ≡ stamp) × (0 < stamp) × (stamp < v.stamp)
   pub earlier_yield : 0 < found → found < v.stamp → r ≡ judged.Yield found
-  pub waits : r ≡ judged.Wait → w ≡ between
-  pub yields : (stamp : ℕ) → r ≡ judged.Yield stamp
-      → (seen : ℕ) × TakenIn sound (load_serial_at_yield_action (number v) between) between seen w
 
--- the attempt gave way to this cause: what it read is legal on the history, and so was what the call's attempts before
--- it read on earlier states of the same history, none of them before the call's floor
-pub record GaveWay (good : List ℕ → Type 0) (n : ℕ) (base : List ℕ) (cause : Cause) (old new : View) : Type 0 where
-  pub history : List Entry
-  pub view : new ≡ after_giving_way cause history (record old { met = without cause.seat old.met })
-  pub begins : IsPrefix old.seen history
-  pub others : (q : ℕ) (e : Entry) → length old.seen ≤ q → slice_get history q ≡ Some e → e.who ≢ number old
-  pub legal : IsLegalHistory good n base history
-  pub opaque : AreAttemptsLegal n base history (number old) old.stamp old.floor (length history) new.abandoned
-
--- what the call's last attempt did is legal on good words that the history leaves of the base, of which the seat has seen
--- a beginning
-pub record ReadsHistory (good : List ℕ → Type 0) (n : ℕ) (base : List ℕ) (v : View) : Type 0 where
-  pub history : List Entry
-  pub legal : IsLegalHistory good n base history
-  pub begins : IsPrefix v.seen history
-  pub left_good : good (replay base history)
-  pub fits : IsLegalTrace v.trace (replay base history)
+-- what the call's last attempt did is legal on the words that all that was done leaves of the base, in whatever order
+-- this is arranged, and these are good words; all that the pass has seen is a part of it, and so are the attempts of the
+-- call that gave way, each of which stands at a legal place
+pub record ReadsArranged (good : List ℕ → Type 0) (n : ℕ) (base : List ℕ) (v : View) : Type 0 where
+  pub items : List Item
+  pub seen : (e : Entry) → IsIn e v.seen → IsIn (item_of_entry e) items
+  pub attempts : (x : Item) → IsIn x (items_of_attempts (number v) v.call (knew_of v.seats v.seen) 0 v.abandoned) → IsIn x items
+  pub order : List Item
+  pub arranged : IsArrangement items order
+  pub placed : (order : List Item) → IsArrangement items order → (p : ℕ) (x : Item) → slice_get order p ≡ Some x
+      → IsPlaced good n base order p x
+  pub left_good : (order : List Item) → IsArrangement items order → good (replay_items base order)
+  pub fits : (order : List Item) → IsArrangement items order → IsLegalTrace v.trace (replay_items base order)

@@ -1,5 +1,5 @@
 -- What a pass is seen as, and how what it keeps stands for what its seat knows.
-use Rattle.std.specs.Prelude.{◌≡◌, ◌≢◌, ℕ, ◌+◌, ◌/◌, ◌%◌, ◌^◌, ◌<◌, ◌≤◌, true, List, [], ◌∷◌, None, length, slice_index}
+use Rattle.std.specs.Prelude.{◌≡◌, ◌≢◌, ℕ, ◌+◌, ◌/◌, ◌%◌, ◌^◌, ◌<◌, ◌≤◌, true, List, [], ◌∷◌, length, slice_index}
 use Rattle.std.specs.Int.{bit_at}
 use Rattle.atomic_table.specs.Table.{Me}
 use Rattle.atomic_table.specs.Seated.{TableId}
@@ -91,7 +91,6 @@ pub record HoldsNothing (v : View) : Type 0 where
 -- what a pass keeps is a copy of what its seat knows
 pub record IsCopy (call : CallCopy) (locks : LockCopy) (table : TableId) (me : Me (Unit {0}) View) : Type 0 where
   pub slots : me.1 ≡ []
-  pub no_cause : me.0.due ≡ None
   pub others_are : ShowsOthers call.others call.seats call.who
   pub row_is : call.row ≡ row_word call.seats call.who 0
   pub writers_are : call.writers ≡ writer_word call.seats 0

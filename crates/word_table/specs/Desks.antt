@@ -2,10 +2,8 @@
 use Rattle.std.specs.Prelude.{ℕ, List}
 use Rattle.atomic_table.specs.Seated.{TableId}
 use Rattle.history_model.specs.declared.view.View.{View}
-use Rattle.history_model.specs.declared.entry.Entry.{Entry}
 use Rattle.history_model.specs.declared.shape.Shape.{Ghosts as Shapes}
 use Rattle.history_model.specs.Fitting.{IsGood}
-use Rattle.history_model.specs.Legal.{IsLegalHistory}
 use Rattle.word_table.specs.Sound.{IsSound}
 
 -- a desk: which table it is, the words that it began with, how many seats it has, and which words are good
@@ -27,7 +25,3 @@ module _ {S : Type 0} (shapes : Shapes S) (desk : DeskView S) where
   -- a list of its words that is good
   abbrev pub AreGoodWords : List ℕ → Type 0
   AreGoodWords = IsGood (shapes.word_count desk.shape) (shapes.good desk.shape)
-
-  -- a history that is legal from the words that it began with
-  abbrev pub IsLegalFor : List Entry → Type 0
-  IsLegalFor = IsLegalHistory AreGoodWords desk.seats desk.base

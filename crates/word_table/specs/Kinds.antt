@@ -2,22 +2,22 @@
 use Rattle.std.specs.Prelude.{◌≡◌, ℕ, ◌+◌, ◌^◌, ◌<◌, List}
 use Rattle.atomic_table.specs.Table.{Me}
 use Rattle.history_model.specs.declared.view.View.{View}
-use Rattle.history_model.specs.Table.{Knows, history_of}
+use Rattle.history_model.specs.Table.{Knows}
 use Rattle.locks_rule.specs.Actions.{Action, found_by}
 use Rattle.locks_rule.specs.Locks.{LocksHold}
 use Rattle.locks_rule.specs.Steps.{MaySetReadBit, MayClearReadBit, MayLoadWriter, MayClaimWriter, MayScanRow, set_read_bit_action}
 use Rattle.locks_rule.specs.Steps.{clear_read_bit_action, load_writer_action, claim_writer_action, scan_row_action, release_writer_action}
-use Rattle.locks_rule.specs.Versions.{MayReleaseUnowed, load_version_action, store_version_action}
-use Rattle.values_rule.specs.Steps.{MayBeginCall, MayStoreValue, MayUndoStore, MayCommitCall, MayClearStamp, MayLoadSerial, begin_call_action}
-use Rattle.values_rule.specs.Steps.{load_value_action, store_value_action, undo_store_action, commit_call_action, clear_stamp_action, load_serial_action}
-use Rattle.stamps_rule.specs.Steps.{MayDrawStamp, MayAnnounceStamp, MayJudgeStamp, MayLoadSerialAtYield, MayLoadCauseStamp, draw_stamp_action}
-use Rattle.stamps_rule.specs.Steps.{announce_stamp_action, judge_stamp_action, load_serial_at_yield_action, load_cause_stamp_action}
+use Rattle.locks_rule.specs.Versions.{MayLoadVersion, MayReleaseUnowed, load_version_action, store_version_action}
+use Rattle.values_rule.specs.Steps.{begin_call_action, load_value_action, store_value_action, undo_store_action, clear_stamp_action, MayBeginCall, MayLoadValue}
+use Rattle.values_rule.specs.Steps.{MayStoreValue, MayUndoStore, MayCommitCall, MayClearStamp, commit_call_action}
+use Rattle.stamps_rule.specs.Steps.{MayDrawStamp, MayAnnounceStamp, MayJudgeStamp, MayLoadCauseStamp, draw_stamp_action, announce_stamp_action}
+use Rattle.stamps_rule.specs.Steps.{judge_stamp_action, load_cause_stamp_action}
 use Rattle.word_table.specs.declared.step.Step.{Step}
 use Rattle.word_table.specs.declared.step.Step.TheVariants.{SetReadBit, ClearReadBit, LoadWriter, ClaimWriter, ScanRow, ReleaseWriter, BeginCall, LoadValue}
-use Rattle.word_table.specs.declared.step.Step.TheVariants.{StoreValue, UndoStore, CommitCall, ClearStamp, LoadSerial, DrawStamp, AnnounceStamp, JudgeStamp}
-use Rattle.word_table.specs.declared.step.Step.TheVariants.{LoadSerialAtYield, LoadCauseStamp, LoadVersion, StoreVersion}
+use Rattle.word_table.specs.declared.step.Step.TheVariants.{StoreValue, UndoStore, CommitCall, ClearStamp, DrawStamp, AnnounceStamp, JudgeStamp}
+use Rattle.word_table.specs.declared.step.Step.TheVariants.{LoadCauseStamp, LoadVersion, StoreVersion}
 use Rattle.word_table.specs.Sound.{IsSound}
-use Rattle.word_table.specs.Versions.{MayFindVersion, MayRaiseVersion, MayLoadUsed}
+use Rattle.word_table.specs.Versions.{MayRaiseVersion}
 
 -- what the step does, where the seat knows v
 abbrev pub action_of : Step → View → Action
@@ -33,11 +33,9 @@ action_of (StoreValue j a x) v = store_value_action j a x v
 action_of (UndoStore j a old) v = undo_store_action j a old v
 action_of (CommitCall j kept) v = commit_call_action j kept v
 action_of (ClearStamp j) v = clear_stamp_action j v
-action_of LoadSerial v = load_serial_action v
 action_of (DrawStamp j) v = draw_stamp_action j v
 action_of (AnnounceStamp j) v = announce_stamp_action j v
 action_of (JudgeStamp j i) v = judge_stamp_action j i v
-action_of (LoadSerialAtYield j) v = load_serial_at_yield_action j v
 action_of (LoadCauseStamp j i stamp) v = load_cause_stamp_action j i stamp v
 action_of (LoadVersion j k) v = load_version_action j k v
 action_of (StoreVersion j k x) v = store_version_action j k x v
@@ -51,18 +49,16 @@ May good (ClaimWriter j k a) v = MayClaimWriter j k a v
 May good (ScanRow j k i) v = MayScanRow j k i v
 May good (ReleaseWriter j k) v = MayReleaseUnowed j k v
 May good (BeginCall j) v = MayBeginCall j v
-May good (LoadValue j a) v = MayLoadUsed j a v
+May good (LoadValue j a) v = MayLoadValue j a v
 May good (StoreValue j a x) v = MayStoreValue j a v
 May good (UndoStore j a old) v = MayUndoStore j a old v
 May good (CommitCall j kept) v = MayCommitCall good j kept v
 May good (ClearStamp j) v = MayClearStamp j v
-May good LoadSerial v = MayLoadSerial v
 May good (DrawStamp j) v = MayDrawStamp j v
 May good (AnnounceStamp j) v = MayAnnounceStamp j v
 May good (JudgeStamp j i) v = MayJudgeStamp j i v
-May good (LoadSerialAtYield j) v = MayLoadSerialAtYield j v
 May good (LoadCauseStamp j i stamp) v = MayLoadCauseStamp j i stamp v
-May good (LoadVersion j k) v = MayFindVersion j k v
+May good (LoadVersion j k) v = MayLoadVersion j k v
 May good (StoreVersion j k x) v = MayRaiseVersion j k x v
 
 -- the number is what the step writes, whatever the table is when a seat that knows v takes it
@@ -85,7 +81,7 @@ pub record TakenIn (sound : List ℕ → List View → Type 0) (action : Action)
   pub holds : sound words views
   pub knows : Knows views place old
   pub found_is : found_by action words ≡ found
-  pub view : new ≡ action.view (history_of views) found
+  pub view : new ≡ action.view found
 
 -- the same, of what the atomic table says that a seat has
 abbrev pub Took : (List ℕ → List View → Type 0) → Action → Me (Unit {0}) View → Me (Unit {0}) View → ℕ → Type 0

@@ -12,3 +12,4 @@ pub mod Calls
 pub mod Runs
 pub mod Meetings
 pub mod Writes
+pub mod Uses

@@ -1,17 +1,22 @@
 -- What holds in every state of every run: of who meets whom, of each call, and of the clock. And a state that every table
 -- comes to.
 use Rattle.std.specs.Prelude.{◌≡◌, ◌≢◌, ℕ, ◌<◌, ◌≤◌, true, List, [], ◌∷◌, length, Some, slice_get, slice_index}
+use Rattle.history_model.specs.declared.entry.Entry.{Entry}
+use Rattle.history_model.specs.declared.item.Item.{Item}
 use Rattle.history_model.specs.declared.view.View.{View}
 use Rattle.history_model.specs.declared.view.Phase.TheVariants.{Idle}
 use Rattle.history_model.specs.Conflicts.{Meets, IsAt}
-use Rattle.history_model.specs.Legal.{IsPrefix, AreAttemptsLegal}
+use Rattle.history_model.specs.Arrangements.{IsArrangement}
 use Rattle.history_model.specs.Locks.{lock_of_word}
 use Rattle.history_model.specs.Sets.{has}
-use Rattle.history_model.specs.Table.{TableState, Knows, clock_word, history_of}
+use Rattle.history_model.specs.Table.{TableState, Knows, clock_word}
 use Rattle.locks_rule.specs.Actions.{found_by, words_after}
 use Rattle.locks_rule.specs.Locks.{AskedFor, IsSeat}
 use Rattle.locks_rule.specs.Splits.{opening_view}
 use Rattle.stamps_rule.specs.Stamps.{AreRestartsBounded, draws_of}
+use Rattle.values_rule.specs.Closing.{IsPlaced}
+use Rattle.values_rule.specs.History.{items_of}
+use Rattle.values_rule.specs.Records.{IsRecorded}
 use Rattle.word_table.specs.declared.step.Step.{Step}
 use Rattle.word_table.specs.declared.step.Step.TheVariants.{DrawStamp}
 use Rattle.word_table.specs.Kinds.{action_of, May}
@@ -28,7 +33,7 @@ pub record IsReached (good : List ℕ → Type 0) (n : ℕ) (base : List ℕ) (s
 
 -- what a seat that knows the view knows once it took the step in this state
 abbrev pub view_after : Step → View → TableState → View
-view_after step view state = (action_of step view).view (history_of state.views) (found_by (action_of step view) state.words)
+view_after step view state = (action_of step view).view (found_by (action_of step view) state.words)
 
 -- in this state the seat at this place, which knows old, may take the step, and knows new then
 pub record MayReach (good : List ℕ → Type 0) (state : TableState) (place : ℕ) (step : Step) (old new : View) : Type 0 where
@@ -100,10 +105,21 @@ SeatsAreDealt good n base =
     good base → 0 < n
     → (state : TableState) × IsReached good n base state × (state.words ≡ opening_words n base) × AreDealt n base state.views
 
--- each attempt of a call that gave way read one state of the committed history, of which the seat has seen a beginning
+-- in every arrangement of all that was done each item stands at a legal place: an attempt that gave way, and an entry, where
+-- its trace is legal, behind all that its pass had seen as the call began; an attempt before its call's entry
 abbrev pub ReadsOneState : (List ℕ → Type 0) → ℕ → List ℕ → Type 0
 ReadsOneState good n base =
-    (state : TableState) (place j : ℕ) (view : View)
-    → IsReached good n base state → Knows state.views place view → view.who ≡ j ∷ [] → view.phase ≢ Idle
-    → AreAttemptsLegal n base (history_of state.views) j view.stamp view.floor (length view.seen) view.abandoned
-    × IsPrefix view.seen (history_of state.views)
+    (state : TableState) (order : List Item) (p : ℕ) (x : Item)
+    → IsReached good n base state → IsArrangement (items_of state.views) order → slice_get order p ≡ Some x
+    → IsPlaced good n base order p x
+
+-- there is such an arrangement
+abbrev pub IsArranged : (List ℕ → Type 0) → ℕ → List ℕ → Type 0
+IsArranged good n base = (state : TableState) → IsReached good n base state → (order : List Item) × IsArrangement (items_of state.views) order
+
+-- an entry that was made stands in every later state of the run
+abbrev pub EntriesStay : (List ℕ → Type 0) → ℕ → List ℕ → Type 0
+EntriesStay good n base =
+    (run : List TableState) (p q : ℕ) (before after : TableState) (e : Entry)
+    → good base → IsRun good n base run → slice_get run p ≡ Some before → slice_get run q ≡ Some after → p ≤ q
+    → IsRecorded before.views e → IsRecorded after.views e

@@ -6,7 +6,7 @@ use Rattle.history_model.specs.declared.entry.Entry.{Entry}
 use Rattle.history_model.specs.declared.view.View.{View}
 use Rattle.history_model.specs.declared.view.Phase.TheVariants.{Idle}
 
--- a note: the table that it is of, and the history that it has seen
+-- a note: the table that it is of, and the entries that it has seen
 pub record NoteView : Type 0 where
   pub table : TableId
   pub seen : List Entry

@@ -4,7 +4,7 @@ use Rattle.history_model.specs.declared.view.View.{View}
 use Rattle.history_model.specs.Fitting.{IsGood}
 use Rattle.history_model.specs.Table.{value_word}
 use Rattle.locks_rule.specs.Locks.{LocksHold}
-use Rattle.values_rule.specs.Values.{ValuesHold}
+use Rattle.values_rule.specs.Versions.{ValuesHold}
 use Rattle.stamps_rule.specs.Stamps.{StampsHold}
 use Rattle.word_table.specs.declared.rule.Ground.{Ground}
 use Rattle.word_table.specs.Versions.{VersionsBounded}

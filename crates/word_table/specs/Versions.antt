@@ -1,15 +1,13 @@
--- Versions of locks: what an attempt found, the steps on them, and that none is above the number of entries.
-use Rattle.std.specs.Prelude.{◌≡◌, ℕ, ◌<◌, ◌≤◌, true, List, [], map, None, slice_index}
+-- Versions of locks: what an attempt found, the steps on them, and that none is above the number of calls.
+use Rattle.std.specs.Prelude.{◌≡◌, ℕ, ◌+◌, ◌<◌, ◌≤◌, true, List, [], map, slice_index}
 use Rattle.history_model.specs.declared.TheConstants.{LOCKS}
 use Rattle.history_model.specs.declared.view.View.{View}
-use Rattle.history_model.specs.Counts.{is_open}
+use Rattle.history_model.specs.Counts.{is_open, calls_sum, open_count}
 use Rattle.history_model.specs.Legal.{IsIn}
-use Rattle.history_model.specs.Locks.{lock_of_word}
 use Rattle.history_model.specs.Sets.{has}
-use Rattle.history_model.specs.Table.{Knows, serial_word, version_word}
+use Rattle.history_model.specs.Table.{Knows, version_word}
 use Rattle.history_model.specs.Views.{HasClaim}
-use Rattle.locks_rule.specs.Versions.{MayLoadVersion, MayStoreVersion}
-use Rattle.values_rule.specs.Steps.{MayLoadValue}
+use Rattle.locks_rule.specs.Versions.{MayStoreVersion}
 
 -- the locks whose versions an attempt found
 abbrev pub locks_found : List (ℕ × ℕ) → List ℕ
@@ -19,27 +17,18 @@ locks_found uses = map (λ u. u.0) uses
 abbrev pub HasUse : View → ℕ → Type 0
 HasUse v k = has k (locks_found v.uses) ≡ true
 
--- the version of lock k is loaded, while no cause is due
-pub record MayFindVersion (j k : ℕ) (v : View) : Type 0 where
-  pub loads : MayLoadVersion j k v
-  pub no_cause : v.due ≡ None
-
 -- 1 more than the version x is stored, while the claim on lock k stands
 pub record MayRaiseVersion (j k x : ℕ) (v : View) : Type 0 where
   pub stores : MayStoreVersion j k x v
   pub claim : HasClaim v k
-  pub no_cause : v.due ≡ None
 
--- the value of the word a is loaded, under a lock whose version was found
-pub record MayLoadUsed (j a : ℕ) (v : View) : Type 0 where
-  pub loads : MayLoadValue j a v
-  pub used : HasUse v (lock_of_word a)
-
--- no version is above the number of entries, and one that is owed is below it: so 1 more than a version fits a word
+-- no version is above the number of calls that were begun and are no longer open, and one that is owed is below it: so 1
+-- more than a version fits a word
 pub record VersionsBounded (n : ℕ) (words : List ℕ) (views : List View) : Type 0 where
-  pub words_below : (k : ℕ) → k < LOCKS → slice_index words (version_word n k) ≤ slice_index words serial_word
-  pub uses_below : (id k x : ℕ) (v : View) → Knows views id v → IsIn (k, x) v.uses → x ≤ slice_index words serial_word
-  pub owed_below : (id k x : ℕ) (v : View) → Knows views id v → has k v.owed ≡ true → IsIn (k, x) v.uses
-      → x < slice_index words serial_word
+  pub ended : ℕ
+  pub counted : ended + open_count views ≤ calls_sum n words
+  pub words_below : (k : ℕ) → k < LOCKS → slice_index words (version_word n k) ≤ ended
+  pub uses_below : (id k x : ℕ) (v : View) → Knows views id v → IsIn (k, x) v.uses → x ≤ ended
+  pub owed_below : (id k x : ℕ) (v : View) → Knows views id v → has k v.owed ≡ true → IsIn (k, x) v.uses → x < ended
   -- a call that has no entry yet owes nothing
   pub open_owes_none : (id : ℕ) (v : View) → Knows views id v → is_open v.phase ≡ true → v.owed ≡ []

@@ -1,10 +1,9 @@
--- Which words the steps of a call change: those of its seat, those of the locks that it asked for, and two that all
--- calls share.
+-- Which words the steps of a call change: those of its seat, those of the locks that it asked for, and the clock.
 use Rattle.std.specs.Prelude.{◌≡◌, ◌≢◌, ◌⊎◌, ℕ, ◌<◌, List, [], slice_get}
 use Rattle.history_model.specs.declared.TheConstants.{LOCKS}
 use Rattle.history_model.specs.declared.view.View.{View}
 use Rattle.history_model.specs.Locks.{lock_of_word}
-use Rattle.history_model.specs.Table.{TableState, serial_word, clock_word, calls_word, stamps_word, row_word, writer_word, version_word, value_word}
+use Rattle.history_model.specs.Table.{TableState, clock_word, calls_word, commits_word, stamps_word, row_word, writer_word, version_word, value_word}
 use Rattle.history_model.specs.Views.{number}
 use Rattle.locks_rule.specs.Actions.{words_after}
 use Rattle.locks_rule.specs.Locks.{AskedFor}
@@ -12,9 +11,10 @@ use Rattle.word_table.specs.declared.step.Step.{Step}
 use Rattle.word_table.specs.Kinds.{action_of}
 use Rattle.word_table.specs.Meetings.{AsksApart, IsReached, MayReach}
 
--- a word of seat j alone: how many calls it began, its timestamp, or one of its row
+-- a word of seat j alone: how many calls it began, its last entry, its timestamp, or one of its row
 abbrev pub IsOwnWord : ℕ → ℕ → ℕ → Type 0
-IsOwnWord n j a = (a ≡ calls_word n j) ⊎ ((a ≡ stamps_word n j) ⊎ ((k : ℕ) × (k < LOCKS) × (a ≡ row_word n j k)))
+IsOwnWord n j a =
+    (a ≡ calls_word n j) ⊎ ((a ≡ commits_word n j) ⊎ ((a ≡ stamps_word n j) ⊎ ((k : ℕ) × (k < LOCKS) × (a ≡ row_word n j k))))
 
 -- a word of lock k: who claims it, its version, or a value under it
 abbrev pub IsWordOfLock : ℕ → ℕ → ℕ → Type 0
@@ -25,9 +25,9 @@ IsWordOfLock n k a =
 abbrev pub IsAskedWord : ℕ → View → ℕ → Type 0
 IsAskedWord n v a = (k : ℕ) × (k < LOCKS) × AskedFor v k × IsWordOfLock n k a
 
--- a word that all calls share: the clock, once the call has met another, and the number of entries
+-- the word that all calls share: the clock, once the call has met another
 abbrev pub IsSharedWord : View → ℕ → Type 0
-IsSharedWord v a = ((a ≡ clock_word) × (v.met ≢ [])) ⊎ (a ≡ serial_word)
+IsSharedWord v a = (a ≡ clock_word) × (v.met ≢ [])
 
 -- each step changes such a word alone, where its seat knew old and knows new then
 abbrev pub WritesOwnAndAsked : (List ℕ → Type 0) → ℕ → List ℕ → Type 0
@@ -37,7 +37,7 @@ WritesOwnAndAsked good n base =
     → slice_get (words_after (action_of step old) state.words) a ≢ slice_get state.words a
     → IsOwnWord n (number old) a ⊎ (IsAskedWord n new a ⊎ IsSharedWord old a)
 
--- calls of two seats that asked for no common lock have no such word in common but those that all calls share
+-- calls of two seats that asked for no common lock have no such word in common but the clock
 abbrev pub HaveNoCommonWord : Type 0
 HaveNoCommonWord =
     (n i j a : ℕ) (v u : View) → i < n → j < n → i ≢ j → AsksApart v u

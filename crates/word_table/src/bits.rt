@@ -1,6 +1,6 @@
 //! Sets of locks, a bit for each in sixteen words, and sets of seats, a bit for each in one word.
 
-ghost use Rattle.std.specs.Prelude.{◌≡◌, ◌<◌, ◌≤◌, ◌/◌, ◌%◌, ◌^◌, ℕ, List, [], ◌∷◌, true, slice_index, length, bit_and, bit_or, if◌then◌else◌};
+ghost use Rattle.std.specs.Prelude.{◌≡◌, ◌<◌, ◌≤◌, ◌/◌, ◌%◌, ◌^◌, ℕ, List, [], ◌∷◌, true, slice_index, length, bit_and, bit_or, count_ones, sum_by, if◌then◌else◌};
 ghost use Rattle.std.specs.Int.{bit_at, bit_not};
 ghost use mir.Syntax.{w64};
 ghost use Rattle.history_model.specs.Sets.{has, without, without_first, flag};
@@ -102,6 +102,13 @@ pub(crate) fn least_from(row: &[u64; 16], from: u32) -> Option<u32>
         }
     }
     None
+}
+
+/// How many locks the set has.
+pub(crate) fn count(row: &[u64; 16]) -> u32
+    ensures { result ≡ sum_by count_ones row.now }
+{
+    row.iter().map(|word| word.count_ones()).sum()
 }
 
 /// All seats but one.

@@ -21,7 +21,7 @@ use std::snapshot::Snapshot;
 /// A closed table: the words that it left. `Desk::close` alone makes one.
 ///
 /// Contracts see the table that it was, too: the words that it began with, the number of its passes, its shape, and the
-/// history of all calls that have an entry.
+/// records of all calls that have an entry.
 #[derive(Drop)]
 pub struct Closed<S: Shape> {
     pub(crate) words: Vec<u64>,
@@ -38,7 +38,7 @@ impl<S: Shape> Model for Closed<S> {
       base = c.made.value.key.base.items;
       seats = c.made.value.key.seats;
       shape = c.made.value.key.shape;
-      history = c.last.value.me.0.seen;
+      records = c.last.value.me.0.seen;
       words = c.words.items;
     } };
 }
@@ -63,7 +63,8 @@ pub struct CloseRefused<S: Shape> {
 pub(crate) struct JoinsSeats;
 
 impl Join<View> for JoinsSeats {
-    ghost use Rattle.locks_rule.specs.Joins.{after_joining, spent_view};
+    ghost use Rattle.locks_rule.specs.Joins.{spent_view};
+    ghost use Rattle.locks_rule.specs.Joins.{after_joining};
 
     ghost both = { after_joining };
 

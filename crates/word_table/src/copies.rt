@@ -1,6 +1,10 @@
 //! What a pass keeps of its view, to look it up.
 
-use history_model::Phase;
+ghost use Rattle.std.specs.Prelude.{◌≡◌, ◌<◌, length};
+ghost use Rattle.word_table.specs.Uses.{IsCopied};
+
+use crate::bits;
+use history_model::{LOCKS, LockUse, Phase};
 
 /// The call: how many seats there are, the own number, the others as a bit for each, where the own row and the writer
 /// words begin in the table, how many calls were begun, where the pass is in its calls, and the call's timestamp.
@@ -24,6 +28,23 @@ pub(crate) struct VersionCopy {
     pub(crate) used: [u64; 16],
     pub(crate) written: [u64; 16],
     pub(crate) found: Vec<u64>,
+}
+
+impl VersionCopy {
+    // What the copy has of a lock that was used.
+    #[inline]
+    pub(crate) fn use_at(&self, lock: u32) -> LockUse
+        requires lock { lock < LOCKS }
+        requires found { length self.now.found.items ≡ LOCKS }
+        ensures lock { result.lock ≡ lock }
+        ensures copied { IsCopied self.now result }
+    {
+        LockUse {
+            lock,
+            version: self.found[lock as usize],
+            wrote: bits::test(&self.written, lock),
+        }
+    }
 }
 
 /// The locks: the read bits, the read grants and the claims, a bit for each lock, and for each lock a word that has a

@@ -3,16 +3,11 @@
 
 ghost use Rattle.std.specs.Prelude.{◌≡◌, ◌<◌, ◌≤◌, ℕ, [], ◌∷◌, length, IfOk, IfErr, Some, slice_get};
 ghost use Rattle.history_model.specs.Fitting.{IsGood};
-ghost use Rattle.history_model.specs.Histories.{replay};
-ghost use Rattle.history_model.specs.Legal.{IsIn, IsPrefix};
-ghost use Rattle.locks_rule.specs.Joins.{after_told};
 ghost use Rattle.locks_rule.specs.Splits.{opening_view};
-ghost use Rattle.values_rule.specs.Steps.{load_serial_action};
-ghost use Rattle.word_table.specs.Closing.{AreAllPasses, AreOwnersAmong};
-ghost use Rattle.word_table.specs.Copies.{PassView};
-ghost use Rattle.word_table.specs.Kinds.{TakenIn};
+ghost use Rattle.locks_rule.specs.Joins.{gains};
+ghost use Rattle.word_table.specs.Closing.{AreAllPasses, AreRecords, AreSeenBy, IsCoherent, IsLegalInEachOrder};
+ghost use Rattle.word_table.specs.Desks.{AreGoodWords};
 ghost use Rattle.word_table.specs.Sound.{opening_words};
-ghost use Rattle.word_table.specs.Desks.{AreGoodWords, IsLegalFor, RuleHolds};
 
 use crate::closing::{CloseRefused, Closed, copy_words, gather, room_for};
 use crate::deal::deal;
@@ -52,8 +47,6 @@ impl<S: Shape> Model for Desk<S> {
     ghost use Rattle.std.specs.Prelude.{◌≡◌, ◌≤◌, length};
     ghost use Rattle.history_model.specs.Fitting.{IsGood};
     ghost use Rattle.history_model.specs.Table.{table_words};
-    ghost use Rattle.word_table.specs.Closing.{AreAllPasses, AreOwnersAmong};
-    ghost use Rattle.word_table.specs.Copies.{PassView};
     ghost use Rattle.word_table.specs.Desks.{DeskView};
 
     ghost Value = { DeskView S };
@@ -131,21 +124,15 @@ impl<S: Shape> Desk<S> {
         pass.take_note(&self.table.shared)
     }
 
-    /// The pass is told what the note had seen, and sees all that was committed so far. What it commits later stands
-    /// behind that in the history.
+    /// The pass has then seen exactly the records that it or the note had seen, each once. What it commits later stands
+    /// behind them in every arrangement.
     pub fn meet(&self, pass: &mut Pass<S>, note: Note<S>)
         requires desk { pass.old.table ≡ self.now.table }
         requires note { note.table ≡ self.now.table }
         requires phase { pass.old.view.phase ≡ Phase.Idle }
         ensures desk { pass.new.table ≡ pass.old.table }
-        ensures rest { pass.new.view
-            ≡ record pass.old.view { seen = pass.new.view.seen; olds = []; met = [] } }
-        ensures kept { IsPrefix pass.old.view.seen pass.new.view.seen }
-        ensures told { IsPrefix note.seen pass.new.view.seen }
-        ensures legal { IsLegalFor S.Shape self.now pass.new.view.seen }
-        ensures taken { (found : ℕ) × TakenIn (RuleHolds S.Shape self.now)
-            (load_serial_action (after_told pass.old.view note.seen))
-            (after_told pass.old.view note.seen) found pass.new.view }
+        ensures exactly { pass.new.view
+            ≡ record pass.old.view { seen = gains pass.old.view.seen note.seen; met = [] } }
     {
         pass.meet_note(&self.table.shared, note);
     }
@@ -163,13 +150,10 @@ impl<S: Shape> Desk<S> {
         requires all { AreAllPasses self.table self.seats passes.items }
         ensures desk { (result.base ≡ self.base) × (result.seats ≡ self.seats)
             × (result.shape ≡ self.shape) }
-        ensures legal { IsLegalFor S.Shape self result.history }
-        ensures words { result.words ≡ replay self.base result.history }
-        ensures seen { (pass : PassView) → IsIn pass passes.items
-            → IsPrefix pass.view.seen result.history }
-        ensures longest { (pass : PassView) × IsIn pass passes.items
-            × (pass.view.seen ≡ result.history) }
-        ensures owners { AreOwnersAmong passes.items result.history }
+        ensures coherent { IsCoherent (AreGoodWords S.Shape self) result }
+        ensures legal { IsLegalInEachOrder (AreGoodWords S.Shape self) result }
+        ensures records { AreRecords result }
+        ensures seen { AreSeenBy passes.items result.records }
     {
         let Desk { table, seats } = self;
         let Some(last_pass) = passes.pop() else {
@@ -184,20 +168,19 @@ impl<S: Shape> Desk<S> {
         Closed { words, made, last }
     }
 
-    /// Closes the table, with all its passes. The words that it leaves are what the history leaves of the words that it
-    /// began with. Memory is taken first, and where there is none, nothing was done.
+    /// Closes the table, with all its passes. The words that it leaves are what each arrangement of all that was done
+    /// leaves of the words that it began with. Memory is taken first, and where there is none, nothing was done.
     pub fn close(self, alloc: Global, passes: Vec<Pass<S>>) -> Result<Closed<S>, CloseRefused<S>>
         requires all { AreAllPasses self.table self.seats passes.items }
         ensures desk { IfOk result
             (λ closed. (closed.base ≡ self.base) × (closed.seats ≡ self.seats)
             × (closed.shape ≡ self.shape)) }
-        ensures legal { IfOk result (λ closed. IsLegalFor S.Shape self closed.history) }
-        ensures words { IfOk result (λ closed. closed.words ≡ replay self.base closed.history) }
-        ensures seen { IfOk result (λ closed. (pass : PassView) → IsIn pass passes.items
-            → IsPrefix pass.view.seen closed.history) }
-        ensures longest { IfOk result (λ closed. (pass : PassView) × IsIn pass passes.items
-            × (pass.view.seen ≡ closed.history)) }
-        ensures owners { IfOk result (λ closed. AreOwnersAmong passes.items closed.history) }
+        ensures coherent { IfOk result (λ closed.
+            IsCoherent (AreGoodWords S.Shape self) closed) }
+        ensures legal { IfOk result (λ closed.
+            IsLegalInEachOrder (AreGoodWords S.Shape self) closed) }
+        ensures records { IfOk result (λ closed. AreRecords closed) }
+        ensures seen { IfOk result (λ closed. AreSeenBy passes.items closed.records) }
         ensures refused { IfErr result
             (λ refused. (refused.desk ≡ self) × (refused.passes ≡ passes)) }
     {

@@ -5,11 +5,12 @@ ghost use Rattle.history_model.specs.declared.view.View.{View};
 ghost use Rattle.history_model.specs.Fitting.{IsGood};
 ghost use Rattle.history_model.specs.Table.{TableState, Knows};
 ghost use Rattle.locks_rule.specs.Actions.{Keeps, words_after, views_after};
-ghost use Rattle.locks_rule.specs.Joins.{KeepsJoin, MayTakeNote, left_by_note, note_of, MayMeetNote, after_note, MayJoinSeats, after_joining};
+ghost use Rattle.locks_rule.specs.Joins.{KeepsJoin, MayTakeNote, left_by_note, note_of, MayMeetNote, MayJoinSeats};
+ghost use Rattle.locks_rule.specs.Joins.{after_note, after_joining};
 ghost use Rattle.locks_rule.specs.Splits.{KeepsSplit, MaySplitSeat, left_by_split, given_by_split};
 ghost use Rattle.word_table.specs.declared.step.Step.{Step};
 ghost use Rattle.word_table.specs.Kinds.{action_of, May};
-ghost use Rattle.word_table.specs.Meetings.{ClockCountsDraws, MeetsInConflict, NeverMeetsApart, OnlyDrawsMoveClock, ReadsOneState, RestartsFew, SeatsAreDealt, StampsAreKept};
+ghost use Rattle.word_table.specs.Meetings.{ClockCountsDraws, EntriesStay, IsArranged, MeetsInConflict, NeverMeetsApart, OnlyDrawsMoveClock, ReadsOneState, RestartsFew, SeatsAreDealt, StampsAreKept};
 ghost use Rattle.word_table.specs.Runs.{IsOpening, IsRun, Steps};
 ghost use Rattle.word_table.specs.Sound.{IsSound};
 ghost use Rattle.word_table.specs.Writes.{HaveNoCommonWord, WritesOwnAndAsked};
@@ -67,14 +68,10 @@ pub fn every_meeting<S: Shape>()
 
 /// Of each call, in every state of every run: it gave way less often than there are seats, each time to another seat,
 /// which it had met, and never twice to the same (`restarts`). It has one timestamp at most: what it drew it keeps in
-/// every later state of the run, until it ends (`stamps`). And until it ends, what each of its attempts that gave
-/// way had read is what some part of the committed history leaves, of which all that its seat had seen as the call
-/// began is a part (`opacity`).
+/// every later state of the run, until it ends (`stamps`).
 pub fn every_call<S: Shape>()
     ensures restarts { (shape : _) (n : ℕ) (base : List ℕ)
         → RestartsFew (IsGood (S.word_count shape) (S.good shape)) n base }
-    ensures opacity { (shape : _) (n : ℕ) (base : List ℕ)
-        → ReadsOneState (IsGood (S.word_count shape) (S.good shape)) n base }
     ensures stamps { (shape : _) (n : ℕ) (base : List ℕ)
         → StampsAreKept (IsGood (S.word_count shape) (S.good shape)) n base }
 {}
@@ -88,9 +85,21 @@ pub fn every_draw<S: Shape>()
         → OnlyDrawsMoveClock (IsGood (S.word_count shape) (S.good shape)) n base }
 {}
 
+/// Of all that was done, in every state of every run: it has an arrangement (`arranged`), and in each one every attempt
+/// that gave way, and every entry, stands where its trace is legal and behind all that its pass had seen as the call
+/// began (`opacity`). An entry that was made stands in every later state (`stays`).
+pub fn every_arrangement<S: Shape>()
+    ensures arranged { (shape : _) (n : ℕ) (base : List ℕ)
+        → IsArranged (IsGood (S.word_count shape) (S.good shape)) n base }
+    ensures opacity { (shape : _) (n : ℕ) (base : List ℕ)
+        → ReadsOneState (IsGood (S.word_count shape) (S.good shape)) n base }
+    ensures stays { (shape : _) (n : ℕ) (base : List ℕ)
+        → EntriesStay (IsGood (S.word_count shape) (S.good shape)) n base }
+{}
+
 /// Of the words that a call changes, in every state of every run: each is one of its seat's own, or one of a lock that
-/// the call asked for, or one of the two that all calls share: the clock, where the call has met another, and the
-/// number of entries (`own`). So two calls that asked for no common lock change no common word but those two (`apart`).
+/// the call asked for, or the clock, where the call has met another (`own`). So two calls that asked for no common lock
+/// change no common word but the clock (`apart`).
 pub fn every_write<S: Shape>()
     ensures own { (shape : _) (n : ℕ) (base : List ℕ)
         → WritesOwnAndAsked (IsGood (S.word_count shape) (S.good shape)) n base }

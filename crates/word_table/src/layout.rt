@@ -1,14 +1,11 @@
 //! Where the words of the locks stand in a table.
 
 ghost use Rattle.std.specs.Prelude.{◌≡◌, ◌<◌, ◌≤◌};
-ghost use Rattle.history_model.specs.Table.{calls_word, stamps_word, row_word, writer_word, version_word, value_word};
+ghost use Rattle.history_model.specs.Table.{calls_word, stamps_word, row_word, writer_word, commits_word, version_word, value_word};
 
 use crate::copies::CallCopy;
 use crate::limits::{MOST_PASSES, MOST_WORDS};
 use history_model::LOCKS;
-
-/// The word that counts the entries of the history.
-pub(crate) const PLACE_OF_SERIAL: usize = 0;
 
 /// The word that has the last timestamp that was drawn.
 pub(crate) const PLACE_OF_CLOCK: usize = 1;
@@ -56,6 +53,14 @@ pub(crate) fn place_of_stamp(seats: u32, seat: u32) -> usize
     ensures { result ≡ stamps_word seats seat }
 {
     (2 + seats + seat) as usize
+}
+
+/// The word that has the number of a seat's last call with an entry.
+pub(crate) fn place_of_commit(seats: u32, seat: u32) -> usize
+    requires { (seats ≤ MOST_PASSES) × (seat < seats) }
+    ensures { result ≡ commits_word seats seat }
+{
+    2 + 18 * seats as usize + LOCKS as usize + seat as usize
 }
 
 /// The word that has a lock's version.

@@ -7,7 +7,7 @@ use std::marker::{Model, PhantomData};
 /// What a pass had seen when the note was taken.
 ///
 /// It may go to another thread. A pass that meets it has seen all that the note has, and whatever that pass commits
-/// later stands behind it in the history.
+/// later stands behind that in every arrangement.
 #[derive(Drop)]
 pub struct Note<S> {
     pub(crate) seat: Seat<(), View>,
@@ -39,7 +39,8 @@ impl Split<View> for GivesNote {
 pub(crate) struct MeetsNote;
 
 impl Join<View> for MeetsNote {
-    ghost use Rattle.locks_rule.specs.Joins.{after_note, spent_view};
+    ghost use Rattle.locks_rule.specs.Joins.{spent_view};
+    ghost use Rattle.locks_rule.specs.Joins.{after_note};
 
     ghost both = { after_note };
 

@@ -19,6 +19,7 @@ ghost use Rattle.word_table.specs.Versions.{HasUse};
 mod clock;
 mod locks;
 mod notes;
+mod uses;
 mod values;
 mod versions;
 
@@ -222,23 +223,7 @@ impl<S: Shape> Pass<S> {
         if u64::from(k) >= LOCKS || !bits::test(&self.locks.versions.used, k) {
             return None;
         }
-        Some(LockUse {
-            lock: k,
-            version: self.locks.versions.found[k as usize],
-            wrote: bits::test(&self.locks.versions.written, k),
-        })
-    }
-
-    /// The least lock from `from` on that the attempt has used. So who lists all uses goes on behind the last one.
-    pub fn next_use_from(&self, from: u32) -> Option<u32>
-        ensures least { IsLeast (λ k. (from ≤ k) × HasUse self.now.view k) result }
-        ensures lock { IfSome result (λ k. k < LOCKS) }
-    {
-        let used = &self.locks.versions.used;
-        if u64::from(from) >= LOCKS {
-            return None;
-        }
-        bits::least_from(used, from)
+        Some(self.locks.versions.use_at(k))
     }
 
     /// The least lock that the pass claims.

@@ -42,20 +42,16 @@ pub enum Step {
     StoreValue { seat: u32, word: u64, value: u64 },
     /// The newest note is written back.
     UndoStore { seat: u32, word: u64, old: u64 },
-    /// The counter of entries goes up by 1.
+    /// The call's number is stored to the own COMMITS word.
     CommitCall { seat: u32, kept: bool },
     /// 0 is stored to the own STAMPS word, and the call ends.
     ClearStamp { seat: u32 },
-    /// The counter of entries is loaded between calls: all that was committed is seen.
-    LoadSerial,
     /// The clock goes up by 1, and the call has a timestamp.
     DrawStamp { seat: u32 },
     /// The timestamp is stored to the own STAMPS word.
     AnnounceStamp { seat: u32 },
-    /// The timestamp of a seat that the call met is loaded.
+    /// The timestamp of a seat that the call met is loaded, and the attempt gives way where that is an earlier one.
     JudgeStamp { seat: u32, other: u32 },
-    /// The counter of entries is loaded, and the attempt gives way to the cause that is due.
-    LoadSerialAtYield { seat: u32 },
     /// The timestamp of the attempt's cause is loaded, which showed this one.
     LoadCauseStamp { seat: u32, other: u32, stamp: u64 },
     /// The version of a lock that is held is loaded, at the attempt's first use of the lock.
@@ -106,7 +102,7 @@ impl<A: Kind> Play<(), View> for Puts<A> {
     ghost use Rattle.std.specs.Prelude.{◌≡◌, ℕ, []};
     ghost use Rattle.word_table.specs.Kinds.{action_of, Took};
 
-    ghost then = { λ st me new after. (after ≡ ((action_of A.step me.0).view [] new, me.1)) × ((found : ℕ) × Took A.sound (action_of A.step me.0) me after found) };
+    ghost then = { λ st me new after. (after ≡ ((action_of A.step me.0).view new, me.1)) × ((found : ℕ) × Took A.sound (action_of A.step me.0) me after found) };
 }
 
 fn load_by<S: Shape, A: Kind>(
@@ -139,14 +135,14 @@ fn store_by<S: Shape, A: Kind>(
     requires table { (seat.old.table_id ≡ table.now.table_id) × (word < table.now.table_id.words) }
     requires kind { step.now ≡ A.step }
     requires action { let x : Action = action_of step.now seat.old.me.0 in (word ≡ x.at)
-        × ((h : List Entry) (w : ℕ) → x.view h w ≡ x.view [] new) }
+        × ((w : ℕ) → x.view w ≡ x.view new) }
     requires sound { (words : List ℕ) (views : List View)
         → GroundHolds S.word_count S.good table.now.key words views → A.sound words views }
     requires may { May (IsGood (S.word_count table.now.key.shape) (S.good table.now.key.shape))
         step.now seat.old.me.0 }
     requires stored { Stores (action_of step.now seat.old.me.0) seat.old.me.0 new }
     ensures seat { seat.new.table_id ≡ seat.old.table_id }
-    ensures view { seat.new.me ≡ ((action_of step.now seat.old.me.0).view [] new, seat.old.me.1) }
+    ensures view { seat.new.me ≡ ((action_of step.now seat.old.me.0).view new, seat.old.me.1) }
     ensures took { (found : ℕ)
         × Took A.sound (action_of step.now seat.old.me.0) seat.old.me seat.new.me found }
 {
@@ -226,12 +222,12 @@ pub(crate) fn store<S: Shape>(
 )
     requires table { (seat.old.table_id ≡ table.now.table_id) × (word < table.now.table_id.words) }
     requires action { let x : Action = action_of step.now seat.old.me.0 in (word ≡ x.at)
-        × ((h : List Entry) (w : ℕ) → x.view h w ≡ x.view [] new) }
+        × ((w : ℕ) → x.view w ≡ x.view new) }
     requires may { May (IsGood (S.word_count table.now.key.shape) (S.good table.now.key.shape))
         step.now seat.old.me.0 }
     requires stored { Stores (action_of step.now seat.old.me.0) seat.old.me.0 new }
     ensures seat { seat.new.table_id ≡ seat.old.table_id }
-    ensures view { seat.new.me ≡ ((action_of step.now seat.old.me.0).view [] new, seat.old.me.1) }
+    ensures view { seat.new.me ≡ ((action_of step.now seat.old.me.0).view new, seat.old.me.1) }
     ensures took { (found : ℕ)
         × Took (GroundHolds S.word_count S.good table.now.key) (action_of step.now seat.old.me.0)
         seat.old.me seat.new.me found }

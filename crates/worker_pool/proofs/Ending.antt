@@ -1,5 +1,5 @@
 -- What the workers leave, and the last round.
-use Rattle.std.proofs.Common.{◌≡◌, ℕ, zero, suc, ◌+◌, ◌*◌, ◌<◌, ◌≤◌, ◌==◌, Bool, true, false, if◌then◌else◌, All, List, [], ◌∷◌, map, set, length, get_or, refl}
+use Rattle.std.proofs.Common.{◌≡◌, ℕ, zero, suc, ◌+◌, ◌*◌, ◌<◌, ◌≤◌, ◌==◌, false, if◌then◌else◌, All, List, [], ◌∷◌, map, set, length, get_or, refl}
 use Rattle.std.proofs.Common.{sym, ap, ◌∙◌, subst, arith, Global, Vec, zero-add}
 use Rattle.std.specs.Prelude.{sum_by}
 use Rattle.std.specs.List.{range_with_len}
@@ -24,6 +24,7 @@ use Rattle.worker_pool.specs.Inner.Makers.{HasMade, RanScripts, RunsEach}
 use Rattle.worker_pool.specs.Inner.Takers.{dealt_to, had, IsDealtOut, Thieves}
 use Rattle.worker_pool.specs.Inner.Workers.{number_of, seat_of, share_of, AreAllDone, HasEndedItsPart, HasDoneItsPart, IsDone, Tally}
 use Rattle.worker_pool.proofs.Sums.{times_cons}
+use Rattle.worker_pool.proofs.Arranged.{length_without, none_without, times_without, without}
 use Rattle.worker_pool.proofs.Ended.{once_at_most}
 use mathlib.Core.List.{map-map}
 use Rattle.worker_pool.proofs.Gathered.{sum_over}
@@ -55,47 +56,6 @@ all_map P f xs each k y lt =
     let within : k < length xs = omega (arith, lt, length-map xs f) in
     let at = map_at f xs k y within in
     subst P (sym at.1) (each k at.0 within)
-
--- the rest of a list without the number n
-without : ℕ → List ℕ → List ℕ
-without n [] = []
-without n (x ∷ xs) = if x == n then without n xs else x ∷ without n xs
-
-length_if : (b : Bool) (x : ℕ) (xs : List ℕ) → length (if b then xs else x ∷ xs) + (if b then 1 else 0) ≡ length xs + 1
-length_if true x xs = refl
-length_if false x xs = omega arith
-
-times_if : (b : Bool) (x y : ℕ) (xs : List ℕ) → times x (if b then xs else y ∷ xs) ≤ (if y == x then 1 else 0) + times x xs
-times_if true x y xs = omega arith
-times_if false x y xs = omega (arith, times_cons x y xs)
-
-times_if_not : (b : Bool) (n y : ℕ) (xs : List ℕ) → b ≡ (y == n) → times n xs ≡ 0 → times n (if b then xs else y ∷ xs) ≡ 0
-times_if_not true n y xs e none = none
-times_if_not false n y xs e none = grind (arith, times_cons n y xs, e, none)
-
-length_without : (n : ℕ) (xs : List ℕ) → length (without n xs) + times n xs ≡ length xs
-unfolding without
-length_without n [] =
-    let none : times n [] ≡ 0 = refl in
-    let r : length {A = ℕ} [] + times n [] ≡ length {A = ℕ} [] = omega (arith, none) in
-    r
-length_without n (x ∷ xs) =
-    let r : length (if x == n then without n xs else x ∷ without n xs) + times n (x ∷ xs) ≡ suc (length xs) =
-    omega (arith, length_without n xs, times_cons n x xs, length_if (x == n) x (without n xs)) in
-    r
-
-times_without : (n x : ℕ) (xs : List ℕ) → times x (without n xs) ≤ times x xs
-unfolding without
-times_without n x [] = let r : times x [] ≤ times x [] = omega arith in r
-times_without n x (y ∷ ys) =
-    let r : times x (if y == n then without n ys else y ∷ without n ys) ≤ times x (y ∷ ys) =
-    omega (arith, times_without n x ys, times_cons x y ys, times_if (y == n) x y (without n ys)) in
-    r
-
-none_without : (n : ℕ) (xs : List ℕ) → times n (without n xs) ≡ 0
-unfolding without
-none_without n [] = refl
-none_without n (x ∷ xs) = times_if_not (x == n) n x (without n xs) refl (none_without n xs)
 
 below_more : (x n t : ℕ) → (x ≡ n → t ≡ 0) → t ≤ once_below x (suc n) → t ≤ once_below x n
 below_more x n t here le = grind (arith, nat_tests, here, le)

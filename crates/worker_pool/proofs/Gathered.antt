@@ -1,55 +1,35 @@
--- What all workers did, put together: the day.
-use Rattle.std.proofs.Common.{◌≡◌, ℕ, zero, suc, ◌+◌, ◌<◌, ◌≤◌, ◌&&◌, ◌==◌, List, [], ◌∷◌, ◌++◌, All, AllPairs, Contains, IsPermutation, map, flat_map, length}
-use Rattle.std.proofs.Common.{take, get_or, Some, count_by, nat_lt, if◌then◌else◌, refl, sym, ap, ◌∙◌, subst, arith, lt_of_not-le, cond, append-nil, zero-add}
+-- What all workers did, put together, share by share.
+use Rattle.std.proofs.Common.{◌≡◌, ℕ, zero, suc, ◌+◌, ◌<◌, ◌≤◌, ◌&&◌, ◌==◌, ◌↔◌, ◌⊎◌, inl, inr, ⊎_elim, List, [], ◌∷◌, ◌++◌, All, AllPairs, map, flat_map, length}
+use Rattle.std.proofs.Common.{get_or, slice_get, Some, count_by, nat_lt, refl, sym, ap, ◌∙◌, subst, arith, cond, length-append}
 use Rattle.std.specs.Prelude.{sum_by}
-use Rattle.std.specs.List.{range_with_len}
-use Rattle.std.specs.List.Sorted.{IsNonDecreasingBy}
-use Rattle.std.proofs.lemmas.List.{get_or-map, get_or_default, length-map, take_all}
 use Rattle.std.proofs.lemmas.List.Concat.{flat_map-cons}
 use Rattle.std.proofs.lemmas.List.Elements.{All-nil, All-append, All-head, All-map, All-tail, All-weaker}
-use Rattle.std.proofs.lemmas.List.FromFn.{get_or-range_with_len, length-range_with_len}
 use Rattle.std.proofs.lemmas.List.Kept.{AllPairs-cons}
-use Rattle.std.proofs.lemmas.List.Sorted.{All-permutation, Contains-permutation, IsPermutation-map, IsPermutation-sym, sum_by-IsPermutation}
 use Rattle.std.proofs.lemmas.List.Sums.{sum_by-append, sum_by-cons}
 use Rattle.std.proofs.lemmas.Option.{get_or_from_slice_get, slice_get-get_or, slice_get_within}
 use Rattle.std.proofs.lemmas.Bool.Decides.{nat_tests}
 use mathlib.Core.Logic.{dite}
-use native.Mathlib.Decide.{dec_le}
+use native.Mathlib.Decide.{dec_lt}
 use Rattle.history_model.specs.declared.entry.Entry.{Entry}
-use Rattle.history_model.specs.Fitting.{IsGood}
-use Rattle.history_model.specs.Histories.{replay}
-use Rattle.history_model.specs.Legal.{IsIn, IsPrefix, IsLegalHistory}
-use Rattle.books_model.specs.Laws.{RefusedChangesNothing}
+use Rattle.history_model.specs.Legal.{IsIn}
+use Rattle.values_rule.proofs.Members.{in_first, in_second}
 use Rattle.script_reader.specs.Input.{ClearingInput}
-use Rattle.script_reader.specs.Journal.{Place, IsPlace, IsJournal}
-use Rattle.books_report.specs.Output.{replies_of, books_after}
+use Rattle.script_reader.specs.Journal.{Place, IsPlace}
 use Rattle.txn_books.specs.declared.shape.BooksShape.{BooksShape}
-use Rattle.txn_books.specs.Layout.{words_of}
-use Rattle.txn_books.specs.Standing.{IsGoodFor, Stands}
-use Rattle.txn_commit.specs.Transactions.{GainsOthers}
-use Rattle.txn_commit.proofs.Others.{gains_history}
-use Rattle.word_table.specs.Closing.{AreOwnersAmong, ClosedView}
 use Rattle.word_table.specs.Copies.{PassView}
 use Rattle.word_table.specs.Desks.{DeskView}
 use Rattle.worker_pool.specs.declared.done.Done.{Done}
-use Rattle.worker_pool.specs.Counting.{times, once_below}
-use Rattle.worker_pool.specs.Days.{place_of_item, places_of_items, IsDay}
-use Rattle.worker_pool.specs.Inner.Makers.{serials_by, IsMade}
+use Rattle.worker_pool.specs.Counting.{once_below}
+use Rattle.worker_pool.specs.Days.{place_of_item, places_of_items}
+use Rattle.worker_pool.specs.Inner.Makers.{AreMadeBy}
 use Rattle.worker_pool.specs.Inner.Workers.{tally_number, IsDone, Tally}
-use Rattle.worker_pool.proofs.Serials.{serials-append, serials-others, serials_rise, serials_sum}
-use Rattle.worker_pool.proofs.Making.{made_stays}
-use Rattle.worker_pool.proofs.Orders.{in_order}
 use Rattle.worker_pool.proofs.Running.{among_had, one_if}
-use Rattle.worker_pool.proofs.Replayed.{beside, entries_of, legal_down, runs_to, AreMadeBy, RunsTo}
 
 abbrev pub items_of : Tally → List Done
 items_of tally = tally.share.done.items
 
 abbrev pub pass_of : Tally → PassView
 pass_of tally = tally.share.pass
-
-abbrev pub serial_of : Done → ℕ
-serial_of item = item.serial
 
 -- two lists of which each is in pairs, and each of the first with each of the second
 pairs-append : {X : Type 0} (R : X → X → Type 0) (xs ys : List X) → AllPairs R xs → AllPairs R ys → All (λ x. All (R x) ys) xs → AllPairs R (xs ++ ys)
@@ -90,28 +70,15 @@ all_flat P f [] all = All-nil P
 all_flat P f (x ∷ xs) all = subst (λ l. All P l) (sym (flat_map-cons f x xs))
     (All-append P (f x) (flat_map f xs) (All-head (λ y. All P (f y)) x xs all) (all_flat P f xs (All-tail (λ y. All P (f y)) x xs all)))
 
--- a number below a range is not in it, and each number in it stands there once
-times_later : (x a n : ℕ) → x < a → times x (range_with_len a n) ≡ 0
-times_later x a zero less = refl
-times_later x a (suc n) less =
-    grind (arith, times_later x (a + 1) n (omega arith), sum_by-cons (λ (y : ℕ). if y == x then 1 else 0) a (range_with_len (a + 1) n), less)
-
-times_range : (x a n : ℕ) → a ≤ x → x < a + n → times x (range_with_len a n) ≡ 1
-times_range x a zero le lt = absurd (omega arith)
-times_range x a (suc n) le lt = dite (dec_le x a)
-    (λ here. grind (arith, times_later x (a + 1) n (omega arith), sum_by-cons (λ (y : ℕ). if y == x then 1 else 0) a (range_with_len (a + 1) n), here, le))
-    (λ away. let more : a < x = lt_of_not-le away in
-    grind (arith, times_range x (a + 1) n (omega arith) (omega arith), sum_by-cons (λ (y : ℕ). if y == x then 1 else 0) a (range_with_len (a + 1) n), more))
-
 -- the pairs of a list of images
-pairs_map : {X Y : Type 0} (R : Y → Y → Type 0) (f : X → Y) (xs : List X) → AllPairs (λ x y. R (f x) (f y)) xs → AllPairs R (map f xs)
+pub pairs_map : {X Y : Type 0} (R : Y → Y → Type 0) (f : X → Y) (xs : List X) → AllPairs (λ x y. R (f x) (f y)) xs → AllPairs R (map f xs)
 pairs_map R f [] pairs = λ i j d lt short. absurd (omega arith)
 pairs_map R f (x ∷ xs) pairs = AllPairs-cons R (f x) (map f xs) (All-map (R (f x)) f xs (λ k d lt. pairs 0 (suc k) d (omega arith) (omega arith)))
     (pairs_map R f xs (λ i j d lt short. pairs (suc i) (suc j) d (omega arith) (omega arith)))
 
--- the order that the workers' lists keep
-abbrev InOrder : Done → Done → Type 0
-InOrder x y = x.caller ≡ y.caller → (x.index < y.index) × (x.serial < y.serial)
+-- the order that the workers' lists keep: of one caller the items rise, and are later and later calls of one seat
+abbrev pub InOrder : Done → Done → Type 0
+InOrder x y = x.caller ≡ y.caller → (x.index < y.index) × ((x.seat ≡ y.seat) × (x.call < y.call))
 
 -- a caller of whom the workers took all scripts once stands in one worker's list alone
 abbrev pub total_had : List Tally → ℕ → ℕ
@@ -157,118 +124,82 @@ in_order_all (w ∷ ws) pairs among once =
     (pairs-append InOrder w.share.done.items (flat_map items_of ws) (All-head (λ (v : Tally). AllPairs InOrder v.share.done.items) w ws pairs)
     (in_order_all ws (All-tail (λ (v : Tally). AllPairs InOrder v.share.done.items) w ws pairs) rest (λ x. omega (arith, once x, more x))) cross)
 
--- items in order, by the order of their serials
-module _ (old new : List Done) (moved : IsPermutation old new) (n : ℕ) (serials : map serial_of new ≡ range_with_len 1 n) (keeps : AllPairs InOrder old) where
-  serial_of_place : (k : ℕ) (d : Done) → k < length new → (get_or new k d).serial ≡ 1 + k
-  serial_of_place k d lt =
-      let long : length new ≡ n = sym (length-map new serial_of) ∙ ap length serials ∙ length-range_with_len 1 n in
-      sym (get_or-map serial_of new k d d.serial lt) ∙ ap (λ l. get_or l k d.serial) serials ∙ get_or-range_with_len 1 n k d.serial (omega (arith, long, lt))
+abbrev pub seen_by : Tally → List Entry
+seen_by tally = tally.share.pass.view.seen
 
-  found_in_old : (k : ℕ) (d : Done) → k < length new → Contains old (get_or new k d)
-  found_in_old k d lt = Contains-permutation new old (get_or new k d) (IsPermutation-sym old new moved) (k, lt, get_or_default new k (get_or new k d) d lt)
+-- what stands at a place of two lists that were put together: it stands in the first, or in the second
+pub either_place : {X Y : Type 0} (ps qs : List X) (us vs : List Y) → length ps ≡ length us → (k : ℕ) (x : X) (y : Y)
+    → slice_get (ps ++ qs) k ≡ Some x → slice_get (us ++ vs) k ≡ Some y
+    → ((slice_get ps k ≡ Some x) × (slice_get us k ≡ Some y))
+    ⊎ ((j : ℕ) × ((slice_get qs j ≡ Some x) × (slice_get vs j ≡ Some y)))
+either_place [] qs [] vs same k x y at_x at_y = inr (k, (at_x, at_y))
+either_place [] qs (u ∷ us) vs same k x y at_x at_y = absurd (omega (arith, same))
+either_place (p ∷ ps) qs [] vs same k x y at_x at_y = absurd (omega (arith, same))
+either_place (p ∷ ps) qs (u ∷ us) vs same zero x y at_x at_y = inl (at_x, at_y)
+either_place (p ∷ ps) qs (u ∷ us) vs same (suc k) x y at_x at_y = either_place ps qs us vs (omega (arith, same)) k x y at_x at_y
 
-  rising_indexes : AllPairs (λ (x y : Done). x.caller ≡ y.caller → x.index < y.index) new
-  rising_indexes i j d lt short same =
-      let x : Done = get_or new i d in
-      let y : Done = get_or new j d in
-      let at_x = found_in_old i d (omega (arith, lt, short)) in
-      let at_y = found_in_old j d short in
-      let sx : x.serial ≡ 1 + i = serial_of_place i d (omega (arith, lt, short)) in
-      let sy : y.serial ≡ 1 + j = serial_of_place j d short in
-      let is_x : get_or old at_x.0 x ≡ x = at_x.2 in
-      let is_y : get_or old at_y.0 y ≡ y = at_y.2 in
-      let y_by_x : get_or old at_y.0 x ≡ y = get_or_default old at_y.0 x y at_y.1 ∙ is_y in
-      let x_by_y : get_or old at_x.0 y ≡ x = get_or_default old at_x.0 y x at_x.1 ∙ is_x in
-      dite (dec_le at_y.0 at_x.0)
-      (λ le. dite (dec_le at_x.0 at_y.0)
-      (λ ge.
-      let place : at_x.0 ≡ at_y.0 = omega (arith, le, ge) in
-      let one : x ≡ y = sym is_x ∙ ap (λ k. get_or old k x) place ∙ y_by_x in
-      absurd (omega (arith, sx, sy, ap serial_of one, lt)))
-      (λ no.
-      let back = keeps at_y.0 at_x.0 y (omega (arith, lt_of_not-le no)) at_x.1 (ap (λ (z : Done). z.caller) is_y
-      ∙ sym same ∙ ap (λ (z : Done). z.caller) (sym x_by_y)) in
-      absurd (omega (arith, back.1, ap serial_of is_y, ap serial_of x_by_y, sx, sy, lt))))
-      (λ no.
-      let on = keeps at_x.0 at_y.0 x (omega (arith, lt_of_not-le no)) at_y.1 (ap (λ (z : Done). z.caller) is_x ∙ same
-      ∙ ap (λ (z : Done). z.caller) (sym y_by_x)) in
-      omega (arith, on.0, ap (λ (z : Done). z.index) is_x, ap (λ (z : Done). z.index) y_by_x))
+-- entries and items of two, put together
+made_both : (shape : BooksShape) (input : ClearingInput) (es fs : List Entry) (ds gs : List Done)
+    → AreMadeBy shape input es ds → AreMadeBy shape input fs gs → AreMadeBy shape input (es ++ fs) (ds ++ gs)
+made_both shape input es fs ds gs first second = record {
+  as_many = omega (arith, first.as_many, second.as_many, length-append ds gs, length-append es fs);
+  each = λ k x e at_x at_e. ⊎_elim (λ t. first.each k x e t.0 t.1) (λ t. second.each t.0 x e t.1.0 t.1.1)
+      (either_place ds gs es fs first.as_many k x e at_x at_e);
+}
 
-module _ (desk : DeskView BooksShape) (input : ClearingInput) (history : List Entry) (ws : List Tally)
-    (worked : All (IsDone desk input) ws) (numbers : map tally_number ws ≡ range_with_len 0 desk.seats)
-    (seen : (pass : PassView) → IsIn pass (map pass_of ws) → IsPrefix pass.view.seen history) (owners : AreOwnersAmong (map pass_of ws) history)
-    (legal : IsLegalHistory (IsGood (words_of desk.shape) (IsGoodFor desk.shape)) desk.seats desk.base history) where
-  number_at : (k : ℕ) (d : Tally) → k < length ws → tally_number (get_or ws k d) ≡ k
-  number_at k d lt =
-      let long : length ws ≡ desk.seats = sym (length-map ws tally_number) ∙ ap length numbers ∙ length-range_with_len 0 desk.seats in
-      sym (get_or-map tally_number ws k d (tally_number d) lt) ∙ ap (λ l. get_or l k (tally_number d)) numbers
-      ∙ get_or-range_with_len 0 desk.seats k (tally_number d) (omega (arith, long, lt)) ∙ zero-add k
+made_flat : (shape : BooksShape) (input : ClearingInput) (ws : List Tally)
+    → All (λ (w : Tally). AreMadeBy shape input (seen_by w) (items_of w)) ws
+    → AreMadeBy shape input (flat_map seen_by ws) (flat_map items_of ws)
+made_flat shape input [] all = record { as_many = refl; each = λ k x e at there. absurd (cc) }
+made_flat shape input (w ∷ ws) all =
+    subst (λ (l : List Entry). AreMadeBy shape input l (flat_map items_of (w ∷ ws))) (sym (flat_map-cons seen_by w ws))
+    (subst (λ (l : List Done). AreMadeBy shape input (seen_by w ++ flat_map seen_by ws) l) (sym (flat_map-cons items_of w ws))
+    (made_both shape input (seen_by w) (flat_map seen_by ws) (items_of w) (flat_map items_of ws)
+    (All-head (λ (v : Tally). AreMadeBy shape input (seen_by v) (items_of v)) w ws all)
+    (made_flat shape input ws (All-tail (λ (v : Tally). AreMadeBy shape input (seen_by v) (items_of v)) w ws all))))
 
-  pass_in : (k : ℕ) (d : Tally) → k < length ws → IsIn (get_or ws k d).share.pass (map pass_of ws)
-  pass_in k d lt =
-      let long : k < length (map pass_of ws) = omega (arith, lt, length-map ws pass_of) in
-      (k, slice_get-get_or (map pass_of ws) k d.share.pass long ∙ ap (λ p. Some p) (get_or-map pass_of ws k d d.share.pass lt))
+-- an entry is among those of all shares exactly where some pass has seen it
+in_append : {X : Type 0} (xs ys : List X) (x : X) → IsIn x (xs ++ ys) → IsIn x xs ⊎ IsIn x ys
+in_append [] ys x h = inr h
+in_append (z ∷ xs) ys x (zero, e) = inl (0, e)
+in_append (z ∷ xs) ys x (suc i, e) = ⊎_elim (λ t. inl (suc t.0, t.1)) (λ t. inr t) (in_append xs ys x (i, e))
 
-  -- all that a worker's pass had not seen is by others
-  rest_by_others : (k : ℕ) (d : Tally) → k < length ws → GainsOthers (tally_number (get_or ws k d)) (get_or ws k d).share.pass.view.seen history
-  rest_by_others k d lt =
-      let w : Tally = get_or ws k d in
-      gains_history (tally_number w) w.share.pass.view.seen history (seen w.share.pass (pass_in k d lt))
-      (λ q e le at same.
-      let owner = owners q e at in
-      let i : ℕ = owner.1.0 in
-      let within : i < length ws = omega (arith, slice_get_within (map pass_of ws) i owner.0 owner.1.1, length-map ws pass_of) in
-      let v : Tally = get_or ws i d in
-      let its : v.share.pass ≡ owner.0 = sym (get_or-map pass_of ws i d d.share.pass within)
-      ∙ get_or_from_slice_get (map pass_of ws) i owner.0 d.share.pass owner.1.1 in
-      let named : tally_number v ∷ [] ≡ e.who ∷ [] = sym (worked i d within).made.number_is ∙ ap (λ (p : PassView). p.view.who) its ∙ owner.2 in
-      let who : tally_number v ≡ e.who = cc in
-      let place : i ≡ k = sym (number_at i d within) ∙ who ∙ same ∙ number_at k d lt in
-      let mine : owner.0 ≡ w.share.pass = sym its ∙ ap (λ j. (get_or ws j d).share.pass) place in
-      omega (arith, owner.3, ap (λ (p : PassView). length p.view.seen) mine, le))
+pub seen_flat : (ws : List Tally) (e : Entry) → IsIn e (flat_map seen_by ws) ↔ ((pass : PassView) × (IsIn pass (map pass_of ws) × IsIn e pass.view.seen))
+seen_flat [] e = (λ h. absurd (cc (h.1)), λ h. absurd (cc (h.1.0.1)))
+seen_flat (w ∷ ws) e = (
+  λ h. ⊎_elim (λ t. (w.share.pass, ((0, refl), t)))
+      (λ t. let r = (seen_flat ws e).0 t in (r.0, ((suc r.1.0.0, r.1.0.1), r.1.1)))
+      (in_append (seen_by w) (flat_map seen_by ws) e (subst (λ (l : List Entry). IsIn e l) (flat_map-cons seen_by w ws) h)),
+  λ h. subst (λ (l : List Entry). IsIn e l) (sym (flat_map-cons seen_by w ws)) (back (λ p t s. (seen_flat ws e).1 (p, (t, s))) h.0 h.1.0 h.1.1),
+)
+  where
+    same_pass : (p q : PassView) → Some p ≡ Some q → p ≡ q
+    same_pass p q s = cc
 
-  serials_of : (k : ℕ) (d : Tally) → k < length ws → map serial_of (get_or ws k d).share.done.items ≡ serials_by (tally_number (get_or ws k d)) 1 history
-  serials_of k d lt =
-      let w : Tally = get_or ws k d in
-      let g = rest_by_others k d lt in
-      let n : ℕ = 1 + length w.share.pass.view.seen in
-      (worked k d lt).made.serials
-      ∙ sym (append-nil (serials_by (tally_number w) 1 w.share.pass.view.seen))
-      ∙ ap (λ l. serials_by (tally_number w) 1 w.share.pass.view.seen ++ l) (sym (serials-others (tally_number w) n g.others g.by_others))
-      ∙ sym (serials-append (tally_number w) 1 n w.share.pass.view.seen g.others refl)
-      ∙ ap (serials_by (tally_number w) 1) (sym g.seen)
+    back : ((p : PassView) → IsIn p (map pass_of ws) → IsIn e p.view.seen → IsIn e (flat_map seen_by ws))
+        → (p : PassView) → IsIn p (map pass_of (w ∷ ws)) → IsIn e p.view.seen → IsIn e (seen_by w ++ flat_map seen_by ws)
+    back rest p (zero, at) t = in_first (seen_by w) (flat_map seen_by ws) e
+        (subst (λ (q : PassView). IsIn e q.view.seen) (sym (same_pass w.share.pass p at)) t)
+    back rest p (suc i, at) t = in_second (seen_by w) (flat_map seen_by ws) e (rest p (i, at) t)
 
-  abbrev all_items : List Done
+module _ (desk : DeskView BooksShape) (input : ClearingInput) (ws : List Tally) (worked : All (IsDone desk input) ws) where
+  abbrev pub all_items : List Done
   all_items = flat_map items_of ws
 
-  each_seat_once : All (λ (e : Entry). times e.who (range_with_len 0 desk.seats) ≡ 1) history
-  each_seat_once k d lt = times_range (get_or history k d).who 0 desk.seats (omega arith)
-      (omega (arith, (legal.at k (get_or history k d) (slice_get-get_or history k d lt)).seat_below))
+  abbrev pub all_entries : List Entry
+  all_entries = flat_map seen_by ws
 
-  -- a sum over all serials
-  sum_serials : (m : ℕ → ℕ) → sum_by m (map serial_of all_items) ≡ sum_by m (range_with_len 1 (length history))
-  sum_serials m =
-      let by_worker : Tally → ℕ = λ w. sum_by (λ item. m (serial_of item)) w.share.done.items in
-      let by_seat : ℕ → ℕ = λ who. sum_by m (serials_by who 1 history) in
-      let each : All (λ w. by_worker w ≡ by_seat (tally_number w)) ws = λ k d lt.
-      sym (sum_over m serial_of (get_or ws k d).share.done.items) ∙ ap (sum_by m) (serials_of k d lt) in
-      sum_over m serial_of all_items ∙ counted_by (λ item. m (serial_of item)) items_of ws ∙ sum_alike by_worker (λ w. by_seat (tally_number w)) ws each
-      ∙ sym (sum_over by_seat tally_number ws) ∙ ap (sum_by by_seat) numbers ∙ serials_sum m 1 history (range_with_len 0 desk.seats) each_seat_once
+  pub made_all : AreMadeBy desk.shape input all_entries all_items
+  made_all = made_flat desk.shape input ws (λ k d lt. (worked k d lt).made.made)
 
-  made_all : All (IsMade desk.shape input history) all_items
-  made_all = all_flat (IsMade desk.shape input history) items_of ws (λ k d lt.
-      let w : Tally = get_or ws k d in
-      All-weaker (IsMade desk.shape input w.share.pass.view.seen) (IsMade desk.shape input history) (λ item made.
-      made_stays desk input w.share.pass.view.seen history (seen w.share.pass (pass_in k d lt)) item made) w.share.done.items (worked k d lt).made.made)
-
-  below_all : All (λ (item : Done). item.restarts < desk.seats) all_items
+  pub below_all : All (λ (item : Done). item.restarts < desk.seats) all_items
   below_all = all_flat (λ (item : Done). item.restarts < desk.seats) items_of ws (λ k d lt. (worked k d lt).made.below)
 
-  only_all : All (λ (item : Done). IsPlace input (place_of_item item)) all_items
+  pub only_all : All (λ (item : Done). IsPlace input (place_of_item item)) all_items
   only_all = all_flat (λ (item : Done). IsPlace input (place_of_item item)) items_of ws (λ k d lt. (worked k d lt).run.only)
 
   module _ (once : (x : ℕ) → total_had ws x ≡ once_below x (length input.callers)) where
-    once_all : (p : Place) → IsPlace input p → count_by (λ q. q.caller == p.caller && q.index == p.index) (places_of_items all_items) ≡ 1
+    pub once_all : (p : Place) → IsPlace input p → count_by (λ q. q.caller == p.caller && q.index == p.index) (places_of_items all_items) ≡ 1
     once_all p there =
         let test : Place → ℕ = λ q. cond (q.caller == p.caller && q.index == p.index) 1 0 in
         let by_worker : Tally → ℕ = λ w. sum_by (λ item. test (place_of_item item)) w.share.done.items in
@@ -279,19 +210,17 @@ module _ (desk : DeskView BooksShape) (input : ClearingInput) (history : List En
         sum_over test place_of_item all_items ∙ counted_by (λ item. test (place_of_item item)) items_of ws
         ∙ sum_alike by_worker (λ w. w.had p.caller) ws each ∙ once p.caller ∙ one
 
-    keeps_all : AllPairs InOrder all_items
+    pub keeps_all : AllPairs InOrder all_items
     keeps_all = in_order_all ws
-        (λ k d lt i j e less short same. (
+        (λ k d lt i j e less short same.
+        let w : Tally = get_or ws k d in
+        let items : List Done = w.share.done.items in
+        let made = (worked k d lt).made in
+        let early : i < length items = omega (arith, less, short) in
+        let first = made.numbers i (get_or items i e) (slice_get-get_or items i e early) in
+        let second = made.numbers j (get_or items j e) (slice_get-get_or items j e short) in (
           (worked k d lt).run.rising i j e less short same,
-          let w : Tally = get_or ws k d in
-              let up = serials_rise (tally_number w) 1 w.share.pass.view.seen in
-              let as_serials = (worked k d lt).made.serials in
-              let at : (x : ℕ) → x < length w.share.done.items
-              → get_or (serials_by (tally_number w) 1 w.share.pass.view.seen) x (serial_of e) ≡ serial_of (get_or w.share.done.items x e) = λ x within.
-              ap (λ l. get_or l x (serial_of e)) (sym as_serials) ∙ get_or-map serial_of w.share.done.items x e (serial_of e) within in
-              let long : length (serials_by (tally_number w) 1 w.share.pass.view.seen) ≡ length w.share.done.items =
-              sym (ap length as_serials) ∙ length-map w.share.done.items serial_of in
-              omega (arith, up i j (serial_of e) less (omega (arith, long, short)), at i (omega (arith, less, short)), at j short),
+          (made.seats i e early ∙ sym (made.seats j e short), omega (arith, first, second, less)),
         ))
         (λ k d lt. among_had input (get_or ws k d).had 0 (get_or ws k d).share.done.items (worked k d lt).run)
         (λ x. omega (arith, once x, below_one x))
@@ -299,48 +228,51 @@ module _ (desk : DeskView BooksShape) (input : ClearingInput) (history : List En
         below_one : (x : ℕ) → once_below x (length input.callers) ≤ 1
         below_one x = grind arith
 
-    module _ (refused : RefusedChangesNothing) (begun : IsGood (words_of desk.shape) (IsGoodFor desk.shape) desk.base)
-        (opening : Stands desk.shape desk.base input.books) (done : List Done)
-        (moved : IsPermutation all_items done) (up : IsNonDecreasingBy serial_of done) where
-      serials_sorted : map serial_of done ≡ range_with_len 1 (length history)
-      serials_sorted = in_order serial_of 1 (length history) done up (λ x.
-          sum_by-IsPermutation (λ (y : ℕ). if y == x then 1 else 0) (map serial_of all_items) (map serial_of done)
-          (IsPermutation-map serial_of all_items done moved)
-          ∙ sum_serials (λ (y : ℕ). if y == x then 1 else 0))
+-- of shares whose seats are numbered on from one, no two items have the same seat and call
+abbrev LaterCall : Done → Done → Type 0
+LaterCall x y = x.seat ≡ y.seat → x.call < y.call
 
-      made_sorted : All (IsMade desk.shape input history) done
-      made_sorted = All-permutation (IsMade desk.shape input history) all_items done moved made_all
+calls_apart : (desk : DeskView BooksShape) (input : ClearingInput) (ws : List Tally) (a : ℕ)
+    → ((k : ℕ) (d : Tally) → k < length ws → tally_number (get_or ws k d) ≡ a + k) → All (IsDone desk input) ws
+    → All (λ (item : Done). a ≤ item.seat) (flat_map items_of ws) × AllPairs LaterCall (flat_map items_of ws)
+calls_apart desk input [] a numbered each = (All-nil (λ (item : Done). a ≤ item.seat), λ i j d lt short. absurd (omega arith))
+calls_apart desk input (w ∷ ws) a numbered each =
+    let its = (All-head (IsDone desk input) w ws each).made in
+    let rest = calls_apart desk input ws (a + 1) (λ k d lt. omega (arith, numbered (suc k) d (omega arith)))
+    (All-tail (IsDone desk input) w ws each) in
+    let here : tally_number w ≡ a = omega (arith, numbered 0 w (omega arith)) in
+    let own : AllPairs LaterCall (items_of w) = λ i j d lt short seat.
+    omega (
+      arith,
+      its.numbers i (get_or (items_of w) i d) (slice_get-get_or (items_of w) i d (omega (arith, lt, short))),
+      its.numbers j (get_or (items_of w) j d) (slice_get-get_or (items_of w) j d short),
+      lt,
+    ) in
+    let cross : All (λ x. All (LaterCall x) (flat_map items_of ws)) (items_of w) = λ k d lt j e short seat.
+    absurd (omega (arith, its.seats k d lt, here, seat, rest.0 j e short)) in (
+      subst (λ l. All (λ (item : Done). a ≤ item.seat) l) (sym (flat_map-cons items_of w ws))
+          (All-append (λ (item : Done). a ≤ item.seat) (items_of w) (flat_map items_of ws) (λ k d lt. omega (arith, its.seats k d lt, here))
+          (All-weaker (λ (item : Done). a + 1 ≤ item.seat) (λ (item : Done). a ≤ item.seat) (λ item le. omega (arith, le)) (flat_map items_of ws) rest.0)),
+      subst (AllPairs LaterCall) (sym (flat_map-cons items_of w ws)) (pairs-append LaterCall (items_of w) (flat_map items_of ws) own rest.1 cross),
+    )
 
-      journal_sorted : IsJournal input (places_of_items done)
-      journal_sorted = record {
-        only = All-map (IsPlace input) place_of_item done (All-permutation (λ (item : Done). IsPlace input (place_of_item item)) all_items done moved only_all);
-        once = λ p there. sum_by-IsPermutation (λ (q : Place). cond (q.caller == p.caller && q.index == p.index) 1 0)
-            (places_of_items all_items) (places_of_items done) (IsPermutation-map place_of_item all_items done moved) ∙ once_all p there;
-        rising = pairs_map (λ (p q : Place). p.caller ≡ q.caller → p.index < q.index) place_of_item done
-            (rising_indexes all_items done moved (length history) serials_sorted keeps_all);
-      }
+-- of two places of a list in pairs, the first is related to the second, or the second to the first, or they are one
+pub by_place : {X : Type 0} (R : X → X → Type 0) (xs : List X) → AllPairs R xs → (p q : ℕ) (x y : X)
+    → slice_get xs p ≡ Some x → slice_get xs q ≡ Some y → p < q → R x y
+by_place {X = X} R xs all p q x y at_x at_y lt =
+    let within = slice_get_within xs q y at_y in
+    let here : get_or xs p x ≡ x = get_or_from_slice_get xs p x x at_x in
+    let there : get_or xs q x ≡ y = get_or_from_slice_get xs q y x at_y in
+    subst (λ (z : X). R z y) here (subst (λ (z : X). R (get_or xs p x) z) there (all p q x lt within))
 
-      abbrev pub closed_as : List ℕ → ClosedView BooksShape
-      closed_as words = record { base = desk.base; seats = desk.seats; shape = desk.shape; history = history; words = words }
-
-      pub day_is : (words : List ℕ) → words ≡ replay desk.base history → IsDay input (closed_as words) done
-      day_is words left =
-          let n : ℕ = length done in
-          let made_by : AreMadeBy desk.shape input history done = beside desk.shape input history done serials_sorted made_sorted in
-          let to : (k : ℕ) → k ≤ n → RunsTo desk.shape desk.base input history done k = runs_to refused desk.shape desk.base input history done opening
-          (legal_down (IsGood (words_of desk.shape) (IsGoodFor desk.shape)) desk.seats desk.base history begun legal) made_by in
-          let whole : take n done ≡ done = take_all n done (omega arith) in
-          let seen_all : take n history ≡ history =
-          take_all n history (omega (arith, made_by.as_many)) in
-          let end = to n (omega arith) in
-          let at_end : Stands desk.shape (replay desk.base history) (books_after input input.books (places_of_items done)) =
-          subst (λ (h : List Entry). Stands desk.shape (replay desk.base h) (books_after input input.books (places_of_items done))) seen_all
-          (subst (λ (l : List Done). Stands desk.shape (replay desk.base (take n history)) (books_after input input.books (places_of_items l))) whole end.stands) in
-          record {
-            entries = entries_of desk.shape input history done serials_sorted made_sorted;
-            journal = journal_sorted;
-            below = All-permutation (λ (item : Done). item.restarts < desk.seats) all_items done moved below_all;
-            replies = subst (λ (l : List Done). map (λ (item : Done). item.reply) l ≡ replies_of input input.books (places_of_items l)) whole end.replies;
-            stands = λ k le. (to k le).stands;
-            left = subst (λ w. Stands desk.shape w (books_after input input.books (places_of_items done))) (sym left) at_end;
-          }
+pub no_two_calls : (desk : DeskView BooksShape) (input : ClearingInput) (ws : List Tally)
+    → ((k : ℕ) (d : Tally) → k < length ws → tally_number (get_or ws k d) ≡ 0 + k) → All (IsDone desk input) ws
+    → (p q : ℕ) (x y : Done) → slice_get (flat_map items_of ws) p ≡ Some x → slice_get (flat_map items_of ws) q ≡ Some y
+    → x.seat ≡ y.seat → x.call ≡ y.call → p ≡ q
+no_two_calls desk input ws numbered each p q x y at_x at_y seat call =
+    let pairs = (calls_apart desk input ws 0 numbered each).1 in
+    dite (dec_lt p q)
+    (λ lt. absurd (omega (arith, by_place LaterCall (flat_map items_of ws) pairs p q x y at_x at_y lt seat, call)))
+    (λ no. dite (dec_lt q p)
+    (λ lt. absurd (omega (arith, by_place LaterCall (flat_map items_of ws) pairs q p y x at_y at_x lt (sym seat), call)))
+    (λ none. omega (arith, no, none)))

@@ -22,10 +22,8 @@ pub mod Yielded
 pub mod Apart
 -- new passes, one after another, and the workers that get them
 pub mod Seating
--- the serials of one seat's entries, and of all seats'
-pub mod Serials
--- a list that does not fall, and has the numbers of a range as often as the range, is the range
-pub mod Orders
+-- what stands at places, each of which stands there once
+pub mod Arranged
 -- a call of a pass, and its item
 pub mod Making
 -- one script more of a caller, and one caller more
@@ -36,6 +34,8 @@ pub mod Replayed
 pub mod Gathered
 -- of each caller all items are of one seat
 pub mod Wholes
+-- the items in the order that is rebuilt from their uses, beside their entries
+pub mod Printed
 -- all shares of a day, put together
 pub mod Ended
 -- what the workers leave, and the last round

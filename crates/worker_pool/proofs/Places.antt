@@ -1,5 +1,5 @@
 -- Lists by their places: one item changes, or one more comes.
-use Rattle.std.proofs.Common.{◌≡◌, ℕ, ◌<◌, List, [], ◌∷◌, ◌++◌, set, length, get_or, sym, refl, ap, ◌∙◌, subst, arith, length-append}
+use Rattle.std.proofs.Common.{◌≡◌, ℕ, suc, ◌+◌, ◌<◌, List, [], ◌∷◌, ◌++◌, set, length, get_or, slice_get, sym, refl, ap, ◌∙◌, subst, arith, length-append}
 use Rattle.std.proofs.lemmas.List.{get_or-set_other, get_or-set_same, get_or_append_left, get_or_push}
 use mathlib.Core.Logic.{dite}
 use native.Mathlib.Decide.{ℕ_discrete}
@@ -33,3 +33,12 @@ module _ {X Y : Type 0} (R : X → Y → Type 0) where
             ∙ get_or-set_same ys j y e (omega (arith, at, lt, long))) i,
       )) (one d))
       (λ off. subst (λ (z : Y). R (get_or xs k d) z) (sym (get_or-set_other ys j k y e off)) (each k d e lt))
+
+-- what stands at a place of the second part
+pub get_second : {A : Type 0} (xs ys : List A) (i : ℕ) → slice_get (xs ++ ys) (length xs + i) ≡ slice_get ys i
+get_second [] ys i = ap (λ (k : ℕ). slice_get ys k) (none i) where
+  none : (i : ℕ) → 0 + i ≡ i
+  none i = omega arith
+get_second (x ∷ xs) ys i = ap (λ (k : ℕ). slice_get (x ∷ (xs ++ ys)) k) (later (length xs) i) ∙ get_second xs ys i where
+  later : (n i : ℕ) → suc n + i ≡ suc (n + i)
+  later n i = omega arith

@@ -1,17 +1,14 @@
 -- Items in an order, each beside its entry: the interpreter, run down them, replies what they reply, and leaves the books
 -- for which the words stand that the entries leave.
-use Rattle.std.proofs.Common.{◌≡◌, ◌≢◌, ℕ, zero, suc, ◌+◌, ◌<◌, ◌≤◌, Bool, true, false, List, [], ◌∷◌, ◌++◌, All, map, length, take, get_or, slice_get, Some}
+use Rattle.std.proofs.Common.{◌≡◌, ◌≢◌, ℕ, zero, suc, ◌+◌, ◌<◌, ◌≤◌, Bool, true, false, List, [], ◌∷◌, ◌++◌, map, length, take, get_or, slice_get, Some}
 use Rattle.std.proofs.Common.{refl, sym, ap, ◌∙◌, subst, arith, true≢false}
-use Rattle.std.specs.List.{range_with_len}
-use Rattle.std.proofs.lemmas.List.{take_more, map_push, length-map, get_or-map}
-use Rattle.std.proofs.lemmas.List.FromFn.{get_or-range_with_len, length-range_with_len}
-use Rattle.std.proofs.lemmas.Option.{get_or_from_slice_get, slice_get-get_or, slice_get_within}
+use Rattle.std.proofs.lemmas.List.{take_more, map_push}
+use Rattle.std.proofs.lemmas.Option.{slice_get-get_or}
 use Rattle.history_model.specs.declared.entry.Entry.{Entry}
 use Rattle.history_model.specs.Histories.{replay}
 use Rattle.history_model.specs.Fitting.{IsGood}
-use Rattle.history_model.specs.Legal.{IsLegalHistory}
 use Rattle.history_model.specs.Traces.{IsLegalTrace, after}
-use Rattle.history_model.proofs.Histories.HistoryLaws.{prefixes_leave_good, replay_nothing}
+use Rattle.history_model.proofs.Histories.ReplayLaws.{replay_nothing}
 use Rattle.history_model.proofs.Histories.ReplayLaws.{replay_kept, replay_reverted}
 use Rattle.books_model.specs.declared.reply.Reply.{Reply}
 use Rattle.books_model.specs.declared.reply.Value.{Value}
@@ -29,8 +26,8 @@ use Rattle.txn_books.specs.Layout.{words_of}
 use Rattle.txn_books.specs.Standing.{IsGoodFor, Stands}
 use Rattle.txn_books.specs.Meaning.{is_done, ScriptMeans}
 use Rattle.worker_pool.specs.declared.done.Done.{Done}
-use Rattle.worker_pool.specs.Days.{place_of_item, places_of_items, AreEntriesOf}
-use Rattle.worker_pool.specs.Inner.Makers.{IsMade, IsMadeBy}
+use Rattle.worker_pool.specs.Days.{place_of_item, places_of_items}
+use Rattle.worker_pool.specs.Inner.Makers.{AreMadeBy}
 
 -- the replies with one more script
 pub replies_of-push : (input : ClearingInput) (books : ClearingBooks) (places : List Place) (p : Place)
@@ -61,20 +58,6 @@ after_one refused shape base entries e script answer books means stands = by_kep
 pub record IsLegalDown (good : List ℕ → Type 0) (base : List ℕ) (entries : List Entry) : Type 0 where
   pub trace_legal : (k : ℕ) (e : Entry) → slice_get entries k ≡ Some e → IsLegalTrace e.trace (replay base (take k entries))
   pub good_before : (k : ℕ) → good (replay base (take k entries))
-
--- so it is down a legal history
-pub legal_down : (good : List ℕ → Type 0) (n : ℕ) (base : List ℕ) (history : List Entry) → good base
-    → IsLegalHistory good n base history → IsLegalDown good base history
-legal_down good n base history begun legal = record {
-  trace_legal = λ k e at. (legal.at k e at).trace_legal;
-  good_before = prefixes_leave_good good n base history begun legal;
-}
-
--- each item was made by the entry beside it
-pub record AreMadeBy (shape : BooksShape) (input : ClearingInput) (entries : List Entry) (done : List Done) : Type 0 where
-  pub as_many : length done ≡ length entries
-  pub each : (k : ℕ) (item : Done) (entry : Entry) → slice_get done k ≡ Some item → slice_get entries k ≡ Some entry
-      → IsMadeBy shape input entry item
 
 -- the first items, as far as a place
 pub record RunsTo (shape : BooksShape) (base : List ℕ) (input : ClearingInput) (entries : List Entry) (done : List Done) (k : ℕ) : Type 0 where
@@ -119,35 +102,3 @@ module _ (refused : RefusedChangesNothing) (shape : BooksShape) (base : List ℕ
                 (subst (λ (h : List Entry). Stands shape (replay base h) (outcome_of script books).1) (sym left_by)
                 (after_one refused shape base (take k entries) e script x.reply books means prev.stands));
           }
-
--- items in the order of their serials stand beside their entries
-module _ (shape : BooksShape) (input : ClearingInput) (history : List Entry) (done : List Done)
-    (serials : map (λ (item : Done). item.serial) done ≡ range_with_len 1 (length history))
-    (made : All (IsMade shape input history) done) where
-  pub as_many : length done ≡ length history
-  as_many = sym (length-map done (λ (item : Done). item.serial)) ∙ ap length serials ∙ length-range_with_len 1 (length history)
-
-  serial_at : (k : ℕ) (d : Done) → k < length done → (get_or done k d).serial ≡ 1 + k
-  serial_at k d lt = sym (get_or-map (λ (item : Done). item.serial) done k d d.serial lt)
-      ∙ ap (λ l. get_or l k d.serial) serials ∙ get_or-range_with_len 1 (length history) k d.serial (omega (arith, as_many, lt))
-
-  place_at : (k : ℕ) (d : Done) (lt : k < length done) → (made k d lt).place ≡ k
-  place_at k d lt = omega (arith, (made k d lt).serial_is, serial_at k d lt)
-
-  entry_at : (k : ℕ) (d : Done) (lt : k < length done) → slice_get history k ≡ Some (made k d lt).entry
-  entry_at k d lt = subst (λ p. slice_get history p ≡ Some (made k d lt).entry) (place_at k d lt) (made k d lt).stands_at
-
-  pub beside : AreMadeBy shape input history done
-  beside = record {
-    as_many = as_many;
-    each = λ k item entry at entry_is.
-        let lt : k < length done = slice_get_within done k item at in
-        let same : get_or done k item ≡ item = get_or_from_slice_get done k item item at in
-        let found : Some (made k item lt).entry ≡ Some entry = sym (entry_at k item lt) ∙ entry_is in
-        let its : (made k item lt).entry ≡ entry = cc in
-        subst (λ (x : Done). IsMadeBy shape input entry x) same
-        (subst (λ (e : Entry). IsMadeBy shape input e (get_or done k item)) its (made k item lt).made_by);
-  }
-
-  pub entries_of : AreEntriesOf done history
-  entries_of = record { serials = serials; each = λ k item entry at entry_is. (beside.each k item entry at entry_is).is_of }

@@ -7,7 +7,7 @@ use Rattle.std.proofs.lemmas.Option.{get_or_from_slice_get}
 use Rattle.history_model.specs.Views.{number}
 use Rattle.locks_rule.specs.Splits.{opening_view}
 use Rattle.txn_books.specs.declared.shape.BooksShape.{BooksShape}
-use Rattle.txn_commit.proofs.Others.{get_second}
+use Rattle.worker_pool.proofs.Places.{get_second}
 use Rattle.word_table.specs.Copies.{PassView}
 use Rattle.word_table.specs.Desks.{DeskView}
 use Rattle.worker_pool.specs.declared.worker.Worker.{Worker}

@@ -1,10 +1,9 @@
 -- Of each caller all items are of one seat.
-use Rattle.std.proofs.Common.{◌≡◌, ℕ, ◌+◌, ◌<◌, ◌≤◌, List, [], ◌∷◌, All, IsPermutation, flat_map, get_or, slice_get, Some, nat_lt, if◌then◌else◌, sym, ap, ◌∙◌}
+use Rattle.std.proofs.Common.{◌≡◌, ℕ, ◌+◌, ◌<◌, ◌≤◌, List, [], ◌∷◌, All, flat_map, get_or, slice_get, Some, nat_lt, if◌then◌else◌, sym, ap, ◌∙◌}
 use Rattle.std.proofs.Common.{subst, arith}
 use Rattle.std.proofs.lemmas.Bool.Decides.{nat_tests}
 use Rattle.std.proofs.lemmas.List.Concat.{flat_map-cons}
 use Rattle.std.proofs.lemmas.List.Elements.{All-append, All-head, All-nil, All-tail}
-use Rattle.std.proofs.lemmas.List.Sorted.{All-permutation}
 use Rattle.std.proofs.lemmas.List.Sums.{sum_by-cons}
 use Rattle.std.proofs.lemmas.Option.{get_or_from_slice_get, slice_get_within}
 use Rattle.script_reader.specs.Input.{ClearingInput}
@@ -57,14 +56,14 @@ at_place P done all k x is = subst P (get_or_from_slice_get done k x x is) (all 
 
 -- all items of a day, in whatever order
 pub callers_whole : (desk : DeskView BooksShape) (input : ClearingInput) (ws : List Tally) → All (IsDone desk input) ws
-    → ((x : ℕ) → total_had ws x ≤ 1) → (done : List Done) → IsPermutation (flat_map items_of ws) done
-    → AreCallersWhole done
+    → ((x : ℕ) → total_had ws x ≤ 1) → (done : List Done)
+    → ((P : Done → Type 0) → All P (flat_map items_of ws) → All P done) → AreCallersWhole done
 callers_whole desk input ws each once done moved =
     let f : ℕ → ℕ = seat_by ws in
     let all = by_seat ws (λ k d lt. (each k d lt).made.seats)
     (λ k d lt. among_had input (get_or ws k d).had 0 (get_or ws k d).share.done.items (each k d lt).run) once in
     let kept : All (λ (item : Done). item.seat ≡ f item.caller) done =
-    All-permutation (λ (item : Done). item.seat ≡ f item.caller) (flat_map items_of ws) done moved all in
+    moved (λ (item : Done). item.seat ≡ f item.caller) all in
     λ j k x y at_j at_k same.
     at_place (λ (item : Done). item.seat ≡ f item.caller) done kept j x at_j ∙ ap f same
     ∙ sym (at_place (λ (item : Done). item.seat ≡ f item.caller) done kept k y at_k)

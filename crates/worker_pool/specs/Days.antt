@@ -1,9 +1,12 @@
 -- What all workers of a day did together.
-use Rattle.std.specs.Prelude.{◌≡◌, ◌≤◌, ◌<◌, ℕ, List, [], ◌∷◌, map, length, take, All, Some, slice_get}
-use Rattle.std.specs.List.{range_with_len}
+use Rattle.std.specs.Prelude.{◌≡◌, ◌↔◌, ◌≤◌, ◌<◌, ℕ, List, [], ◌∷◌, map, length, take, All, Some, slice_get}
 use Rattle.history_model.specs.declared.entry.Entry.{Entry}
+use Rattle.history_model.specs.declared.placed.Spot.{Spot}
 use Rattle.history_model.specs.Histories.{replay}
+use Rattle.history_model.specs.Legal.{IsIn}
+use Rattle.history_model.specs.Traces.{IsLegalTrace}
 use Rattle.locks_rule.specs.Splits.{opening_view}
+use Rattle.order_rebuild.specs.Order.{IsOrder, Orderable}
 use Rattle.word_table.specs.Closing.{ClosedView}
 use Rattle.word_table.specs.Copies.{PassView}
 use Rattle.word_table.specs.Desks.{DeskView}
@@ -36,22 +39,46 @@ pub record IsEntryOf (item : Done) (entry : Entry) : Type 0 where
   pub restarts_are : length entry.abandoned ≡ item.restarts
   pub uses_are : ListsUses entry.uses item.uses.items
 
--- the history has an entry for each item, at the place that its serial says, and no other
-pub record AreEntriesOf (done : List Done) (history : List Entry) : Type 0 where
-  pub serials : map (λ item. item.serial) done ≡ range_with_len 1 (length history)
-  pub each : (k : ℕ) (item : Done) (entry : Entry) → slice_get done k ≡ Some item → slice_get history k ≡ Some entry → IsEntryOf item entry
+-- the entries are those of the items, one beside the other
+pub record AreEntriesOf (done : List Done) (entries : List Entry) : Type 0 where
+  pub as_many : length done ≡ length entries
+  pub each : (k : ℕ) (item : Done) (entry : Entry) → slice_get done k ≡ Some item → slice_get entries k ≡ Some entry → IsEntryOf item entry
+
+-- what the order of items is made by: an item's caller, its place among the caller's scripts, and its uses
+abbrev pub spot_of : Done → Spot
+spot_of item = record { caller = item.caller; index = item.index; uses = item.uses.items }
+
+-- the second list is what stands at the places in the first
+pub record AreAt {X : Type 0} (xs : List X) (places : List ℕ) (ys : List X) : Type 0 where
+  pub count : length ys ≡ length places
+  pub each : (i p : ℕ) → slice_get places i ≡ Some p → slice_get ys i ≡ slice_get xs p
+
+-- the items stand in the order that is rebuilt from what they used
+pub record IsRebuilt (done : List Done) : Type 0 where
+  pub given : List Done
+  pub places : List ℕ
+  pub orderable : Orderable (map spot_of given)
+  pub order : IsOrder (map spot_of given) places
+  pub are : AreAt given places done
 
 -- each caller was run whole by one worker: any two items of one caller are of one seat
 abbrev pub AreCallersWhole : List Done → Type 0
 AreCallersWhole done = (j k : ℕ) (x y : Done) → slice_get done j ≡ Some x → slice_get done k ≡ Some y → x.caller ≡ y.caller → x.seat ≡ y.seat
 
--- a day of the input, over a table that is closed: its items in the order of their serials are a journal with the replies
--- of the interpreter; each has its entry; and before and after each item the words stand for the books of the interpreter
+-- a day of the input, over a table that is closed: its items, in the order that is rebuilt from their uses, are a journal
+-- with the replies of the interpreter; the closed records are their entries; down these each trace is legal, and before
+-- and after each item the words stand for the books of the interpreter
 pub record IsDay (input : ClearingInput) (closed : ClosedView BooksShape) (done : List Done) : Type 0 where
-  pub entries : AreEntriesOf done closed.history
+  pub rebuilt : IsRebuilt done
+  pub entries : List Entry
+  pub of_items : AreEntriesOf done entries
+  pub of_records : (e : Entry) → IsIn e entries ↔ IsIn e closed.records
+  pub distinct : (j k : ℕ) (x y : Done) → slice_get done j ≡ Some x → slice_get done k ≡ Some y → x.seat ≡ y.seat → x.call ≡ y.call → j ≡ k
+  pub legal : (k : ℕ) (e : Entry) → slice_get entries k ≡ Some e → IsLegalTrace e.trace (replay closed.base (take k entries))
+  pub words : closed.words ≡ replay closed.base entries
   pub journal : IsJournal input (places_of_items done)
   pub below : All (λ item. item.restarts < closed.seats) done
   pub replies : map (λ item. item.reply) done ≡ replies_of input input.books (places_of_items done)
   pub stands : (k : ℕ) → k ≤ length done
-      → Stands closed.shape (replay closed.base (take k closed.history)) (books_after input input.books (places_of_items (take k done)))
+      → Stands closed.shape (replay closed.base (take k entries)) (books_after input input.books (places_of_items (take k done)))
   pub left : Stands closed.shape closed.words (books_after input input.books (places_of_items done))

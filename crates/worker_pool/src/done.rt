@@ -16,8 +16,6 @@ pub struct Done {
     pub seat: u32,
     /// Which of the seat's calls it was, from 1.
     pub call: u32,
-    /// Its place among all scripts, from 1.
-    pub serial: u64,
     /// What it used: each lock once, by rising lock, with the version that it found there and whether a write of it stands.
     pub uses: Vec<LockUse>,
     /// How often it gave way before it was committed.
@@ -44,7 +42,7 @@ impl Placed for Done {
     }
 }
 
-/// What a day came to: its items in the order of their serials, and the closed table.
+/// What a day came to: its items in the order in which they are printed, and the closed table.
 #[derive(Drop)]
 pub struct DayEnd {
     pub done: Vec<Done>,

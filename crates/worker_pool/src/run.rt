@@ -1,17 +1,16 @@
 //! All workers of a day: a thread for each pass, and what they leave.
 
-ghost use Rattle.std.specs.Prelude.{ℕ, ◌≡◌, ◌<◌, ◌≤◌, ◌+◌, ◌*◌, ◌++◌, ◌∷◌, [], length, map, flat_map, All, false, IfOk, OnOk};
+ghost use Rattle.std.specs.Prelude.{ℕ, ◌≡◌, ◌<◌, ◌≤◌, ◌+◌, ◌*◌, ◌++◌, ◌∷◌, [], length, map, flat_map, slice_get, All, Some, false, IfOk, OnOk};
 ghost use Rattle.std.specs.List.{range_with_len};
 ghost use Rattle.crossbeam_utils.specs.Padded.{padded_value};
 ghost use Rattle.history_model.specs.Fitting.{IsGood};
-ghost use Rattle.history_model.specs.Histories.{replay};
-ghost use Rattle.history_model.specs.Legal.{IsLegalHistory};
 ghost use Rattle.script_reader.specs.declared.limits.TheConstants.{MOST_CALLERS, MOST_SCRIPTS};
 ghost use Rattle.txn_books.specs.Layout.{shape_of, words_of};
 ghost use Rattle.txn_books.specs.Standing.{IsGoodFor, Stands, StandsFor};
 ghost use Rattle.worker_pool.specs.declared.rule.TheConstants.{ALL_PARTS};
 ghost use Rattle.worker_pool.specs.Counting.{times};
-ghost use Rattle.worker_pool.specs.Days.{AreAllNew, AreCallersWhole, IsDay};
+ghost use Rattle.worker_pool.specs.Days.{AreAllNew, AreAt, AreCallersWhole, IsDay};
+ghost use Rattle.word_table.specs.Closing.{AreRecords, IsCoherent, IsLegalInEachOrder};
 ghost use Rattle.worker_pool.specs.Inner.Dealing.{AreDealtInTurn, AreShown, IsFree, IsNewRow};
 ghost use Rattle.worker_pool.specs.Inner.Makers.{HasMade, RunsEach};
 ghost use Rattle.worker_pool.specs.Inner.Takers.{dealt_to, IsDealtOut};
@@ -27,6 +26,7 @@ use crate::workshop::Workshop;
 use books_model::laws::refused_changes_nothing;
 use crossbeam_utils::CachePadded;
 use io_ends::OutOfMemory;
+use order_rebuild::order_of;
 use script_reader::Input;
 use std::alloc::Global;
 use std::sync::Wait;
@@ -289,7 +289,28 @@ fn join_shares(
     Ok((passes, all))
 }
 
-// Closes the table and puts the items in the order of their serials.
+// The items at the places, in their order.
+fn arrange(alloc: Global, done: Vec<Done>, places: &[usize]) -> Result<Vec<Done>, OutOfMemory>
+    requires within { (i p : ℕ) → slice_get places.now i ≡ Some p → p < length done.items }
+    requires once { (i j p : ℕ) → slice_get places.now i ≡ Some p
+        → slice_get places.now j ≡ Some p → i ≡ j }
+    ensures { IfOk result (λ arranged. AreAt done.items places.now arranged.items) }
+{
+    let mut left = Vec::with_capacity(alloc, done.len())?;
+    for item in done {
+        left.push(Some(item))?;
+    }
+    let mut arranged = Vec::with_capacity(alloc, places.len())?;
+    for &place in places {
+        let Some(item) = left[place].take() else {
+            unreachable!()
+        };
+        arranged.push(item)?;
+    }
+    Ok(arranged)
+}
+
+// Closes the table, and puts the items in the order that is rebuilt from what they used.
 fn end_day(
     alloc: Global,
     desk: Desk<BooksShape>,
@@ -300,21 +321,22 @@ fn end_day(
     requires stands { Stands desk.shape desk.base input.now.books }
     ensures desk { IfOk result (λ day. (day.closed.base ≡ desk.base)
         × (day.closed.seats ≡ desk.seats) × (day.closed.shape ≡ desk.shape)) }
-    ensures legal { IfOk result (λ day. IsLegalHistory
-        (IsGood (words_of desk.shape) (IsGoodFor desk.shape))
-        desk.seats desk.base day.closed.history) }
-    ensures words { IfOk result (λ day.
-        day.closed.words ≡ replay day.closed.base day.closed.history) }
+    ensures coherent { IfOk result (λ day. IsCoherent
+        (IsGood (words_of desk.shape) (IsGoodFor desk.shape)) day.closed) }
+    ensures legal { IfOk result (λ day. IsLegalInEachOrder
+        (IsGood (words_of desk.shape) (IsGoodFor desk.shape)) day.closed) }
+    ensures records { IfOk result (λ day. AreRecords day.closed) }
     ensures day { IfOk result (λ day. IsDay input.now day.closed day.done.items) }
     ensures whole { IfOk result (λ day. AreCallersWhole day.done.items) }
 {
     refused_changes_nothing();
     desk.began_good();
-    let (passes, mut done) = join_shares(alloc, shares)?;
+    let (passes, done) = join_shares(alloc, shares)?;
     let Ok(closed) = desk.close(alloc, passes) else {
         return Err(OutOfMemory);
     };
-    done.sort_unstable_by_key(|item| item.serial);
+    let places = order_of(alloc, done.as_slice())?;
+    let done = arrange(alloc, done, places.as_slice())?;
     Ok(DayEnd { done, closed })
 }
 
@@ -337,14 +359,13 @@ pub fn run_callers<R: Threads + Wait + Sync, G: Gate>(
     // The table of the day is that of the desk, closed.
     ensures desk { IfOk result (λ day. (day.closed.base ≡ desk.base)
         × (day.closed.seats ≡ desk.seats) × (day.closed.shape ≡ desk.shape)) }
-    // Opacity of all that the workers did.
-    ensures legal { IfOk result (λ day. IsLegalHistory
-        (IsGood (words_of desk.shape) (IsGoodFor desk.shape))
-        desk.seats desk.base day.closed.history) }
-    // What the table holds at the end is the replay of its history.
-    ensures words { IfOk result (λ day.
-        day.closed.words ≡ replay day.closed.base day.closed.history) }
-    // One serial history of all scripts, and what the interpreter says of it.
+    // What was committed, with all attempts that gave way, has an arrangement, and each arrangement is a legal history.
+    ensures coherent { IfOk result (λ day. IsCoherent
+        (IsGood (words_of desk.shape) (IsGoodFor desk.shape)) day.closed) }
+    ensures legal { IfOk result (λ day. IsLegalInEachOrder
+        (IsGood (words_of desk.shape) (IsGoodFor desk.shape)) day.closed) }
+    ensures records { IfOk result (λ day. AreRecords day.closed) }
+    // One order of all scripts, and what the interpreter says of it.
     ensures day { IfOk result (λ day. IsDay input.now day.closed day.done.items) }
     // Each caller was run whole by one worker.
     ensures whole { IfOk result (λ day. AreCallersWhole day.done.items) }

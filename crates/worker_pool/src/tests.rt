@@ -186,7 +186,6 @@ fn an_item_shows_its_place_among_calls(rt: HostRuntime) -> Result<(), Fail> {
         index: 4,
         seat: 1,
         call: 2,
-        serial: 9,
         uses: vec![in rt.alloc(); used]?,
         restarts: 0,
         reply: Reply::Full(1),

@@ -76,7 +76,6 @@ fn run_script<R: Wait, G: Gate>(
         index,
         seat: pass.who(),
         call: receipt.call,
-        serial: receipt.serial,
         uses: receipt.uses,
         restarts: receipt.restarts,
         reply: receipt.answer,

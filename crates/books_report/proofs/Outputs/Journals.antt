@@ -22,13 +22,13 @@ take_next xs i x h = take_more xs i x (slice_get_within xs i x h) ∙ ap (λ y. 
 abbrev pub spaced_word : Value → List ℕ
 spaced_word v = SPACE ∷ value_word v
 
--- one more value is written, and the others are left
-pub value_next : (whole before now : List ℕ) (values left : List Value) (v : Value)
-    → before ++ flat_map spaced_word values ≡ whole → values ≡ v ∷ left → now ≡ before ++ spaced_word v → now ++ flat_map spaced_word left ≡ whole
-value_next whole before now values left v so_far next written =
-    ap (λ text. text ++ flat_map spaced_word left) written
-    ∙ append_assoc before (spaced_word v) (flat_map spaced_word left)
-    ∙ sym (ap (λ vs. before ++ flat_map spaced_word vs) next)
+-- one more piece is written, and the others are left
+pub piece_next : {A : Type 0} (piece : A → List ℕ) (whole before now : List ℕ) (items left : List A) (x : A)
+    → before ++ flat_map piece items ≡ whole → items ≡ x ∷ left → now ≡ before ++ piece x → now ++ flat_map piece left ≡ whole
+piece_next piece whole before now items left x so_far next written =
+    ap (λ text. text ++ flat_map piece left) written
+    ∙ append_assoc before (piece x) (flat_map piece left)
+    ∙ sym (ap (λ xs. before ++ flat_map piece xs) next)
     ∙ so_far
 
 -- words joined to a first one, each with a space in front

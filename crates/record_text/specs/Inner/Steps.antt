@@ -1,5 +1,4 @@
 -- What the steps of the plain interpreter come to.
-use Rattle.std.specs.Prelude.{ℕ}
 use Rattle.record_text.specs.declared.reply.RecordReply.{RecordReply}
 use Rattle.record_text.specs.declared.reply.RecordReply.TheVariants as reply
 use Rattle.record_text.specs.declared.store.Outcome.{Outcome}

@@ -1,99 +1,78 @@
--- A commit, kept or not, keeps the value invariant: the history has one legal entry more, and what it leaves is what the
--- words are with the other seats' notes written back.
-use Rattle.std.proofs.Common.{◌≡◌, ◌≢◌, ℕ, ◌+◌, ◌^◌, ◌<◌, ◌≤◌, Bool, true, false, ◌⊎◌, inl, inr, ⊎_elim, List, [], ◌∷◌, ◌++◌, length, Some, None, slice_get}
-use Rattle.std.proofs.Common.{slice_index, slice_set, refl, sym, ap, ◌∙◌, subst, arith, get_or-set_other, get_or-set_same, length-append, if◌then◌else◌}
-use Rattle.std.proofs.lemmas.List.{append_assoc, append-nil, take-append-le, take_all}
+-- A commit, kept or not, keeps the value invariant: an arrangement with the new entry at its end is one, and what the items
+-- leave is what the words are with the other seats' notes written back.
+use Rattle.std.proofs.Common.{◌≡◌, ◌≢◌, ℕ, ◌<◌, Bool, true, false, ◌&&◌, ◌⊎◌, inl, inr, ⊎_elim, List, [], ◌∷◌, ◌++◌, length, Some, None, slice_get}
+use Rattle.std.proofs.Common.{slice_set, refl, sym, ap, ◌∙◌, subst, arith, get_or-set_other, if◌then◌else◌}
+use Rattle.std.proofs.lemmas.Bool.{and_parts}
 use mathlib.Core.Logic.{dite}
 use native.Mathlib.Decide.{ℕ_discrete}
 use Rattle.history_model.specs.declared.entry.Entry.{Entry}
-use Rattle.history_model.specs.declared.view.Old.{Old}
+use Rattle.history_model.specs.declared.item.Item.{Item}
 use Rattle.history_model.specs.declared.view.View.{View}
-use Rattle.history_model.specs.declared.view.Phase.{Phase}
-use Rattle.history_model.specs.declared.view.Phase.TheVariants.{Idle, Running, Yielding, Withdrawing, Releasing}
+use Rattle.history_model.specs.declared.view.Phase.TheVariants.{Idle, Running, Releasing}
+use Rattle.history_model.specs.Arrangements.{MayStandLast, Adds, RaisesVersions}
 use Rattle.history_model.specs.Counts.{is_attempt, is_open}
-use Rattle.history_model.specs.Histories.{replay}
-use Rattle.history_model.specs.Legal.{IsIn, IsPrefix, AreAttemptsLegal, IsLegalEntry, IsLegalHistory}
+use Rattle.history_model.specs.Items.{Uses}
+use Rattle.history_model.specs.Legal.{IsIn}
 use Rattle.history_model.specs.Locks.{lock_of_word}
 use Rattle.history_model.specs.Sets.{has, flag}
-use Rattle.history_model.specs.Table.{Knows, history_of, serial_word, calls_word, value_word}
+use Rattle.history_model.specs.Table.{Knows, serial_word, commits_word}
 use Rattle.history_model.specs.Traces.{IsLegalTrace, Writes, after, value_after}
 use Rattle.history_model.specs.Undoing.{Notes}
-use Rattle.history_model.specs.Views.{number, IsGranted}
+use Rattle.history_model.specs.Views.{number, HasWriteGrant, IsGranted}
 use Rattle.history_model.proofs.Traces.EndEvents.{last_event, touched_if_written}
-use Rattle.history_model.proofs.Histories.HistoryLaws.{agree_longer, attempts_agree, attempts_wider, one_more_is_legal, replay_is_good}
-use Rattle.history_model.proofs.ListPlaces.{get_first, get_cases}
+use Rattle.history_model.proofs.Items.ItemEnds.{ends_agree, ends_arranged, ends_moved}
+use Rattle.history_model.proofs.Items.ItemValues.{wrote_some}
 use Rattle.history_model.proofs.Traces.LastEvents.{get-after-value_after, last_from_touched, unwritten_stays}
 use Rattle.history_model.proofs.Views.Places.{same_view, put_here, put_there, put_cases}
-use Rattle.history_model.proofs.Histories.ReplayLaws.{replay_last, length-replay}
-use Rattle.history_model.proofs.SetLemmas.{differ, has-join_same}
-use Rattle.history_model.proofs.TableLaws.{seen_at_most}
+use Rattle.history_model.proofs.SetLemmas.{differ, has-join_same, has-nil}
 use Rattle.history_model.proofs.Traces.TraceAgree.{legal_agree}
 use Rattle.locks_rule.specs.Locks.{LocksHold, IsSeat}
-use Rattle.locks_rule.specs.Versions.{locks_of}
-use Rattle.locks_rule.proofs.Counting.{calls_below-same}
-use Rattle.locks_rule.proofs.Own.{Own, own}
-use Rattle.values_rule.specs.Keeping.{KeepsValueRule}
-use Rattle.values_rule.specs.Steps.{MayCommitCall, entry_of, commit_call_action}
-use Rattle.values_rule.specs.Values.{value_at, oldest, SeenPrefixes, HistoryLegal, CallsCounted, UndoRestores, TraceCurrent, FloorAndAbandoned, ValuesHold}
-use Rattle.values_rule.proofs.Counting.{history_is, open_count-set}
-use Rattle.values_rule.proofs.Frames.{shut_out}
+use Rattle.values_rule.specs.Values.{value_at, oldest, UndoRestores, TraceCurrent}
 use Rattle.values_rule.proofs.Notes.{oldest-nil, option_cases, is_missing}
-
-pub attempt_open : (p : Phase) → is_attempt p ≡ true → is_open p ≡ true
-attempt_open Idle t = absurd (cc)
-attempt_open Running t = refl
-attempt_open Yielding t = absurd (cc)
-attempt_open Withdrawing t = refl
-attempt_open Releasing t = absurd (cc)
-
-pub attempt_begun : (p : Phase) → is_attempt p ≡ true → p ≢ Idle
-attempt_begun p t e = let z : true ≡ false = sym t ∙ ap is_attempt e in cc
+use Rattle.values_rule.proofs.Stores.{shut_out}
+use Rattle.locks_rule.specs.Versions.{writes_lock, locks_of}
+use Rattle.values_rule.specs.History.{knew_of, item_of_entry, items_of, version_at, owed_by, next_version, now_of}
+use Rattle.values_rule.specs.Keeping.{KeepsValueRule}
+use Rattle.values_rule.specs.Records.{IsRecorded, AreCauses, RecordsClosed, CallsCounted, FloorAndAbandoned}
+use Rattle.values_rule.specs.Steps.{MayCommitCall, entry_of, after_commit, commit_call_action}
+use Rattle.values_rule.specs.Versions.{ItemsArranged, OwedHeld, UsesCurrent, ValuesHold}
+use Rattle.values_rule.proofs.Told.Excludes.{not_released}
+use Rattle.values_rule.proofs.Phases.{attempt_open, open_begun}
+use Rattle.values_rule.proofs.Told.ItemsIn.{IsAttemptOf, OfEntry, OfOpen, items_from, items_into}
+use Rattle.values_rule.proofs.Told.Newest.{newest_moved, length-newest}
+use Rattle.values_rule.proofs.Told.Owing.{Owes, owed_into, owed_same}
+use Rattle.values_rule.proofs.Told.Seeing.{is_j, earlier, nobody_owes, legal_on_values, comes_last}
+use Rattle.values_rule.proofs.Told.Uses.{lock_written, written_lock, use_found, found_use, item_formed, noted_lock, lock_noted}
+use Rattle.values_rule.proofs.StepKinds.Recording as Recording
 
 module _ (good : List ℕ → Type 0) (n : ℕ) (base ws : List ℕ) (vs : List View) (id j : ℕ) (kept : Bool) (v : View)
     (h : LocksHold n base ws vs) (q : ValuesHold good n base ws vs) (me : Knows vs id v) (may : MayCommitCall good j kept v) where
-  abbrev H : List Entry
-  H = history_of vs
-
   abbrev e : Entry
   e = entry_of kept v
 
-  abbrev longer : List Entry
-  longer = history_of vs ++ entry_of kept v ∷ []
-
-  abbrev now : List ℕ
-  now = replay base (history_of vs)
-
-  abbrev left : List ℕ
-  left = replay base (history_of vs ++ entry_of kept v ∷ [])
+  abbrev x : Item
+  x = item_of_entry (entry_of kept v)
 
   abbrev w : View
-  w = record v {
-    seen = history_of vs ++ entry_of kept v ∷ [];
-    owed = if kept then locks_of v.undo else [];
-    undo = [];
-    phase = Releasing;
-  }
+  w = after_commit kept v
 
   abbrev ws' : List ℕ
-  ws' = slice_set ws serial_word (slice_index ws serial_word + 1)
+  ws' = slice_set ws (commits_word v.seats j) v.call
 
   abbrev vs' : List View
-  vs' = slice_set vs id w
+  vs' = slice_set vs id (after_commit kept v)
 
-  mine : Own n vs id j v
-  mine = own n base ws vs id j v h me may.who
-
-  is_j : number v ≡ j
-  is_j = ap (λ (l : List ℕ). slice_index l 0) may.who
+  named : number v ≡ j
+  named = is_j good n base ws vs id j v h q me may.who
 
   busy_open : is_open v.phase ≡ true
   busy_open = attempt_open v.phase may.phase
 
   busy_begun : v.phase ≢ Idle
-  busy_begun = attempt_begun v.phase may.phase
+  busy_begun = open_begun v.phase busy_open
 
-  alone : v.joined ≡ false
-  alone = q.calls.alone_unjoined id j v me may.who
+  before : (y : Entry) → IsRecorded vs y → y.who ≡ j → y.call < v.call
+  before = earlier good n base ws vs id j v h q me may.who busy_open
 
   case : (other : ℕ) (u : View) → Knows vs' other u → ((other ≡ id) × (w ≡ u)) ⊎ ((other ≢ id) × Knows vs other u)
   case other u k = put_cases vs id other w u k
@@ -101,174 +80,195 @@ module _ (good : List ℕ → Type 0) (n : ℕ) (base ws : List ℕ) (vs : List 
   here : Knows vs' id w
   here = put_here vs id v w me
 
-  -- another seat has not this seat's number
-  not_j : (other : ℕ) (u : View) → other ≢ id → Knows vs other u → has j u.who ≡ true → ⊥
-  not_j other u ne k t = ne (h.numbers_unique other id j u v (record { knows = k; named = t }) mine.seat)
-
-  begins : (other : ℕ) (u : View) → Knows vs' other u → IsPrefix u.seen longer
-  begins other u k = ⊎_elim
-      (λ t. subst (λ (x : View). IsPrefix x.seen longer) t.1 ([], sym (append-nil longer)))
-      (λ t. let p = q.seen.seen_begin other u t.1 in (p.0 ++ e ∷ [], ap (λ (l : List Entry). l ++ e ∷ []) p.1 ∙ append_assoc u.seen p.0 (e ∷ [])))
-      (case other u k)
-
-  history_is_longer : history_of vs' ≡ longer
-  history_is_longer = history_is vs' longer id w begins here refl
-
-  long : length longer ≡ length H + 1
-  long = length-append H (e ∷ [])
-
-  -- an entry of the new history is an old one, or this call's
-  entry_cases : (p : ℕ) (x : Entry) → slice_get (history_of vs') p ≡ Some x → ((p < length H) × (slice_get H p ≡ Some x)) ⊎ ((p ≡ length H) × (e ≡ x))
-  entry_cases p x at = get_cases H e x p (subst (λ (l : List Entry). slice_get l p ≡ Some x) history_is_longer at)
-
-  -- this call's entry is of no other seat
-  not_theirs : (other i : ℕ) (u : View) (x : Entry) → other ≢ id → Knows vs other u → has i u.who ≡ true → e ≡ x → x.who ≡ i → ⊥
-  not_theirs other i u x ne k t same own =
-      not_j other u ne k (subst (λ (y : ℕ). has y u.who ≡ true) (sym own ∙ (ap (λ (y : Entry). y.who) (sym same) ∙ is_j)) t)
-
   value_stays : (a : ℕ) → value_at n ws' a ≡ value_at n ws a
-  value_stays a = get_or-set_other ws serial_word (value_word n a) (slice_index ws serial_word + 1) 0 (λ z. omega arith)
+  value_stays = Recording.value_stays good n base ws vs id j kept v h q me may
 
-  call_stays : (i : ℕ) → slice_index ws' (calls_word n i) ≡ slice_index ws (calls_word n i)
-  call_stays i = get_or-set_other ws serial_word (calls_word n i) (slice_index ws serial_word + 1) 0 (λ z. omega arith)
+  version_stays : (k : ℕ) → version_at n ws' k ≡ version_at n ws k
+  version_stays = Recording.version_stays good n base ws vs id j kept v h q me may
+
+  record_cases : (y : Entry) → IsRecorded vs' y → IsRecorded vs y ⊎ (e ≡ y)
+  record_cases = Recording.record_cases good n base ws vs id j kept v h q me may
+
+  record_old : (y : Entry) → IsRecorded vs y → IsRecorded vs' y
+  record_old = Recording.record_old good n base ws vs id j kept v h q me may
+
+  record_new : IsRecorded vs' e
+  record_new = Recording.record_new good n base ws vs id j kept v h q me may
+
+  records_part : RecordsClosed n vs'
+  records_part = Recording.records_part good n base ws vs id j kept v h q me may
+
+  calls_part : CallsCounted n ws' vs'
+  calls_part = Recording.calls_part good n base ws vs id j kept v h q me may
+
+  -- items: the old ones, and the new entry
+  items_to : (z : Item) → IsIn z (items_of vs') → IsIn z (items_of vs) ⊎ (z ≡ x)
+  items_to z m = ⊎_elim
+      (λ (o : OfEntry vs' z). ⊎_elim
+      (λ old. inl (items_into vs z (inl (record { entry = o.entry; recorded = old; is = o.is }))))
+      (λ same. ⊎_elim
+      (λ t. inr (sym t ∙ ap item_of_entry (sym same)))
+      (λ t. inl (items_into vs z (inr (record {
+        id = id;
+        view = v;
+        knows = me;
+        is_open = busy_open;
+        is = subst (λ (y : Entry). IsAttemptOf y.who y.call y.knew y.abandoned z) (sym same) t;
+      }))))
+      o.is)
+      (record_cases o.entry o.recorded))
+      (λ (o : OfOpen vs' z). ⊎_elim
+      (λ t. absurd (let f : false ≡ true = subst (λ (y : View). is_open y.phase ≡ true) (sym t.1) o.is_open in cc))
+      (λ t. inl (items_into vs z (inr (record { id = o.id; view = o.view; knows = t.1; is_open = o.is_open; is = o.is }))))
+      (case o.id o.view o.knows))
+      (items_from vs' z m)
+
+  items_old : (z : Item) → IsIn z (items_of vs) → IsIn z (items_of vs')
+  items_old z m = ⊎_elim
+      (λ (o : OfEntry vs z). items_into vs' z (inl (record { entry = o.entry; recorded = record_old o.entry o.recorded; is = o.is })))
+      (λ (o : OfOpen vs z). dite (ℕ_discrete o.id id)
+      (λ same. let view_is : o.view ≡ v = same_view vs id o.id v o.view me o.knows same in
+      items_into vs' z (inl (record {
+        entry = e;
+        recorded = record_new;
+        is = inr (subst (λ (u : View). IsAttemptOf (number u) u.call (knew_of u.seats u.seen) u.abandoned z) view_is o.is);
+      })))
+      (λ ne. items_into vs' z (inr (record { id = o.id; view = o.view; knows = put_there vs id o.id w o.view ne o.knows; is_open = o.is_open; is = o.is }))))
+      (items_from vs z m)
+
+  adds : Adds x (items_of vs) (items_of vs')
+  adds z = (items_to z, λ m. ⊎_elim (items_old z) (λ same. items_into vs' z (inl (record { entry = e; recorded = record_new; is = inl (sym same) }))) m)
+
+  -- what the call owes it wrote, and what it wrote it owes
+  owes_wrote : (k : ℕ) → has k w.owed ≡ true → (y : ℕ) × Uses x k y true
+  owes_wrote k t = by kept refl t
+    where
+      by : (b : Bool) → kept ≡ b → has k (if b then locks_of v.undo else []) ≡ true → (y : ℕ) × Uses x k y true
+      by false s t = absurd (differ (has k []) t (has-nil k))
+      by true s t =
+          let l = lock_noted k v.undo t in
+          let wrote = q.trace.undo_written id l.0 l.1 v me may.phase l.3 in
+          let c = q.uses.covered id l.0 v me may.phase (touched_if_written v.trace l.0 wrote) in
+          let f = found_use kept v.trace v.uses (lock_of_word l.0) c.0 c.1 in
+          let both : (kept && writes_lock (lock_of_word l.0) v.trace) ≡ true = rw (s, written_lock (lock_of_word l.0) l.0 v.trace refl wrote) refl in
+          (c.0, subst (λ (m : ℕ). Uses x m c.0 true) l.2 (subst (λ (b : Bool). Uses x (lock_of_word l.0) c.0 b) both f))
+
+  wrote_noted : (k y : ℕ) → Uses x k y true → (kept ≡ true) × ((a : ℕ) × (o : ℕ) × (lock_of_word a ≡ k) × (oldest a v.undo ≡ Some o))
+  wrote_noted k y u =
+      let f = use_found kept v.trace v.uses k y true u in
+      let both = and_parts kept (writes_lock k v.trace) (sym f.1) in
+      let l = lock_written k v.trace both.1 in (
+        both.0,
+        ⊎_elim
+            (λ (none : oldest l.0 v.undo ≡ None). absurd (is_missing (oldest l.0 v.undo) none (q.trace.written_noted id l.0 v me (may.runs both.0) l.2)))
+            (λ (some : (o : ℕ) × (oldest l.0 v.undo ≡ Some o)). (l.0, some.0, l.1, some.1))
+            (option_cases (oldest l.0 v.undo)),
+      )
+
+  wrote_owes : (k y : ℕ) → Uses x k y true → has k w.owed ≡ true
+  wrote_owes k y u = let t = wrote_noted k y u in
+      subst (λ (b : Bool). has k (if b then locks_of v.undo else []) ≡ true) (sym t.0)
+      (subst (λ (m : ℕ). has m (locks_of v.undo) ≡ true) t.1.2 (noted_lock t.1.0 t.1.1 v.undo t.1.3))
+
+  wrote_granted : (k y : ℕ) → Uses x k y true → HasWriteGrant v k
+  wrote_granted k y u = let t = wrote_noted k y u in subst (λ (m : ℕ). HasWriteGrant v m) t.1.2 (q.undo.noted id t.1.0 t.1.1 v me t.1.3).1
+
+  moves : RaisesVersions x (next_version n ws vs) (next_version n ws' vs')
+  moves k = ⊎_elim
+      (λ (u : (y : ℕ) × Uses x k y true).
+      let none : flag (owed_by k vs) ≡ 0 = ap flag (nobody_owes good n base ws vs id j v h q me may.who may.phase k (inr (wrote_granted k u.0 u.1))) in
+      let some : flag (owed_by k vs') ≡ 1 = ap flag (owed_into k vs' id w here (wrote_owes k u.0 u.1)) in
+      let same = version_stays k in
+      inl (u, omega arith))
+      (λ (no : (y : ℕ) → Uses x k y true → ⊥).
+      let to : Owes k vs → Owes k vs' = λ o. dite (ℕ_discrete o.id id)
+      (λ e. absurd (not_released v.phase busy_open
+      (ap (λ (y : View). y.phase) (sym (same_view vs id o.id v o.view me o.knows e)) ∙ (q.owed.held o.id k o.view o.knows o.owes).0)))
+      (λ ne. record { id = o.id; view = o.view; knows = put_there vs id o.id w o.view ne o.knows; owes = o.owes }) in
+      let from : Owes k vs' → Owes k vs = λ o. ⊎_elim
+      (λ t. absurd (let u = owes_wrote k (subst (λ (y : View). has k y.owed ≡ true) (sym t.1) o.owes) in no u.0 u.1))
+      (λ t. record { id = o.id; view = o.view; knows = t.1; owes = o.owes }) (case o.id o.view o.knows) in
+      let same_flag : flag (owed_by k vs') ≡ flag (owed_by k vs) = ap flag (owed_same k vs vs' to from) in
+      let same = version_stays k in
+      inr (no, omega arith))
+      (wrote_some k x.uses)
+
+  fit : MayStandLast good base (next_version n ws vs) (items_of vs) x
+  fit = record {
+    formed = item_formed v.uses x refl (λ t. refl) (λ k a b s t. q.uses.once id k a b v me s t) (λ a t. q.uses.covered id a v me may.phase t);
+    last = comes_last good n base ws vs id j v h q me may.who may.phase x kept named refl refl refl;
+    legal = legal_on_values good n base ws vs id j v h q me may.who may.phase x kept refl refl;
+    stays_good = λ k s long fine legal. may.leaves_good k s fine legal;
+  }
+
+  items_part : ItemsArranged good n base ws' vs'
+  items_part = record {
+    agree = ends_agree good base (next_version n ws vs) (next_version n ws' vs')
+        (items_of vs) (items_of vs') q.items.order x q.items.agree q.items.arranged fit adds moves;
+    order = q.items.order ++ x ∷ [];
+    arranged = ends_arranged good base (next_version n ws vs) (next_version n ws' vs')
+        (items_of vs) (items_of vs') q.items.order x q.items.agree q.items.arranged fit adds moves;
+  }
+
+  abbrev now : List ℕ
+  now = now_of n base ws vs
+
+  abbrev left : List ℕ
+  left = now_of n base ws' vs'
 
   -- what the new entry leaves
   then_is : left ≡ (if kept then after v.trace now else now)
-  then_is = replay_last base H e
+  then_is = newest_moved base x (next_version n ws vs) (next_version n ws' vs') (items_of vs) (items_of vs')
+      (ends_moved good base (next_version n ws vs) (next_version n ws' vs') (items_of vs)
+      (items_of vs') q.items.order x q.items.agree q.items.arranged fit adds moves)
 
   legal_now : IsLegalTrace v.trace now
   legal_now = q.trace.legal id v me may.phase
 
-  now_good : good now
-  now_good = replay_is_good good n base H q.history.base_good q.history.legal
-
-  then_good_by : (b : Bool) → kept ≡ b → good (if b then after v.trace now else now)
-  then_good_by true k = may.leaves_good k now now_good legal_now
-  then_good_by false k = now_good
-
-  then_good : good left
-  then_good = subst good (sym then_is) (then_good_by kept refl)
-
-  seen_few : length v.seen ≤ length H
-  seen_few = seen_at_most vs id v me
-
-  entry_legal : IsLegalEntry good n base longer (length H) e
-  entry_legal = record {
-    trace_legal = subst (λ (l : List Entry). IsLegalTrace v.trace (replay base l))
-        (sym (take-append-le (length H) H (e ∷ []) (omega arith) ∙ take_all (length H) H (omega arith))) legal_now;
-    seat_below = subst (λ (y : ℕ). y < n) (sym is_j) mine.below;
-    floor_before = let f = q.floor.floor_seen id v me in let s = seen_few in omega arith;
-    caller_order = λ p x lt at same.
-        let old : slice_get H p ≡ Some x = sym (get_first H (e ∷ []) p lt) ∙ at in
-        let own_entry : x.who ≡ j = same ∙ is_j in
-        (q.calls.open_numbered id j p v x mine.seat alone busy_open old own_entry, q.floor.open_before id j p v x mine.seat busy_open old own_entry);
-    attempts = subst (λ (y : ℕ). AreAttemptsLegal n base longer y v.stamp v.floor (length H) v.abandoned) (sym is_j)
-        (attempts_agree n base (length H) j v.stamp v.floor (length H) H longer v.abandoned (agree_longer H (e ∷ [])) (omega arith)
-        (attempts_wider n base H j v.stamp v.floor (length v.seen) (length H) v.abandoned seen_few (q.floor.attempts id j v me may.who busy_begun)));
-    replay_good = subst (λ (l : List Entry). good (replay base l)) (sym (take_all (length H + 1) longer (let l = long in omega arith))) then_good;
+  owed_part : OwedHeld n ws' vs'
+  owed_part = record {
+    held = λ other k u known t. ⊎_elim
+        (λ c. subst (λ (y : View). (y.phase ≡ Releasing) × HasWriteGrant y k × IsIn (k, version_at n ws' k) y.uses) c.1
+        (let s = owes_wrote k (subst (λ (y : View). has k y.owed ≡ true) (sym c.1) t) in
+        let f = (use_found kept v.trace v.uses k s.0 true s.1).0 in
+        let grant = wrote_granted k s.0 s.1 in
+        let is = (q.uses.granted id k s.0 v me may.phase f).1 in
+        let none : flag (owed_by k vs) ≡ 0 = ap flag (nobody_owes good n base ws vs id j v h q me may.who may.phase k (inr grant)) in
+        let stays = version_stays k in
+        let same : s.0 ≡ version_at n ws' k = omega arith in
+        (refl, grant, subst (λ (m : ℕ). IsIn (k, m) v.uses) same f)))
+        (λ c. let o = q.owed.held other k u c.1 t in (o.0, o.1, subst (λ (m : ℕ). IsIn (k, m) u.uses) (sym (version_stays k)) o.2))
+        (case other u known);
   }
 
-  seen_part : SeenPrefixes ws' vs'
-  seen_part = record {
-    serial = get_or-set_same ws serial_word (slice_index ws serial_word + 1) 0 (omega (arith, h.word_count))
-        ∙ (ap (λ (x : ℕ). x + 1) q.seen.serial ∙ (sym long ∙ ap (λ (l : List Entry). length l) (sym history_is_longer)));
-    seen_begin = λ other u k. subst (λ (l : List Entry). IsPrefix u.seen l) (sym history_is_longer) (begins other u k);
-    olds_begin = λ other u o k i. subst (λ (l : List Entry). IsPrefix o.seen l) (sym history_is_longer)
-        (let p = ⊎_elim (λ t. q.seen.olds_begin id v o me (subst (λ (x : View). IsIn o x.olds) (sym t.1) i))
-        (λ t. q.seen.olds_begin other u o t.1 i) (case other u k) in
-        (p.0 ++ e ∷ [], ap (λ (l : List Entry). l ++ e ∷ []) p.1 ∙ append_assoc o.seen p.0 (e ∷ [])));
-  }
+  -- a seat of a view with locks
+  seat_of : (other : ℕ) (u : View) → Knows vs other u → u.phase ≢ Idle → (i : ℕ) × IsSeat vs other u i
+  seat_of other u k busy = let c = q.calls.callers_alone other u k busy in (
+    c.0,
+    record {
+      knows = k;
+      named = subst (λ (l : List ℕ). has c.0 l ≡ true) (sym c.1) (has-join_same c.0 []);
+    },
+  )
 
-  history_part : HistoryLegal good n base vs'
-  history_part = record {
-    base_good = q.history.base_good;
-    legal = subst (λ (l : List Entry). IsLegalHistory good n base l) (sym history_is_longer) (one_more_is_legal good n base H e q.history.legal entry_legal);
-  }
-
-  old_number : (other i : ℕ) (u : View) (o : Old) → Knows vs other u → IsIn o u.olds → has i o.numbers ≡ true → i ≡ j → ⊥
-  old_number other i u o k t named is =
-      let c = q.calls.old_numbers other i u o k t named in
-      dite (ℕ_discrete other id)
-      (λ z. differ v.joined (subst (λ (x : View). x.joined ≡ true) (same_view vs id other v u me k z) c.1) alone)
-      (λ ne. not_j other u ne k (subst (λ (y : ℕ). has y u.who ≡ true) is c.0))
-
-  entry_is_j : (x : Entry) (i : ℕ) → e ≡ x → x.who ≡ i → i ≡ j
-  entry_is_j x i same own_entry = sym own_entry ∙ (ap (λ (y : Entry). y.who) (sym same) ∙ is_j)
-
-  calls_part : CallsCounted n ws' vs'
-  calls_part = record {
-    own_seen = λ other i p u x s at own_entry. ⊎_elim
-        (λ t. subst (λ (y : View). p < length y.seen) t.1 (⊎_elim (λ z. let lt = z.0 in let l = long in
-        omega arith) (λ z. let is = z.0 in let l = long in omega arith) (entry_cases p x at)))
-        (λ t. ⊎_elim (λ z. q.calls.own_seen other i p u x (record { knows = t.1; named = s.named }) z.1 own_entry)
-        (λ z. absurd (not_theirs other i u x t.0 t.1 s.named z.1 own_entry)) (entry_cases p x at))
-        (case other u s.knows);
-    old_seen = λ other i p u o x k t named at own_entry.
-        let old : (other : ℕ) (u : View) → Knows vs other u → IsIn o u.olds → p < length o.seen = λ other u k t. ⊎_elim
-        (λ z. q.calls.old_seen other i p u o x k t named z.1 own_entry)
-        (λ z. absurd (old_number other i u o k t named (entry_is_j x i z.1 own_entry))) (entry_cases p x at) in
-        ⊎_elim (λ z. old id v me (subst (λ (y : View). IsIn o y.olds) (sym z.1) t)) (λ z. old other u z.1 t) (case other u k);
-    old_numbers = λ other i u o k t named. ⊎_elim
-        (λ z. let c = q.calls.old_numbers id i v o me (subst (λ (y : View). IsIn o y.olds) (sym z.1) t) named in
-        (subst (λ (y : View). has i y.who ≡ true) z.1 c.0, subst (λ (y : View). y.joined ≡ true) z.1 c.1))
-        (λ z. q.calls.old_numbers other i u o z.1 t named) (case other u k);
-    callers_alone = λ other u k busy. ⊎_elim (λ z. (j, subst (λ (y : View). y.who ≡ j ∷ []) z.1 may.who))
-        (λ z. q.calls.callers_alone other u z.1 busy) (case other u k);
-    alone_unjoined = λ other i u k single. ⊎_elim (λ z. subst (λ (y : View). y.joined ≡ false) z.1 alone)
-        (λ z. q.calls.alone_unjoined other i u z.1 single) (case other u k);
-    dealers_fresh = λ other i k u s t ne un. ⊎_elim
-        (λ z. subst (λ (y : View). y.call ≡ 0) z.1
-        (q.calls.dealers_fresh id i k v (record {
-          knows = me;
-          named =
-              subst (λ (y : View). has i y.who ≡ true) (sym z.1) s.named;
-        }) (record {
-          knows = me;
-          named =
-              subst (λ (y : View). has k y.who ≡ true) (sym z.1) t.named;
-        }) ne alone))
-        (λ z. q.calls.dealers_fresh other i k u (record { knows = z.1; named = s.named }) (record {
-          knows = z.1;
-          named =
-              t.named;
-        }) ne un) (case other u s.knows);
-    calls_shown = λ other i u s un. call_stays i ∙ ⊎_elim
-        (λ z. q.calls.calls_shown id i v (record {
-          knows = me;
-          named =
-              subst (λ (y : View). has i y.who ≡ true) (sym z.1) s.named;
-        }) alone ∙ ap (λ (y : View). y.call) z.1)
-        (λ z. q.calls.calls_shown other i u (record { knows = z.1; named = s.named }) un) (case other u s.knows);
-    entries_numbered = λ other i p u x s un at own_entry. ⊎_elim
-        (λ t. subst (λ (y : View). x.call ≤ y.call) t.1 (⊎_elim
-        (λ z. q.calls.entries_numbered id i p v x (record {
-          knows = me;
-          named =
-              subst (λ (y : View). has i y.who ≡ true) (sym t.1) s.named;
-        }) alone z.1 own_entry)
-        (λ z. let same : v.call ≡ x.call = ap (λ (y : Entry). y.call) z.1 in omega arith) (entry_cases p x at)))
-        (λ t. ⊎_elim (λ z. q.calls.entries_numbered other i p u x (record { knows = t.1; named = s.named }) un z.1
-        own_entry) (λ z. absurd (not_theirs other i u x t.0 t.1 s.named z.1 own_entry)) (entry_cases p x at))
-        (case other u s.knows);
-    open_numbered = λ other i p u x s un busy at own_entry. ⊎_elim
-        (λ t. absurd (let z : false ≡ true = subst (λ (y : View). is_open y.phase ≡ true) (sym t.1) busy in cc))
-        (λ t. ⊎_elim (λ z. q.calls.open_numbered other i p u x (record { knows = t.1; named = s.named }) un busy z.1
-        own_entry) (λ z. absurd (not_theirs other i u x t.0 t.1 s.named z.1 own_entry)) (entry_cases p x at))
-        (case other u s.knows);
-    entries_from_one = λ p x at. ⊎_elim
-        (λ z. q.calls.entries_from_one p x z.1)
-        (λ z. subst (λ (y : Entry). 0 < y.call) z.1 (q.calls.open_from_one id v me busy_open)) (entry_cases p x at);
-    open_from_one = λ other u k busy. ⊎_elim
-        (λ t. absurd (let z : false ≡ true = subst (λ (y : View). is_open y.phase ≡ true) (sym t.1) busy in cc))
-        (λ t. q.calls.open_from_one other u t.1 busy) (case other u k);
-    calls_fit = λ i lt. subst (λ (y : ℕ). y < 2 ^ 32) (sym (call_stays i)) (q.calls.calls_fit i lt);
-    counted =
-        let sums = open_count-set vs id v w me in
-        let was : flag (is_open v.phase) ≡ 1 = ap flag busy_open in
-        let same = calls_below-same n n ws ws' (λ i lt. call_stays i) in
-        let before = q.calls.counted in
-        let l : length (history_of vs') ≡ length H + 1 = ap (λ (l : List Entry). length l) history_is_longer ∙ long in
-        omega arith;
+  uses_part : UsesCurrent n ws' vs'
+  uses_part = record {
+    granted = λ other k y u known busy t. ⊎_elim
+        (λ c. absurd (let z : false ≡ true = subst (λ (s : View). is_attempt s.phase ≡ true) (sym c.1) busy in cc))
+        (λ c. let g = q.uses.granted other k y u c.1 busy t in
+        let s = seat_of other u c.1 (open_begun u.phase (attempt_open u.phase busy)) in (
+          g.0,
+          g.1 ∙ ⊎_elim
+              (λ m. absurd (shut_out n base ws vs id other s.0 k v u h c.0 me s.1 g.0 (wrote_granted k m.0.0 m.0.1)))
+              (λ m. sym m.1) (moves k),
+        ))
+        (case other u known);
+    once = λ other k y z u known s t. ⊎_elim
+        (λ c. q.uses.once id k y z v me (subst (λ (r : View). IsIn (k, y) r.uses) (sym c.1) s) (subst (λ (r : View). IsIn (k, z) r.uses) (sym c.1) t))
+        (λ c. q.uses.once other k y z u c.1 s t) (case other u known);
+    covered = λ other a u known busy t. ⊎_elim
+        (λ c. absurd (let z : false ≡ true = subst (λ (s : View). is_attempt s.phase ≡ true) (sym c.1) busy in cc))
+        (λ c. q.uses.covered other a u c.1 busy t) (case other u known);
   }
 
   -- another seat may use the word: a kept call did not write it
@@ -277,8 +277,8 @@ module _ (good : List ℕ → Type 0) (n : ℕ) (base ws : List ℕ) (vs : List 
       let runs = may.runs k in
       ⊎_elim
       (λ (none : oldest a v.undo ≡ None). is_missing (oldest a v.undo) none (q.trace.written_noted id a v me runs wrote))
-      (λ (some : (o : ℕ) × (oldest a v.undo ≡ Some o)). shut_out n base ws vs id other i (lock_of_word a) v u h ne me s
-      g (q.undo.noted id a some.0 v me some.1).1)
+      (λ (some : (o : ℕ) × (oldest a v.undo ≡ Some o)). shut_out n base ws vs id other i
+      (lock_of_word a) v u h ne me s g (q.undo.noted id a some.0 v me some.1).1)
       (option_cases (oldest a v.undo))
 
   stands_by : (b : Bool) (a : ℕ) → kept ≡ b → (b ≡ true → ¬ Writes v.trace a) → slice_get (if b then after v.trace now else now) a ≡ slice_get now a
@@ -289,17 +289,12 @@ module _ (good : List ℕ → Type 0) (n : ℕ) (base ws : List ℕ) (vs : List 
   stands : (a : ℕ) → (kept ≡ true → ¬ Writes v.trace a) → slice_get left a ≡ slice_get now a
   stands a free = ap (λ (l : List ℕ). slice_get l a) then_is ∙ stands_by kept a refl (λ k. free k)
 
-  -- a seat of a view with locks
-  seat_of : (other : ℕ) (u : View) → Knows vs other u → u.phase ≢ Idle → (i : ℕ) × IsSeat vs other u i
-  seat_of other u k busy = let c = q.calls.callers_alone other u k busy in
-      (c.0, record { knows = k; named = subst (λ (l : List ℕ). has c.0 l ≡ true) (sym c.1) (has-join_same c.0 []) })
-
   noting : (other a o : ℕ) (u : View) → Knows vs other u → oldest a u.undo ≡ Some o → u.phase ≢ Idle
   noting other a o u k t idle = let z : None ≡ Some o = sym (oldest-nil a)
       ∙ (ap (λ (l : Notes). oldest a l) (sym (q.trace.rested other u k (inl idle))) ∙ t) in cc
 
-  unnoted_by : (b : Bool) (a : ℕ) → kept ≡ b → a < length base
-      → ((other : ℕ) (u : View) → Knows vs' other u → oldest a u.undo ≡ None) → slice_get (if b then after v.trace now else now) a ≡ Some (value_at n ws a)
+  unnoted_by : (b : Bool) (a : ℕ) → kept ≡ b → a < length base → ((other : ℕ) (u : View) → Knows vs' other u → oldest a u.undo ≡ None)
+      → slice_get (if b then after v.trace now else now) a ≡ Some (value_at n ws a)
   unnoted_by false a k lt free = q.undo.unnoted a lt (λ other u z. dite (ℕ_discrete other id)
       (λ same. subst (λ (x : View). oldest a x.undo ≡ None) (sym (same_view vs id other v u me z same))
       (ap (λ (l : Notes). oldest a l) (may.undone k) ∙ oldest-nil a))
@@ -312,7 +307,7 @@ module _ (good : List ℕ → Type 0) (n : ℕ) (base ws : List ℕ) (vs : List 
       (λ ne. free other u (put_there vs id other w u ne z))))
       (λ (some : (o : ℕ) × (oldest a v.undo ≡ Some o)).
       let wrote = q.trace.undo_written id a some.0 v me may.phase some.1 in
-      let within : a < length now = omega (arith, length-replay base H) in
+      let within : a < length now = omega (arith, length-newest base (items_of vs) (next_version n ws vs)) in
       ⊎_elim
       (λ (none : value_after v.trace a None ≡ None). absurd
       (is_missing (value_after v.trace a None) none (last_from_touched v.trace a None (inr (touched_if_written v.trace a wrote)))))
@@ -332,7 +327,7 @@ module _ (good : List ℕ → Type 0) (n : ℕ) (base ws : List ℕ) (vs : List 
   }
 
   then_long : length now ≡ length left
-  then_long = length-replay base H ∙ sym (length-replay base longer)
+  then_long = length-newest base (items_of vs) (next_version n ws vs) ∙ sym (length-newest base (items_of vs') (next_version n ws' vs'))
 
   trace_at : TraceCurrent n base left ws' vs'
   trace_at = record {
@@ -341,10 +336,10 @@ module _ (good : List ℕ → Type 0) (n : ℕ) (base ws : List ℕ) (vs : List 
         (λ z. q.trace.granted other a u z.1 busy t) (case other u k);
     legal = λ other u k busy. ⊎_elim
         (λ z. absurd (let y : false ≡ true = subst (λ (x : View). is_attempt x.phase ≡ true) (sym z.1) busy in cc))
-        (λ z. let s = seat_of other u z.1 (attempt_begun u.phase busy) in
+        (λ z. let s = seat_of other u z.1 (open_begun u.phase (attempt_open u.phase busy)) in
         legal_agree u.trace now left then_long
-        (λ a t. sym (stands a (unwritten other s.0 a u z.0 s.1 (q.trace.granted other a u z.1 busy t).1)))
-        (q.trace.legal other u z.1 busy)) (case other u k);
+        (λ a t. sym (stands a (unwritten other s.0 a u z.0 s.1 (q.trace.granted other a u z.1 busy t).1))) (q.trace.legal other u z.1 busy))
+        (case other u k);
     undo_written = λ other a o u k busy t. ⊎_elim
         (λ z. absurd (let y : false ≡ true = subst (λ (x : View). is_attempt x.phase ≡ true) (sym z.1) busy in cc))
         (λ z. q.trace.undo_written other a o u z.1 busy t) (case other u k);
@@ -357,34 +352,26 @@ module _ (good : List ℕ → Type 0) (n : ℕ) (base ws : List ℕ) (vs : List 
     rested = λ other u k t. ⊎_elim (λ z. ap (λ (x : View). x.undo) (sym z.1)) (λ z. q.trace.rested other u z.1 t) (case other u k);
   }
 
-  floor_part : FloorAndAbandoned n base vs'
+  floor_part : FloorAndAbandoned n vs'
   floor_part = record {
-    floor_seen = λ other u k. ⊎_elim (λ z. subst (λ (x : View). x.floor ≤ length x.seen) z.1 (let f =
-        q.floor.floor_seen id v me in let s = seen_few in let l = long in omega arith)) (λ z. q.floor.floor_seen other u z.1) (case other u k);
-    open_before = λ other i p u x s busy at own_entry. ⊎_elim
+    floor = λ other u k busy. ⊎_elim
         (λ t. absurd (let z : false ≡ true = subst (λ (y : View). is_open y.phase ≡ true) (sym t.1) busy in cc))
-        (λ t. ⊎_elim (λ z. q.floor.open_before other i p u x (record { knows = t.1; named = s.named }) busy z.1
-        own_entry) (λ z. absurd (not_theirs other i u x t.0 t.1 s.named z.1 own_entry)) (entry_cases p x at))
-        (case other u s.knows);
-    attempts = λ other i u k single busy.
-        subst (λ (l : List Entry). AreAttemptsLegal n base l i u.stamp u.floor (length u.seen) u.abandoned) (sym history_is_longer) (⊎_elim
-        (λ z. subst (λ (x : View). AreAttemptsLegal n base longer i x.stamp x.floor (length x.seen) x.abandoned) z.1
-        (attempts_wider n base longer i v.stamp v.floor (length H) (length longer) v.abandoned (let l = long in omega arith)
-        (attempts_agree n base (length H) i v.stamp v.floor (length H) H longer v.abandoned (agree_longer H (e ∷ [])) (omega arith)
-        (attempts_wider n base H i v.stamp v.floor (length v.seen) (length H) v.abandoned seen_few
-        (q.floor.attempts id i v me (ap (λ (x : View). x.who) z.1 ∙ single) busy_begun)))))
-        (λ z. attempts_agree n base (length H) i u.stamp u.floor (length u.seen) H longer u.abandoned
-        (agree_longer H (e ∷ [])) (seen_at_most vs other u z.1) (q.floor.attempts other i u z.1 single busy))
-        (case other u k));
+        (λ t. q.floor.floor other u t.1 busy) (case other u k);
+    causes = λ other i u k single busy. ⊎_elim
+        (λ t. subst (λ (y : View). AreCauses n i y.stamp y.floor y.abandoned) t.1 (q.floor.causes id i v me (ap (λ (y : View). y.who) t.1 ∙ single) busy_begun))
+        (λ t. q.floor.causes other i u t.1 single busy) (case other u k);
   }
 
   pub commits : ValuesHold good n base ws' vs'
   commits = record {
-    seen = seen_part;
-    history = history_part;
+    serial = get_or-set_other ws (commits_word v.seats j) serial_word v.call 0 (λ z. omega arith) ∙ q.serial;
+    records = records_part;
     calls = calls_part;
-    undo = subst (λ (l : List Entry). UndoRestores n base (replay base l) ws' vs') (sym history_is_longer) undo_at;
-    trace = subst (λ (l : List Entry). TraceCurrent n base (replay base l) ws' vs') (sym history_is_longer) trace_at;
+    items = items_part;
+    owed = owed_part;
+    uses = uses_part;
+    undo = undo_at;
+    trace = trace_at;
     floor = floor_part;
   }
 

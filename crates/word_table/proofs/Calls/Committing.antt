@@ -1,100 +1,82 @@
--- What a call on values tells beside its step: that some good words fit the trace, and what a commit came to.
-use Rattle.std.proofs.Common.{◌≢◌, if◌then◌else◌, ne_eqb, ◌≡◌, ℕ, ◌+◌, ◌<◌, ◌≤◌, Bool, true, List, [], ◌∷◌, ◌++◌, length, Option, Some, None, unwrap_or, refl}
-use Rattle.std.proofs.Common.{sym, ap, ◌∙◌, subst, arith}
-use Rattle.history_model.specs.declared.entry.Entry.{Entry}
+-- What a call on values tells beside its step: that what its attempt did is legal behind all that was done, however that is
+-- arranged.
+use Rattle.std.proofs.Common.{◌≢◌, if◌then◌else◌, ne_eqb, ◌≡◌, ℕ, Bool, true, inl, inr, List, [], ◌∷◌, ◌++◌, Option, Some, None, unwrap_or, refl}
+use Rattle.std.proofs.Common.{sym, ap, ◌∙◌, subst}
 use Rattle.history_model.specs.declared.event.Event.TheVariants.{Read}
 use Rattle.history_model.specs.declared.view.View.{View}
 use Rattle.history_model.specs.Counts.{is_attempt}
-use Rattle.history_model.specs.Fitting.{IsGood, Fits}
-use Rattle.history_model.specs.Histories.{replay}
-use Rattle.history_model.specs.Legal.{IsLegalHistory}
-use Rattle.history_model.specs.Table.{Knows, history_of}
+use Rattle.history_model.specs.Table.{Knows}
 use Rattle.history_model.specs.Traces.{Trace, value_after}
 use Rattle.history_model.specs.Views.{number}
 use Rattle.history_model.proofs.Traces.EndEvents.{last_read_same}
-use Rattle.history_model.proofs.Histories.HistoryLaws.{prefix_is_legal}
 use Rattle.history_model.proofs.Views.Places.{put_here}
-use Rattle.locks_rule.specs.Actions.{words_after, views_after, found_by}
-use Rattle.values_rule.specs.Steps.{MayBeginCall, MayCommitCall, begin_call_action, load_value_action, store_value_action, known_value}
-use Rattle.values_rule.specs.Steps.{commit_call_action}
+use Rattle.locks_rule.specs.Actions.{views_after, found_by}
+use Rattle.values_rule.specs.Steps.{begin_call_action, load_value_action, store_value_action, known_value, MayBeginCall, MayLoadValue}
+use Rattle.values_rule.proofs.Members.{in_second}
+use Rattle.values_rule.proofs.Phases.{attempt_open}
+use Rattle.values_rule.specs.History.{items_of_attempts, item_of_entry, items_of, knew_of}
+use Rattle.values_rule.proofs.Told.ItemsIn.{items_into, entry_from, attempt_from}
+use Rattle.values_rule.proofs.Whole.Legality.{place, leaves_good, attempts_legal}
 use Rattle.stamps_rule.specs.Steps.{MayLoadCauseStamp, load_cause_stamp_action, after_waiting, after_restarting}
-use Rattle.locks_rule.proofs.Own.{own}
 use Rattle.word_table.specs.declared.step.Step.{Step}
-use Rattle.word_table.specs.declared.step.Step.TheVariants.{BeginCall, LoadValue, CommitCall, LoadCauseStamp}
-use Rattle.word_table.specs.Calls.{CommitsAt, ReadsHistory}
+use Rattle.word_table.specs.declared.step.Step.TheVariants.{BeginCall, LoadValue, LoadCauseStamp}
+use Rattle.word_table.specs.Calls.{ReadsArranged}
 use Rattle.word_table.specs.Kinds.{action_of, May, TakenIn}
 use Rattle.word_table.specs.Sound.{IsSound}
-use Rattle.word_table.specs.Versions.{MayLoadUsed}
 use Rattle.word_table.proofs.Kept.KeptKinds.{sound_kept}
-use Rattle.word_table.proofs.Known.{ReadsNow, reads_now, reads_history, sees_history}
-
--- the words that the history leaves fit the trace of an attempt
-fits_now : (count : ℕ) (good : List ℕ → Type 0) (base : List ℕ) (vs : List View) (v : View)
-    → ReadsNow (IsGood count good) base vs v → Fits count good v.trace (replay base (history_of vs))
-fits_now count good base vs v now = record { count = now.left_good.count; good = now.left_good.good; legal = now.legal }
 
 -- the state that a step leads to is sound, and the seat then knows the new view
 pub reads_after : (good : List ℕ → Type 0) (n : ℕ) (base : List ℕ) (st : Step) (old new : View) (found : ℕ)
     → TakenIn (IsSound good n base) (action_of st old) old found new → May good st old
-    → is_attempt new.phase ≡ true → ReadsHistory good n base new
+    → is_attempt new.phase ≡ true → ReadsArranged good n base new
 reads_after good n base st old new found t may busy =
-    let next : View = (action_of st old).view (history_of t.views) (found_by (action_of st old) t.words) in
-    let is : new ≡ next = t.view ∙ ap (λ (x : ℕ). (action_of st old).view (history_of t.views) x) (sym t.found_is) in
+    let next : View = (action_of st old).view (found_by (action_of st old) t.words) in
+    let is : new ≡ next = t.view ∙ ap (λ (x : ℕ). (action_of st old).view x) (sym t.found_is) in
     let vs : List View = views_after (action_of st old) t.place t.words t.views in
     let after = sound_kept good n base st t.words t.views t.place old t.holds t.knows may in
     let me : Knows vs t.place next = put_here t.views t.place old next t.knows in
-    subst (λ (x : View). ReadsHistory good n base x) (sym is)
-    (reads_history good n base (words_after (action_of st old) t.words) vs t.place next after me (subst (λ (x : View). is_attempt x.phase ≡ true) is busy))
-
-module _ (count : ℕ) (good : List ℕ → Type 0) (n : ℕ) (base : List ℕ) (kept : Bool) (v w : View) (found : ℕ)
-    (t : TakenIn (IsSound (IsGood count good) n base) (commit_call_action (number v) kept v) v found w)
-    (may : MayCommitCall (IsGood count good) (number v) kept v) where
-  pub commits_at : CommitsAt count good base kept v w (found + 1)
-  commits_at =
-      let sees = sees_history (IsGood count good) n base t.words t.views t.place v t.holds t.knows in
-      let named = (own n base t.words t.views t.place (number v) v t.holds.locks t.knows may.who).seat.named in
-      record {
-        history = history_of t.views;
-        view = t.view;
-        place_is = ap (λ (x : ℕ). x + 1) (sym t.found_is ∙ sees.counter);
-        begins = sees.begins;
-        others = λ p e le at same. late p (length v.seen) le (sees.own (number v) p e named at same);
-        fits = fits_now count good base t.views v (reads_now (IsGood count good) n base t.words t.views t.place v t.holds t.knows may.phase);
-      }
-    where
-      late : (a b : ℕ) → b ≤ a → a < b → ⊥
-      late a b le lt = omega arith
-
-  pub commit_legal : IsLegalHistory (IsGood count good) n base w.seen
-  commit_legal =
-      let action = commit_call_action (number v) kept v in
-      let next : View = action.view (history_of t.views) (found_by action t.words) in
-      let is : w ≡ next = t.view in
-      let after = sound_kept (IsGood count good) n base (CommitCall (number v) kept) t.words t.views t.place v t.holds t.knows may in
-      let sees = sees_history (IsGood count good) n base (words_after action t.words) (views_after action t.place t.words t.views) t.place next after
-      (put_here t.views t.place v next t.knows) in
-      let whole : IsLegalHistory (IsGood count good) n base (next.seen ++ sees.begins.0) =
-      subst (λ (l : List Entry). IsLegalHistory (IsGood count good) n base l) sees.begins.1 sees.legal in
-      subst (λ (x : View). IsLegalHistory (IsGood count good) n base x.seen) (sym is) (prefix_is_legal (IsGood count good) n base next.seen sees.begins.0 whole)
+    subst (λ (x : View). ReadsArranged good n base x) (sym is) (record {
+      items = items_of vs;
+      seen = λ e i. items_into vs (item_of_entry e) (inl (record {
+        entry = e;
+        recorded = record { id = t.place; view = next; knows = me; seen = i };
+        is = entry_from e (item_of_entry e)
+            (in_second (items_of_attempts e.who e.call e.knew 0 e.abandoned) (item_of_entry e ∷ []) (item_of_entry e) (0, refl));
+      }));
+      attempts = λ x i. items_into vs x (inr (record {
+        id = t.place;
+        view = next;
+        knows = me;
+        is_open = attempt_open next.phase (subst (λ (x : View). is_attempt x.phase ≡ true) is busy);
+        is = attempt_from (number next) next.call (knew_of next.seats next.seen) next.abandoned x i;
+      }));
+      order = after.values.items.order;
+      arranged = after.values.items.arranged;
+      placed = λ order a p x at. place good n base _ vs after.locks after.values order a p x at;
+      left_good = λ order a. leaves_good good n base _ vs after.locks after.values order a;
+      fits = λ order a. attempts_legal good n base _ vs after.locks after.values order a t.place next me
+          (subst (λ (x : View). is_attempt x.phase ≡ true) is busy);
+    })
 
 pub load_reads : (good : List ℕ → Type 0) (n : ℕ) (base : List ℕ) (a : ℕ) (v w : View) (found : ℕ)
-    → TakenIn (IsSound good n base) (load_value_action (number v) a v) v found w → MayLoadUsed (number v) a v → ReadsHistory good n base w
+    → TakenIn (IsSound good n base) (load_value_action (number v) a v) v found w → MayLoadValue (number v) a v
+    → ReadsArranged good n base w
 load_reads good n base a v w found t may =
-    reads_after good n base (LoadValue (number v) a) v w found t may (ap (λ (x : View). is_attempt x.phase) t.view ∙ ap is_attempt may.loads.phase)
+    reads_after good n base (LoadValue (number v) a) v w found t may (ap (λ (x : View). is_attempt x.phase) t.view ∙ ap is_attempt may.phase)
 
 pub begin_reads : (good : List ℕ → Type 0) (n : ℕ) (base : List ℕ) (v w : View) (found : ℕ)
-    → TakenIn (IsSound good n base) (begin_call_action (number v) v) v found w → MayBeginCall (number v) v → ReadsHistory good n base w
+    → TakenIn (IsSound good n base) (begin_call_action (number v) v) v found w → MayBeginCall (number v) v → ReadsArranged good n base w
 begin_reads good n base v w found t may = reads_after good n base (BeginCall (number v)) v w found t may (ap (λ (x : View). is_attempt x.phase) t.view)
 
 -- a call whose cause is gone makes a new attempt
 pub restart_reads : (good : List ℕ → Type 0) (n : ℕ) (base : List ℕ) (i stamp : ℕ) (v w : View) (found : ℕ)
     → TakenIn (IsSound good n base) (load_cause_stamp_action (number v) i stamp v) v found w → MayLoadCauseStamp (number v) i stamp v
-    → found ≢ stamp → ReadsHistory good n base w
+    → found ≢ stamp → ReadsArranged good n base w
 restart_reads good n base i stamp v w found t may ne = reads_after good n base (LoadCauseStamp (number v) i stamp) v w found t may
     (ap (λ (x : View). is_attempt x.phase) (t.view ∙ ap (λ (b : Bool). if b then after_waiting v else after_restarting v) (ne_eqb found stamp ne)))
 
 -- what a store notes is the value that was read last
-pub noted_old : (j a x : ℕ) (v w : View) (before : Trace) (old : ℕ) → w ≡ (store_value_action j a x v).view [] 0
+pub noted_old : (j a x : ℕ) (v w : View) (before : Trace) (old : ℕ) → w ≡ (store_value_action j a x v).view 0
     → v.trace ≡ before ++ Read a old ∷ [] → w.undo ≡ v.undo ++ (a, old) ∷ []
 noted_old j a x v w before old e trace =
     let last : value_after v.trace a None ≡ Some old = ap (λ (t : Trace). value_after t a None) trace ∙ last_read_same before a old a refl in

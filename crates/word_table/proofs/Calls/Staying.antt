@@ -1,5 +1,5 @@
 -- What a step on locks leaves: the call, and every lock that was held.
-use Rattle.std.proofs.Common.{◌≡◌, ◌≢◌, ℕ, suc, ◌-◌, ◌%◌, Bool, true, false, inl, inr, List, [], ◌∷◌, length, refl, sym, ap, arith, ◌∙◌, subst, ◌==◌}
+use Rattle.std.proofs.Common.{◌≡◌, ◌≢◌, ℕ, suc, ◌-◌, ◌%◌, Bool, true, false, inl, inr, List, ◌∷◌, length, refl, sym, ap, arith, ◌∙◌, subst, ◌==◌}
 use Rattle.std.proofs.Common.{if◌then◌else◌}
 use Rattle.std.specs.Int.{bit_at}
 use Rattle.history_model.specs.declared.view.View.{View}
@@ -29,9 +29,9 @@ leaves_at v x u e h = subst (λ (y : View). Leaves v y) (sym e) h
 pub share_leaves : (sound : List ℕ → List View → Type 0) (v : View) (a : ℕ) (r : Shared) (u : View) → SharedBy sound v a r u → Leaves v u
 share_leaves sound v a r u (inl s) = leaves_at v v u s.2 (leaves_all v)
 share_leaves sound v a r u (inr t) =
-    let s = t.1 in let k : ℕ = lock_of_word a in let j : ℕ = number v in let set : View = (set_read_bit_action j k a v).view [] 0 in
+    let s = t.1 in let k : ℕ = lock_of_word a in let j : ℕ = number v in let set : View = (set_read_bit_action j k a v).view 0 in
     let after : View → Bool → View = λ m b. if b then record (after_asking m a) { reads = k ∷ m.reads } else after_meeting (after_asking m a) k (s.found - 1) in
-    leaves_at v ((load_writer_action j k a (with_bit k a v)).view [] s.found) u s.taken.view
+    leaves_at v ((load_writer_action j k a (with_bit k a v)).view s.found) u s.taken.view
     (with_bit_cases k a v (λ m. Leaves v (after m (is_free j s.found)))
     (λ held. elim (is_free j s.found) as (λ (b : Bool). Leaves v (after v b)) [
       | true ↦ record { call = refl; grants = λ l. (λ y. has-join_old l k v.reads y, λ y. y) }
@@ -47,7 +47,7 @@ claim_leaves sound v a r u (inl s) = leaves_at v v u s.2 (leaves_all v)
 claim_leaves sound v a r u (inr t) =
     let s = t.1 in let k : ℕ = lock_of_word a in
     let won : View = record (after_asking v a) { claims = k ∷ v.claims; scans = without_first k v.scans } in
-    leaves_at v ((claim_writer_action (number v) k a v).view [] s.found) u s.taken.view
+    leaves_at v ((claim_writer_action (number v) k a v).view s.found) u s.taken.view
     (elim (s.found == 0) as (λ (b : Bool). Leaves v (if b then won else after_meeting (after_asking v a) k (s.found - 1))) [
       | true ↦ record {
         call = refl;
@@ -66,7 +66,7 @@ claim_leaves sound v a r u (inr t) =
 pub scan_leaves : (sound : List ℕ → List View → Type 0) (v : View) (k i : ℕ) (r : Scanned) (u : View) → ScannedBy sound v k i r u → Leaves v u
 scan_leaves sound v k i r u s =
     let clear : View = record v { scans = (k, i) ∷ v.scans } in
-    leaves_at v ((scan_row_action (number v) k i v).view [] s.found) u s.taken.view
+    leaves_at v ((scan_row_action (number v) k i v).view s.found) u s.taken.view
     (elim (bit_at s.found (k % 64) == 0) as (λ (b : Bool). Leaves v (if b then clear else after_meeting v k i)) [
       | true ↦ record { call = refl; grants = λ l. (λ y. y, λ y. (y.0, λ m lt away. pair-join_old l m k i v.scans (y.1 m lt away))) }
       | false ↦ record { call = refl; grants = λ l. (λ y. y, λ y. y) }
@@ -84,7 +84,7 @@ pub share_unchanged : (sound : List ℕ → List View → Type 0) (v : View) (a 
     → SharedBy sound v a r u → u ≡ v → IsGranted v (lock_of_word a)
 share_unchanged sound v a r u (inl s) e = s.0
 share_unchanged sound v a r u (inr t) e =
-    let s = t.1 in let k : ℕ = lock_of_word a in let j : ℕ = number v in let set : View = (set_read_bit_action j k a v).view [] 0 in
+    let s = t.1 in let k : ℕ = lock_of_word a in let j : ℕ = number v in let set : View = (set_read_bit_action j k a v).view 0 in
     let after : View → Bool → View = λ m b. if b then record (after_asking m a) { reads = k ∷ m.reads } else after_meeting (after_asking m a) k (s.found - 1) in
     absurd (with_bit_cases k a v (λ m. after m (is_free j s.found) ≢ v)
     (λ held. elim (is_free j s.found) as (λ (b : Bool). after v b ≢ v) [
@@ -109,10 +109,10 @@ claim_unchanged sound v a r u (inr t) e =
     ] (sym s.taken.view ∙ e))
 
 -- a lock that was released is gone
-pub claim_gone : (v u : View) (k : ℕ) → u ≡ (release_writer_action (number v) k v).view [] 0 → ¬ HasClaim u k
+pub claim_gone : (v u : View) (k : ℕ) → u ≡ (release_writer_action (number v) k v).view 0 → ¬ HasClaim u k
 claim_gone v u k e claim = differ (has k u.claims) claim (ap (λ (x : View). has k x.claims) e ∙ has-without_same k v.claims)
 
-pub bit_gone : (v u : View) (k : ℕ) → u ≡ (clear_read_bit_action (number v) k v).view [] 0 → (¬ HasBit u k) × (¬ HasReadGrant u k)
+pub bit_gone : (v u : View) (k : ℕ) → u ≡ (clear_read_bit_action (number v) k v).view 0 → (¬ HasBit u k) × (¬ HasReadGrant u k)
 bit_gone v u k e = (
   (λ bit. differ (has k u.bits) bit (ap (λ (x : View). has k x.bits) e ∙ has-without_same k v.bits)),
   (λ read. differ (has k u.reads) read (ap (λ (x : View). has k x.reads) e ∙ has-without_same k v.reads)),

@@ -1,5 +1,5 @@
 -- What a step tells of its seat, it tells of the pass that has the seat, and of the desk that has the table.
-use Rattle.std.proofs.Common.{◌≡◌, ℕ, List, [], ◌∷◌, None, slice_index, sym, ap, ◌∙◌, subst}
+use Rattle.std.proofs.Common.{◌≡◌, ℕ, List, [], ◌∷◌, slice_index, sym, ap, ◌∙◌, subst}
 use Rattle.atomic_table.specs.Table.{Me}
 use Rattle.atomic_table.specs.Seated.{TableId}
 use Rattle.history_model.specs.declared.view.View.{View}
@@ -25,11 +25,8 @@ pub of_desk : {S : Type 0} (word_count : S → ℕ) (good : S → List ℕ → T
     (P : (List ℕ → List View → Type 0) → Type 0) → desk ≡ seen → P (DeskHolds word_count good desk) → P (DeskHolds word_count good seen)
 of_desk {S} word_count good desk seen P is h = subst (λ (d : DeskView S). P (DeskHolds word_count good d)) is h
 
--- a pass's view has one number, and no cause
+-- a pass's view has one number
 pub own_number : (who : ℕ) (v : View) (table : TableId) (seen : PassView) → record { table = table; view = v } ≡ seen
     → v.who ≡ who ∷ [] → seen.view.who ≡ number seen.view ∷ []
 own_number who v table seen is single = subst (λ (x : PassView). x.view.who ≡ number x.view ∷ []) is (single
     ∙ ap (λ (j : ℕ). j ∷ []) (sym (ap (λ (l : List ℕ). slice_index l 0) single)))
-
-pub still_none : (v : View) (table : TableId) (seen : PassView) → record { table = table; view = v } ≡ seen → v.due ≡ None → seen.view.due ≡ None
-still_none v table seen is none = subst (λ (x : PassView). x.view.due ≡ None) is none

@@ -1,5 +1,6 @@
 -- A pass's copy after a step.
-use Rattle.std.proofs.Common.{◌≡◌, ◌≢◌, ℕ, ◌-◌, ◌%◌, ◌^◌, ◌/◌, ◌<◌, ◌≤◌, Bool, true, false, List, [], ◌∷◌, length, refl, sym, ap, ◌∙◌, subst, ◌==◌, if◌then◌else◌}
+use Rattle.std.proofs.Common.{◌≡◌, ◌≢◌, ℕ, ◌-◌, ◌%◌, ◌^◌, ◌/◌, ◌<◌, ◌≤◌, Bool, true, false, List, [], ◌∷◌, length, refl, sym, ap, ◌∙◌, subst, ◌==◌}
+use Rattle.std.proofs.Common.{if◌then◌else◌}
 use Rattle.std.specs.Prelude.{bit_and}
 use Rattle.std.specs.Int.{bit_at}
 use Rattle.std.proofs.lemmas.Nat.Bits.{shr_and_one}
@@ -24,25 +25,23 @@ pub record SameSeat (v w : View) : Type 0 where
   pub base : w.base ≡ v.base
   pub seats : w.seats ≡ v.seats
   pub who : w.who ≡ v.who
-  pub due : w.due ≡ v.due
   pub call : w.call ≡ v.call
   pub stamp : w.stamp ≡ v.stamp
   pub announced : w.announced ≡ v.announced
 
-pub steady : (v w : View) → w.base ≡ v.base → w.seats ≡ v.seats → w.who ≡ v.who → w.due ≡ v.due → w.call ≡ v.call
+pub steady : (v w : View) → w.base ≡ v.base → w.seats ≡ v.seats → w.who ≡ v.who → w.call ≡ v.call
     → w.stamp ≡ v.stamp → w.announced ≡ v.announced → SameSeat v w
-steady v w eb es ew ed ec et ea = record { base = eb; seats = es; who = ew; due = ed; call = ec; stamp = et; announced = ea }
+steady v w eb es ew ec et ea = record { base = eb; seats = es; who = ew; call = ec; stamp = et; announced = ea }
 
 -- a pass's copies after a step of its seat, from the seat, from the number of calls and from the copy of its locks
 pub copy_called : {call : CallCopy} {locks : LockCopy} {table : TableId} {me : Me (Unit {0}) View}
     → IsCopy call locks table me → (phase : Phase) (calls : ℕ) (locks' : LockCopy) (table' : TableId) (me' : Me (Unit {0}) View) (w : View)
     → table' ≡ table → me'.0 ≡ w → me'.1 ≡ me.1 → w.base ≡ me.0.base → w.seats ≡ me.0.seats → w.who ≡ me.0.who
-    → w.due ≡ me.0.due → w.call ≡ calls → w.stamp ≡ me.0.stamp → w.announced ≡ me.0.announced → w.phase ≡ phase → IsLockCopy locks' w
+    → w.call ≡ calls → w.stamp ≡ me.0.stamp → w.announced ≡ me.0.announced → w.phase ≡ phase → IsLockCopy locks' w
     → (w.phase ≡ Idle → HoldsNothing w) → IsCopy (record call { phase = phase; calls = calls }) locks' table' me'
-copy_called {call} {locks} {table} {me} i phase calls locks' table' me' w et ew es eb en eo ed ec ez ea ep copy rests =
+copy_called {call} {locks} {table} {me} i phase calls locks' table' me' w et ew es eb en eo ec ez ea ep copy rests =
     subst (λ (t : TableId). IsCopy (record call { phase = phase; calls = calls }) locks' t me') (sym et) record {
       slots = es ∙ i.slots;
-      no_cause = ap (λ (x : View). x.due) ew ∙ (ed ∙ i.no_cause);
       others_are = i.others_are;
       row_is = i.row_is;
       writers_are = i.writers_are;
@@ -65,13 +64,12 @@ copy_called {call} {locks} {table} {me} i phase calls locks' table' me' w et ew 
 -- a pass's copies after a step that tells the view, from a copy of the call and one of its locks
 pub copy_made : {call : CallCopy} {locks : LockCopy} {table : TableId} {me : Me (Unit {0}) View}
     → IsCopy call locks table me → (call' : CallCopy) (locks' : LockCopy) (table' : TableId) (me' : Me (Unit {0}) View) (w : View)
-    → table' ≡ table → me'.0 ≡ w → me'.1 ≡ me.1 → w.base ≡ me.0.base → w.due ≡ me.0.due
+    → table' ≡ table → me'.0 ≡ w → me'.1 ≡ me.1 → w.base ≡ me.0.base
     → call'.seats ≡ call.seats → call'.who ≡ call.who → call'.others ≡ call.others → call'.row ≡ call.row → call'.writers ≡ call.writers
     → IsCallCopy call' w → IsLockCopy locks' w → (w.phase ≡ Idle → HoldsNothing w) → IsCopy call' locks' table' me'
-copy_made {call} {locks} {table} {me} i call' locks' table' me' w et ew es eb ed cs cw co cr cp calls copy rests =
+copy_made {call} {locks} {table} {me} i call' locks' table' me' w et ew es eb cs cw co cr cp calls copy rests =
     subst (λ (t : TableId). IsCopy call' locks' t me') (sym et) record {
       slots = es ∙ i.slots;
-      no_cause = ap (λ (x : View). x.due) ew ∙ (ed ∙ i.no_cause);
       others_are = subst (λ (m : ℕ). ShowsOthers m call'.seats call'.who) (sym co)
           (subst (λ (m : ℕ). ShowsOthers call.others m call'.who) (sym cs) (subst (λ (m : ℕ). ShowsOthers call.others call.seats m) (sym cw) i.others_are));
       row_is = cr ∙ (i.row_is ∙ (ap (λ (m : ℕ). row_word m call.who 0) (sym cs) ∙ ap (λ (m : ℕ). row_word call'.seats m 0) (sym cw)));
@@ -106,7 +104,7 @@ pub copy_after : {call : CallCopy} {locks : LockCopy} {table : TableId} {me : Me
     → table' ≡ table → me'.0 ≡ w → me'.1 ≡ me.1 → SameSeat me.0 w → w.phase ≡ phase → IsLockCopy locks' w
     → (w.phase ≡ Idle → HoldsNothing w) → IsCopy (record call { phase = phase }) locks' table' me'
 copy_after {call} {locks} {table} {me} i phase locks' table' me' w et ew es same ep copy rests =
-    copy_called i phase call.calls locks' table' me' w et ew es same.base same.seats same.who same.due (same.call
+    copy_called i phase call.calls locks' table' me' w et ew es same.base same.seats same.who (same.call
     ∙ i.call_is.calls_are) same.stamp same.announced ep copy rests
 
 -- the same after a store, which tells the view as a whole
@@ -139,21 +137,21 @@ with_versions copy copy' v w i eb er ec es fb fr fc fs sv = record {
 }
 
 -- after a look at a writer word, by whether it was granted
-pub load_same : (j k a : ℕ) (v : View) (w : ℕ) → SameSeat v ((load_writer_action j k a v).view [] w)
+pub load_same : (j k a : ℕ) (v : View) (w : ℕ) → SameSeat v ((load_writer_action j k a v).view w)
 load_same j k a v w = let granted : View = record (after_asking v a) { reads = k ∷ v.reads } in let met : View = after_meeting (after_asking v a) k (w - 1) in
     elim (is_free j w) as (λ (b : Bool). SameSeat v (if b then granted else met)) [
       | true ↦
-          steady v granted refl refl refl refl refl refl refl
-      | false ↦ steady v met refl refl refl refl refl refl refl
+          steady v granted refl refl refl refl refl refl
+      | false ↦ steady v met refl refl refl refl refl refl
     ]
 
-pub load_phase : (j k a : ℕ) (v : View) (w : ℕ) → ((load_writer_action j k a v).view [] w).phase ≡ v.phase
+pub load_phase : (j k a : ℕ) (v : View) (w : ℕ) → ((load_writer_action j k a v).view w).phase ≡ v.phase
 load_phase j k a v w = let granted : View = record (after_asking v a) { reads = k ∷ v.reads } in let met : View = after_meeting (after_asking v a) k (w - 1) in
     elim (is_free j w) as (λ (b : Bool). (if b then granted else met).phase ≡ v.phase) [ true ↦ refl | false ↦ refl ]
 
 pub load_copy : (copy : LockCopy) (j k a : ℕ) (v : View) (w : ℕ) → ShowsLocks copy.bits v.bits
     → ShowsLocks copy.reads (if is_free j w then k ∷ v.reads else v.reads) → ShowsLocks copy.claims v.claims → ShowsPairs copy.scans.items v.scans
-    → VersionsAre copy v → IsLockCopy copy ((load_writer_action j k a v).view [] w)
+    → VersionsAre copy v → IsLockCopy copy ((load_writer_action j k a v).view w)
 load_copy copy j k a v w sb sr sc ss sv = let granted : View = record (after_asking v a) { reads = k ∷ v.reads } in
     let met : View = after_meeting (after_asking v a) k (w - 1) in
     (elim (is_free j w) as (λ (b : Bool). ShowsLocks copy.reads (if b then k ∷ v.reads else v.reads) → IsLockCopy copy (if b then granted else met)) [
@@ -162,7 +160,7 @@ load_copy copy j k a v w sb sr sc ss sv = let granted : View = record (after_ask
     ]) sr
 
 -- after a claim, by whether the writer word was 0
-pub claim_same : (j k a : ℕ) (v : View) (w : ℕ) → SameSeat v ((claim_writer_action j k a v).view [] w)
+pub claim_same : (j k a : ℕ) (v : View) (w : ℕ) → SameSeat v ((claim_writer_action j k a v).view w)
 claim_same j k a v w = let won : View = record (after_asking v a) {
   claims = k ∷ v.claims;
   scans =
@@ -170,11 +168,11 @@ claim_same j k a v w = let won : View = record (after_asking v a) {
 } in let met : View = after_meeting (after_asking v a) k (w - 1) in
     elim (w == 0) as (λ (b : Bool). SameSeat v (if b then won else met)) [
       | true ↦
-          steady v won refl refl refl refl refl refl refl
-      | false ↦ steady v met refl refl refl refl refl refl refl
+          steady v won refl refl refl refl refl refl
+      | false ↦ steady v met refl refl refl refl refl refl
     ]
 
-pub claim_phase : (j k a : ℕ) (v : View) (w : ℕ) → ((claim_writer_action j k a v).view [] w).phase ≡ v.phase
+pub claim_phase : (j k a : ℕ) (v : View) (w : ℕ) → ((claim_writer_action j k a v).view w).phase ≡ v.phase
 claim_phase j k a v w = let won : View = record (after_asking v a) {
   claims = k ∷ v.claims;
   scans =
@@ -184,7 +182,7 @@ claim_phase j k a v w = let won : View = record (after_asking v a) {
 
 pub claim_copy : (copy : LockCopy) (j k a : ℕ) (v : View) (w : ℕ) → ShowsLocks copy.bits v.bits → ShowsLocks copy.reads v.reads
     → ShowsLocks copy.claims (if w == 0 then k ∷ v.claims else v.claims) → ShowsPairs copy.scans.items (if w == 0 then without_first k v.scans else v.scans)
-    → VersionsAre copy v → IsLockCopy copy ((claim_writer_action j k a v).view [] w)
+    → VersionsAre copy v → IsLockCopy copy ((claim_writer_action j k a v).view w)
 claim_copy copy j k a v w sb sr sc ss sv = let won : View = record (after_asking v a) {
   claims = k ∷ v.claims;
   scans =
@@ -197,21 +195,21 @@ claim_copy copy j k a v w sb sr sc ss sv = let won : View = record (after_asking
     ]) sc ss
 
 -- after a scan, by whether the bit was clear
-pub scan_same : (j k i : ℕ) (v : View) (w : ℕ) → SameSeat v ((scan_row_action j k i v).view [] w)
+pub scan_same : (j k i : ℕ) (v : View) (w : ℕ) → SameSeat v ((scan_row_action j k i v).view w)
 scan_same j k i v w = let clear : View = record v { scans = (k, i) ∷ v.scans } in
     elim (bit_at w (k % 64) == 0) as (λ (b : Bool). SameSeat v (if b then clear else after_meeting v k i)) [
       | true ↦
-          steady v clear refl refl refl refl refl refl refl
-      | false ↦ steady v (after_meeting v k i) refl refl refl refl refl refl refl
+          steady v clear refl refl refl refl refl refl
+      | false ↦ steady v (after_meeting v k i) refl refl refl refl refl refl
     ]
 
-pub scan_phase : (j k i : ℕ) (v : View) (w : ℕ) → ((scan_row_action j k i v).view [] w).phase ≡ v.phase
+pub scan_phase : (j k i : ℕ) (v : View) (w : ℕ) → ((scan_row_action j k i v).view w).phase ≡ v.phase
 scan_phase j k i v w = let clear : View = record v { scans = (k, i) ∷ v.scans } in
     elim (bit_at w (k % 64) == 0) as (λ (b : Bool). (if b then clear else after_meeting v k i).phase ≡ v.phase) [ true ↦ refl | false ↦ refl ]
 
 pub scan_copy : (copy : LockCopy) (j k i : ℕ) (v : View) (w : ℕ) → ShowsLocks copy.bits v.bits → ShowsLocks copy.reads v.reads
     → ShowsLocks copy.claims v.claims → ShowsPairs copy.scans.items (if bit_at w (k % 64) == 0 then (k, i) ∷ v.scans else v.scans)
-    → VersionsAre copy v → IsLockCopy copy ((scan_row_action j k i v).view [] w)
+    → VersionsAre copy v → IsLockCopy copy ((scan_row_action j k i v).view w)
 scan_copy copy j k i v w sb sr sc ss sv = let clear : View = record v { scans = (k, i) ∷ v.scans } in
     (elim (bit_at w (k % 64) == 0) as
     (λ (b : Bool). ShowsPairs copy.scans.items (if b then (k, i) ∷ v.scans else v.scans) → IsLockCopy copy (if b then clear else after_meeting v k i)) [
@@ -230,8 +228,8 @@ same_test row locks k a b e h = subst (λ (x : Bool). ShowsLocks row (if x then 
 
 -- after a look at the timestamp of the cause, by whether it is still there
 pub look_same : (b : Bool) (v : View) → SameSeat v (if b then after_waiting v else after_restarting v)
-look_same true v = steady v (after_waiting v) refl refl refl refl refl refl refl
-look_same false v = steady v (after_restarting v) refl refl refl refl refl refl refl
+look_same true v = steady v (after_waiting v) refl refl refl refl refl refl
+look_same false v = steady v (after_restarting v) refl refl refl refl refl refl
 
 pub look_phase : (b : Bool) (v : View) → v.phase ≡ Yielding → (if b then after_waiting v else after_restarting v).phase ≡ (if b then Yielding else Running)
 look_phase true v yields = yields

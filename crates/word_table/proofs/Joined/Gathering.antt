@@ -1,7 +1,7 @@
 -- All passes of a table come together: the last seat has all numbers, and what it knows says what the table left.
-use Rattle.std.proofs.Common.{◌≡◌, ℕ, zero, suc, ◌+◌, ◌<◌, ◌≤◌, true, false, ◌⊎◌, inl, inr, ⊎_elim, List, [], ◌∷◌, ◌++◌, length, drop, Some, slice_get}
+use Rattle.std.proofs.Common.{◌≡◌, ◌≢◌, ℕ, zero, suc, ◌+◌, ◌<◌, ◌≤◌, true, false, ◌⊎◌, inl, inr, ⊎_elim, List, [], ◌∷◌, ◌++◌, length, drop, Some, slice_get}
 use Rattle.std.proofs.Common.{slice_index, slice_set, refl, sym, ap, ◌∙◌, subst, arith, length-drop}
-use Rattle.std.proofs.lemmas.List.{append-nil, ext_get_or, get_or-drop, get_or-set_same, get_or-set_other}
+use Rattle.std.proofs.lemmas.List.{ext_get_or, get_or-drop, get_or-set_same, get_or-set_other}
 use Rattle.std.proofs.lemmas.Option.{slice_get_within, same_Some}
 use mathlib.Core.Option.{some, some-injective, some-ne-none}
 use mathlib.Core.Logic.{dite}
@@ -9,30 +9,40 @@ use native.Mathlib.Decide.{ℕ_discrete}
 use lib.ListN.{get_elem?}
 use Rattle.atomic_table.specs.Table.{State, Me, Joins, Final, Seen}
 use Rattle.atomic_table.specs.Seated.{TableId}
+use Rattle.std.specs.List.{flat_map}
 use Rattle.history_model.specs.declared.entry.Entry.{Entry}
+use Rattle.history_model.specs.declared.item.Item.{Item}
 use Rattle.history_model.specs.declared.view.View.{View}
-use Rattle.history_model.specs.declared.view.Phase.TheVariants.{Idle}
+use Rattle.history_model.specs.declared.view.Phase.{Phase}
+use Rattle.history_model.specs.declared.view.Phase.TheVariants.{Idle, Running, Yielding, Withdrawing, Releasing}
+use Rattle.history_model.specs.Arrangements.{IsArrangement}
 use Rattle.history_model.specs.Fitting.{IsGood}
-use Rattle.history_model.specs.Histories.{replay}
-use Rattle.history_model.specs.Legal.{IsIn, IsPrefix, IsLegalHistory}
+use Rattle.history_model.specs.Legal.{IsIn}
 use Rattle.history_model.specs.Sets.{has}
 use Rattle.history_model.specs.Table.{Knows, value_word}
+use Rattle.history_model.specs.Undoing.{Notes, written_back}
 use Rattle.history_model.specs.Views.{number}
-use Rattle.history_model.proofs.Views.Places.{put_cases}
+use Rattle.history_model.proofs.Views.Places.{same_view, put_cases}
 use Rattle.history_model.proofs.SetLemmas.{has-join_same}
-use Rattle.locks_rule.specs.Joins.{old_of, after_joining, spent_view}
+use Rattle.locks_rule.specs.Joins.{spent_view}
+use Rattle.locks_rule.specs.Locks.{IsSeat}
 use Rattle.locks_rule.specs.Splits.{opening_view}
 use Rattle.locks_rule.proofs.Joining.{has-append_first, has-append_second}
-use Rattle.values_rule.specs.Undone.{memory_of}
-use Rattle.values_rule.proofs.Counting.{no_more}
+use Rattle.values_rule.specs.Undone.{memory_of, undone_by}
 use Rattle.values_rule.proofs.Members.{in_first, in_second, in_join, none_in}
-use Rattle.word_table.specs.Closing.{AreAllPasses, AreOwnersAmong}
+use Rattle.values_rule.specs.History.{version_at, items_of_entry, items_of}
+use Rattle.locks_rule.specs.Joins.{after_joining}
+use Rattle.values_rule.specs.Records.{IsRecorded}
+use Rattle.values_rule.proofs.CutsAndJoins.Gains.{gains_first, gains_second, gains_cases}
+use Rattle.values_rule.proofs.Whole.Closing.{of_all, agree_with_table, has_arrangement}
+use Rattle.values_rule.proofs.Whole.Legality.{place}
+use Rattle.values_rule.proofs.Whole.Undone.{undoing_restores}
+use Rattle.word_table.specs.Closing.{ClosedView, IsCoherent, IsLegalInEachOrder, AreRecords, AreAllPasses, AreSeenBy}
 use Rattle.word_table.specs.Copies.{PassView}
 use Rattle.word_table.specs.Desks.{DeskView}
 use Rattle.word_table.specs.Gathering.{HasTaken, IsGathered}
 use Rattle.word_table.specs.Sound.{IsSound}
 use Rattle.word_table.proofs.Kept.KeptChanges.{join_seats_sound}
-use Rattle.word_table.proofs.Known.{SeesHistory, SeesAll, entry_at, sees_history, sees_all}
 
 module _ (good : List ℕ → Type 0) (n : ℕ) (base : List ℕ) where
   abbrev Holds : State (Unit {0}) View → Type 0
@@ -48,25 +58,19 @@ module _ (good : List ℕ → Type 0) (n : ℕ) (base : List ℕ) where
 takes_itself : (v p : View) → v ≡ p → HasTaken v p
 takes_itself v p e = record {
   numbers = λ j t. subst (λ (x : View). has j x.who ≡ true) (sym e) t;
-  seen =
-      inl (ap (λ (x : View). x.seen) (sym e), ap (λ (x : View). x.who) (sym e));
+  seen = λ x t. subst (λ (y : View). IsIn x y.seen) (sym e) t;
 }
 
 takes_more : (v w p : View) → HasTaken v p → HasTaken (after_joining v w) p
 takes_more v w p t = record {
   numbers = λ j s. has-append_first j v.who w.who (t.numbers j s);
-  seen = inr (⊎_elim
-      (λ e. in_second v.olds (old_of v.seen v.who ∷ old_of w.seen w.who ∷ []) (old_of p.seen p.who) (0, same v p e.0 e.1))
-      (λ i. in_first v.olds (old_of v.seen v.who ∷ old_of w.seen w.who ∷ []) (old_of p.seen p.who) i) t.seen);
+  seen = λ x s. gains_first v.seen w.seen x (t.seen x s);
 }
-  where
-    same : (v p : View) → p.seen ≡ v.seen → p.who ≡ v.who → Some (old_of v.seen v.who) ≡ Some (old_of p.seen p.who)
-    same v p es ew = ap (λ (l : List Entry). Some (old_of l v.who)) (sym es) ∙ ap (λ (l : List ℕ). Some (old_of p.seen l)) (sym ew)
 
 takes_other : (v w p : View) → w ≡ p → HasTaken (after_joining v w) p
 takes_other v w p e = record {
   numbers = λ j s. has-append_second j v.who w.who (subst (λ (x : View). has j x.who ≡ true) (sym e) s);
-  seen = inr (in_second v.olds (old_of v.seen v.who ∷ old_of w.seen w.who ∷ []) (old_of p.seen p.who) (1, ap (λ (x : View). Some (old_of x.seen x.who)) e));
+  seen = λ x s. gains_second v.seen w.seen x (subst (λ (y : View). IsIn x y.seen) (sym e) s);
 }
 
 -- what stands in a list with one more at its end
@@ -87,7 +91,9 @@ first_gathered table seats left x of me all et em named =
       phase = ap (λ (v : View). v.phase) is ∙ all.idle x here;
       named = (number x.view, subst (λ (v : View). has (number x.view) v.who ≡ true) (sym is) named);
       each = λ p t. ⊎_elim (λ s. inl s) (λ e. inr (takes_itself me.0 p.view (is ∙ ap (λ (q : PassView). q.view) e))) (in_last left x p t);
+      only = λ e t. (x, (here, subst (λ (v : View). IsIn e v.seen) is t));
       all_left = λ p t. let i = in_first left (x ∷ []) p t in (all.of_table p i, all.idle p i);
+      among = λ p t. in_first left (x ∷ []) p t;
     }
 
 -- and each further one
@@ -95,6 +101,7 @@ pub next_gathered : (table : TableId) (all passes left : List PassView) (x : Pas
     (me me' : Me (Unit {0}) View) (w : View) → IsGathered table all passes of me → passes ≡ left ++ x ∷ [] → w ≡ x.view
     → of' ≡ of → me' ≡ (after_joining me.0 w, me.1) → IsGathered table all left of' me'
 next_gathered table all passes left x of of' me me' w g e ew et em =
+    let here : IsIn x all = g.among x (subst (λ (l : List PassView). IsIn x l) (sym e) (in_second left (x ∷ []) x (0, refl))) in
     let is : me'.0 ≡ after_joining me.0 w = ap (λ (m : Me (Unit {0}) View). m.0) em in record {
       table_is = et ∙ g.table_is;
       slots = ap (λ (m : Me (Unit {0}) View). m.1) em ∙ g.slots;
@@ -105,7 +112,10 @@ next_gathered table all passes left x of of' me me' w g e ew et em =
           inr (subst (λ (v : View). HasTaken v p.view) (sym is) (takes_other me.0 w p.view (ew ∙ ap (λ (q : PassView). q.view) z))))
           (in_last left x p (subst (λ (l : List PassView). IsIn p l) e s)))
           (λ s. inr (subst (λ (v : View). HasTaken v p.view) (sym is) (takes_more me.0 w p.view s))) (g.each p t);
+      only = λ y t. ⊎_elim (g.only y) (λ i. (x, (here, subst (λ (v : View). IsIn y v.seen) ew i)))
+          (gains_cases me.0.seen w.seen y (subst (λ (v : View). IsIn y v.seen) is t));
       all_left = λ p t. g.all_left p (subst (λ (l : List PassView). IsIn p l) (sym e) (in_first left (x ∷ []) p t));
+      among = λ p t. g.among p (subst (λ (l : List PassView). IsIn p l) (sym e) (in_first left (x ∷ []) p t));
     }
 
 -- the one that was taken out last
@@ -139,70 +149,106 @@ pub all_copied : (ws : List ℕ) (first : ℕ) (words : List ℕ) → AreCopied 
 all_copied ws first words c e = ext_get_or 0 words (drop first ws) (let l = length-drop first ws in
     omega arith) (λ k lt. c.at k lt ∙ sym (get_or-drop first ws k 0))
 
+idle_or : (p : Phase) → (p ≡ Idle) ⊎ (p ≢ Idle)
+idle_or Idle = inl refl
+idle_or Running = inr (λ e. cc e)
+idle_or Yielding = inr (λ e. cc e)
+idle_or Withdrawing = inr (λ e. cc e)
+idle_or Releasing = inr (λ e. cc e)
+
+-- where no view has a note, nothing is written back
+undone_none : (vs : List View) (s : List ℕ) → ((id : ℕ) (u : View) → Knows vs id u → u.undo ≡ []) → undone_by vs s ≡ s
+unfolding undone_by written_back
+undone_none [] s none = refl
+undone_none (v ∷ vs) s none = ap (λ (notes : Notes). undone_by vs (written_back notes s)) (none zero v refl) ∙ undone_none vs s (λ id u e. none (suc id) u e)
+
 -- a table of which one seat between calls has all numbers
 module _ (good : List ℕ → Type 0) (n : ℕ) (base ws : List ℕ) (vs : List View) (id : ℕ) (v : View)
     (h : IsSound good n base ws vs) (me : Knows vs id v) (phase : v.phase ≡ Idle)
     (all : (j : ℕ) → j < n → has j v.who ≡ true) where
-  known : SeesHistory good n base ws vs v
-  known = sees_history good n base ws vs id v h me
+  nothing_noted : (other : ℕ) (u : View) → Knows vs other u → u.undo ≡ []
+  nothing_noted other u k = ⊎_elim
+      (λ idle. h.values.trace.rested other u k (inl idle))
+      (λ busy. let c = h.values.calls.callers_alone other u k busy in
+      let seat : IsSeat vs other u c.0 = record { knows = k; named = subst (λ (l : List ℕ). has c.0 l ≡ true) (sym c.1) (has-join_same c.0 []) } in
+      let same : other ≡ id = h.locks.numbers_unique other id c.0 u v seat (record { knows = me; named = all c.0 (h.locks.numbers_below other c.0 u seat) }) in
+      absurd (busy (ap (λ (x : View). x.phase) (same_view vs id other v u me k same) ∙ phase)))
+      (idle_or u.phase)
 
-  ended : SeesAll n base ws vs v
-  ended = sees_all good n base ws vs id v h me phase all
+  abbrev items : List Item
+  items = flat_map items_of_entry v.seen
 
-  pub ended_words : memory_of n ws ≡ replay base v.seen
-  ended_words = ended.words ∙ ap (λ (l : List Entry). replay base l) (sym ended.whole)
+  all_of_it : (order : List Item) → IsArrangement (flat_map items_of_entry v.seen) order → IsArrangement (items_of vs) order
+  all_of_it order a = of_all good n base ws vs id v h.locks h.values me phase all order a
 
-  pub ended_legal : IsLegalHistory good n base v.seen
-  ended_legal = subst (λ (l : List Entry). IsLegalHistory good n base l) (sym ended.whole) known.legal
+  recorded : (e : Entry) → IsIn e v.seen → IsRecorded vs e
+  recorded e t = record { id = id; view = v; knows = me; seen = t }
 
-  -- what a pass that it took in had seen
-  pub ended_seen : (p : View) → HasTaken v p → IsPrefix p.seen v.seen
-  ended_seen p t = ⊎_elim
-      (λ e. ([], sym e.0 ∙ sym (append-nil p.seen)))
-      (λ i. subst (λ (l : List Entry). IsPrefix p.seen l) (sym ended.whole) (known.olds (old_of p.seen p.who) i)) t.seen
+  module _ {S : Type 0} (shape : S) (words : List ℕ) (words_are : words ≡ memory_of n ws) where
+    abbrev closed : ClosedView S
+    closed = record { base = base; seats = n; shape = shape; records = v.seen; words = words }
 
-  -- and an entry of its number lies in that
-  pub ended_own : (p : View) (e : Entry) (q : ℕ) → HasTaken v p → p.who ≡ e.who ∷ [] → slice_get v.seen q ≡ Some e → q < length p.seen
-  ended_own p e q t single at = ⊎_elim
-      (λ s. subst (λ (l : List Entry). q < length l) (sym s.0) (slice_get_within v.seen q e at))
-      (λ i. known.old_own e.who q (old_of p.seen p.who) e i
-      (subst (λ (l : List ℕ). has e.who l ≡ true) (sym single) (has-join_same e.who []))
-      (subst (λ (l : List Entry). slice_get l q ≡ Some e) ended.whole at) refl)
-      t.seen
+    pub ended_coherent : IsCoherent good closed
+    ended_coherent = let some = has_arrangement good n base ws vs id v h.locks h.values me phase all in record {
+      versions = version_at n ws;
+      agree = agree_with_table good n base ws vs id v h.locks h.values me phase all;
+      order = some.0;
+      arranged = some.1;
+    }
+
+    pub ended_legal : IsLegalInEachOrder good closed
+    ended_legal = record {
+      placed = λ order a p x at. place good n base ws vs h.locks h.values order (all_of_it order a) p x at;
+      words = λ order a. words_are ∙ (sym (undone_none vs (memory_of n ws) nothing_noted)
+          ∙ undoing_restores good n base ws vs order h.locks h.values (all_of_it order a));
+    }
+
+    pub ended_records : AreRecords closed
+    ended_records = record {
+      apart = h.values.records.apart id v me;
+      one = λ e x i j who call. h.values.records.one e x (recorded e i) (recorded x j) who call;
+      knew_own = λ e x i j who call. h.values.records.knew_own e x (recorded e i) (recorded x j) who call;
+      causes = λ e i. h.values.records.causes e (recorded e i);
+    }
+
+-- what closing came to
+pub record IsClosed {S : Type 0} (good : List ℕ → Type 0) (passes : List PassView) (closed : ClosedView S) : Type 0 where
+  pub coherent : IsCoherent good closed
+  pub legal : IsLegalInEachOrder good closed
+  pub records : AreRecords closed
+  pub seen : AreSeenBy passes closed.records
 
 -- all passes of a table have come together in one seat, and the table is closed
-module _ (good : List ℕ → Type 0) (n : ℕ) (base ws : List ℕ) (xs : List (Unit {0})) (id : ℕ) (me : Me (Unit {0}) View)
-    (table of : TableId) (passes : List PassView)
-    (all : AreAllPasses table n passes) (g : IsGathered table passes [] of me) (f : Final (Seen (Holds good n base) id me.0) ws xs) where
-  taken : (p : PassView) → IsIn p passes → HasTaken me.0 p.view
-  taken p t = ⊎_elim (λ s. absurd (none_in p s)) (λ s. s) (g.each p t)
+pub is_closed : {S : Type 0} (good : List ℕ → Type 0) (n : ℕ) (base ws : List ℕ) (shape : S) (xs : List (Unit {0})) (id : ℕ)
+    (me : Me (Unit {0}) View) (table of : TableId) (passes left : List PassView) (x : PassView) (first : ℕ) (words : List ℕ)
+    → AreAllPasses table n passes → passes ≡ left ++ x ∷ [] → IsGathered table (left ++ x ∷ []) [] of me
+    → Final (Seen (Holds good n base) id me.0) ws xs → first ≡ value_word n 0 → words ≡ drop first ws
+    → IsClosed good passes (record { base = base; seats = n; shape = shape; records = me.0.seen; words = words })
+is_closed {S} good n base ws shape xs id me table of passes left x first words all e gathered f at copied =
+    let g : IsGathered table passes [] of me = subst (λ (l : List PassView). IsGathered table l [] of me) (sym e) gathered in
+    let taken : (p : PassView) → IsIn p passes → HasTaken me.0 p.view = λ p t. ⊎_elim (λ s. absurd (none_in p s)) (λ s. s) (g.each p t) in
+    let covers : (j : ℕ) → j < n → has j me.0.who ≡ true = λ j lt. let p = all.all j lt in
+    (taken p.0 p.1).numbers j (subst (λ (l : List ℕ). has j l ≡ true) (sym p.2) (has-join_same j [])) in
+    let left_words : words ≡ memory_of n f.0.words = copied ∙ (ap (λ (k : ℕ). drop k ws) at ∙ ap (λ (l : List ℕ). drop (value_word n 0) l) (sym f.2)) in
+    record {
+      coherent = ended_coherent good n base f.0.words f.0.views id me.0 f.1.0 f.1.1 g.phase covers shape words left_words;
+      legal = ended_legal good n base f.0.words f.0.views id me.0 f.1.0 f.1.1 g.phase covers shape words left_words;
+      records = ended_records good n base f.0.words f.0.views id me.0 f.1.0 f.1.1 g.phase covers shape words left_words;
+      seen = λ y. (λ t. g.only y t, λ t. (taken t.0 t.1.0).seen y t.1.1);
+    }
 
-  covers : (j : ℕ) → j < n → has j me.0.who ≡ true
-  covers j lt = let p = all.all j lt in (taken p.0 p.1).numbers j (subst (λ (l : List ℕ). has j l ≡ true) (sym p.2) (has-join_same j []))
+-- the same, of the desk that has the table, and of what the table is seen as
+pub desk_closed : {S : Type 0} (word_count : S → ℕ) (good : S → List ℕ → Type 0) (desk seen : DeskView S)
+    (passes : List PassView) (made closed : ClosedView S) → desk ≡ seen → closed ≡ made
+    → IsClosed (IsGood (word_count desk.shape) (good desk.shape)) passes made
+    → IsClosed (IsGood (word_count seen.shape) (good seen.shape)) passes closed
+desk_closed {S} word_count good desk seen passes made closed is e h =
+    subst (λ (d : DeskView S). IsClosed (IsGood (word_count d.shape) (good d.shape)) passes closed) is
+    (subst (λ (c : ClosedView S). IsClosed (IsGood (word_count desk.shape) (good desk.shape)) passes c) (sym e) h)
 
-  pub closed_legal : IsLegalHistory good n base me.0.seen
-  closed_legal = ended_legal good n base f.0.words f.0.views id me.0 f.1.0 f.1.1 g.phase covers
-
-  pub closed_words : memory_of n ws ≡ replay base me.0.seen
-  closed_words = subst (λ (l : List ℕ). memory_of n l ≡ replay base me.0.seen) f.2
-      (ended_words good n base f.0.words f.0.views id me.0 f.1.0 f.1.1 g.phase covers)
-
-  pub closed_seen : (p : PassView) → IsIn p passes → IsPrefix p.view.seen me.0.seen
-  closed_seen p t = ended_seen good n base f.0.words f.0.views id me.0 f.1.0 f.1.1 g.phase covers p.view (taken p t)
-
-  pub closed_owners : AreOwnersAmong passes me.0.seen
-  closed_owners q e at = let p = all.all e.who ((closed_legal.at q e at).seat_below) in
-      (p.0, p.1, p.2, ended_own good n base f.0.words f.0.views id me.0 f.1.0 f.1.1 g.phase covers (p.0).view e q (taken p.0 p.1) p.2 at)
-
-  -- the pass whose entry is the last has seen the whole history
-  pub closed_longest : 1 ≤ n → (p : PassView) × IsIn p passes × (p.view.seen ≡ me.0.seen)
-  closed_longest least = at me.0.seen closed_seen closed_owners
-    where
-      at : (l : List Entry) → ((p : PassView) → IsIn p passes → IsPrefix p.view.seen l) → AreOwnersAmong passes l
-          → (p : PassView) × IsIn p passes × (p.view.seen ≡ l)
-      at [] seen owners = let p = all.all 0 least in (p.0, p.1, no_more (p.0).view.seen [] (seen p.0 p.1) (omega arith))
-      at (x ∷ l) seen owners = let e = entry_at (x ∷ l) (length l) (omega arith) in let o = owners (length l) e.0 e.1 in
-          (o.0, o.1, no_more (o.0).view.seen (x ∷ l) (seen o.0 o.1) (let lt = o.3 in omega arith))
+pub all_of_desk : {S : Type 0} (desk seen : DeskView S) (passes : List PassView) → desk ≡ seen
+    → AreAllPasses seen.table seen.seats passes → AreAllPasses desk.table desk.seats passes
+all_of_desk {S} desk seen passes is all = subst (λ (d : DeskView S). AreAllPasses d.table d.seats passes) (sym is) all
 
 -- a table has a pass
 pub some_pass : (table : TableId) (n : ℕ) (passes : List PassView) → AreAllPasses table n passes → 1 ≤ n → passes ≡ [] → ⊥
@@ -210,41 +256,6 @@ some_pass table n passes all least none = let p = all.all 0 least in none_in p.0
 
 pub seat_view : (me : Me (Unit {0}) View) (v : View) → me ≡ (v, []) → (me.0 ≡ v) × (me.1 ≡ [])
 seat_view me v e = (ap (λ (m : Me (Unit {0}) View). m.0) e, ap (λ (m : Me (Unit {0}) View). m.1) e)
-
--- what closing came to
-pub record IsClosed (good : List ℕ → Type 0) (n : ℕ) (base : List ℕ) (passes : List PassView) (entries : List Entry) (words : List ℕ) : Type 0 where
-  pub legal : IsLegalHistory good n base entries
-  pub words_are : words ≡ replay base entries
-  pub seen : (pass : PassView) → IsIn pass passes → IsPrefix pass.view.seen entries
-  pub longest : (pass : PassView) × IsIn pass passes × (pass.view.seen ≡ entries)
-  pub owners : AreOwnersAmong passes entries
-
-pub is_closed : (good : List ℕ → Type 0) (n : ℕ) (base ws : List ℕ) (xs : List (Unit {0})) (id : ℕ)
-    (me : Me (Unit {0}) View) (table of : TableId) (passes left : List PassView) (x : PassView) (first : ℕ) (words : List ℕ)
-    → AreAllPasses table n passes → passes ≡ left ++ x ∷ [] → IsGathered table (left ++ x ∷ []) [] of me
-    → Final (Seen (Holds good n base) id me.0) ws xs → 1 ≤ n → first ≡ value_word n 0 → words ≡ drop first ws
-    → IsClosed good n base passes me.0.seen words
-is_closed good n base ws xs id me table of passes left x first words all e gathered f least at copied =
-    let g : IsGathered table passes [] of me = subst (λ (l : List PassView). IsGathered table l [] of me) (sym e) gathered in record {
-      legal = closed_legal good n base ws xs id me table of passes all g f;
-      words_are = copied ∙ (ap (λ (k : ℕ). drop k ws) at ∙ closed_words good n base ws xs id me table of passes all g f);
-      seen = closed_seen good n base ws xs id me table of passes all g f;
-      longest = closed_longest good n base ws xs id me table of passes all g f least;
-      owners = closed_owners good n base ws xs id me table of passes all g f;
-    }
-
--- the same, of the desk that has the table
-pub desk_closed : {S : Type 0} (word_count : S → ℕ) (good : S → List ℕ → Type 0) (desk seen : DeskView S)
-    (passes : List PassView) (entries now : List Entry) (words : List ℕ) → desk ≡ seen → now ≡ entries
-    → IsClosed (IsGood (word_count desk.shape) (good desk.shape)) desk.seats desk.base passes entries words
-    → IsClosed (IsGood (word_count seen.shape) (good seen.shape)) seen.seats seen.base passes now words
-desk_closed {S} word_count good desk seen passes entries now words is e h =
-    subst (λ (d : DeskView S). IsClosed (IsGood (word_count d.shape) (good d.shape)) d.seats d.base passes now words) is
-    (subst (λ (l : List Entry). IsClosed (IsGood (word_count desk.shape) (good desk.shape)) desk.seats desk.base passes l words) (sym e) h)
-
-pub all_of_desk : {S : Type 0} (desk seen : DeskView S) (passes : List PassView) → desk ≡ seen
-    → AreAllPasses seen.table seen.seats passes → AreAllPasses desk.table desk.seats passes
-all_of_desk {S} desk seen passes is all = subst (λ (d : DeskView S). AreAllPasses d.table d.seats passes) (sym is) all
 
 -- passes that were just dealt out are all passes
 pub fresh_passes : (base : List ℕ) (n : ℕ) (table : TableId) (passes : List PassView) → length passes ≡ n

@@ -1,26 +1,35 @@
 -- The kinds of step on timestamps keep the value invariant: one that gives way has a cause in another seat with an
 -- earlier timestamp, to which no attempt of the call gave way before.
-use Rattle.std.proofs.Common.{◌≡◌, ℕ, ◌+◌, ◌<◌, ◌≤◌, Bool, true, inl, inr, List, Option, slice_index, slice_set, ◌==◌, refl, sym, ap, ◌∙◌, arith}
+use Rattle.std.proofs.Common.{◌≡◌, ℕ, ◌+◌, ◌<◌, ◌≤◌, Bool, true, ◌⊎◌, inl, inr, ⊎_elim, List, ◌∷◌, [], ◌++◌, length, slice_get, Option, Some, None, slice_index}
+use Rattle.std.proofs.Common.{slice_set, ◌==◌, refl, sym, ◌∙◌}
+use Rattle.std.proofs.Common.{subst, arith, get_or-set_other}
+use Rattle.std.proofs.lemmas.List.{set-get_or}
+use Rattle.std.proofs.lemmas.Option.{slice_get_within}
 use Rattle.history_model.specs.declared.event.Cause.{Cause}
 use Rattle.history_model.specs.declared.view.View.{View}
 use Rattle.history_model.specs.declared.view.Phase.TheVariants.{Idle, Yielding}
-use Rattle.history_model.specs.Counts.{is_open}
 use Rattle.history_model.specs.Legal.{IsIn}
 use Rattle.history_model.specs.Sets.{has, without}
-use Rattle.history_model.specs.Table.{Knows, history_of, serial_word, clock_word, stamps_word}
+use Rattle.history_model.specs.Table.{Knows, clock_word, calls_word, commits_word, stamps_word, version_word, value_word}
+use Rattle.history_model.proofs.ListPlaces.{get_first, get_last}
 use Rattle.history_model.proofs.SetLemmas.{not_true}
+use Rattle.history_model.proofs.Views.Places.{put_here}
 use Rattle.locks_rule.specs.Actions.{Action, words_after, views_after}
 use Rattle.locks_rule.proofs.Asides.{picked}
 use Rattle.locks_rule.proofs.Own.{own}
-use Rattle.values_rule.specs.Asides.{IsAside, SameValues, IsNewCause, GivesWay, Restarts}
-use Rattle.values_rule.specs.Values.{ValuesHold}
-use Rattle.values_rule.proofs.Asides.{SameWords, words_unchanged, values_same, values_yield, values_restart, aside_keeps}
-use Rattle.stamps_rule.specs.Causes.{causes_of}
-use Rattle.stamps_rule.specs.Steps.{MayDrawStamp, MayAnnounceStamp, MayJudgeStamp, MayLoadSerialAtYield, MayLoadCauseStamp, draw_stamp_action}
-use Rattle.stamps_rule.specs.Steps.{announce_stamp_action, judge_stamp_action, load_serial_at_yield_action, load_cause_stamp_action, judged, after_giving_way}
+use Rattle.values_rule.specs.Keeping.{IsNewCause, SameValues, SameWords}
+use Rattle.stamps_rule.specs.Causes.{past_causes}
+use Rattle.stamps_rule.specs.Stamps.{StampsHold}
+use Rattle.stamps_rule.specs.Steps.{MayDrawStamp, MayAnnounceStamp, MayJudgeStamp, MayLoadCauseStamp, draw_stamp_action, announce_stamp_action}
+use Rattle.stamps_rule.specs.Steps.{judge_stamp_action, load_cause_stamp_action, judged, after_judgement, after_giving_way, attempt_of}
 use Rattle.stamps_rule.specs.Steps.{after_waiting, after_restarting}
-use Rattle.stamps_rule.proofs.CauseLists.{due_is_cause, due_elsewhere}
-use Rattle.stamps_rule.proofs.LocksStand.{runs, yielded}
+use Rattle.stamps_rule.proofs.CauseLists.{attempt_cause, past_added}
+use Rattle.stamps_rule.proofs.StampKinds.{judge_stamp_stamps}
+use Rattle.values_rule.specs.Versions.{ValuesHold}
+use Rattle.values_rule.proofs.StepKinds.Giving.{giving_way_values}
+use Rattle.values_rule.proofs.StepKinds.Quiet.{restart_values}
+use Rattle.values_rule.proofs.StepKinds.Same.{aside_values}
+use Rattle.values_rule.proofs.Told.Owing.{version_kept}
 use Rattle.word_table.specs.Sound.{IsSound}
 
 -- a step of a seat that may take it keeps the value invariant of a sound table
@@ -31,104 +40,116 @@ ValuesStay good may action =
     → ValuesHold good n base (words_after (action v) words) (views_after (action v) id words views)
 
 -- a call with another timestamp, or with other notes of whom it met
-abbrev restamped : View → ℕ → Bool → ℕ → List ℕ → Option Cause → ℕ → View
-restamped v stamp announced draws met due waits = record v { stamp = stamp; announced = announced; draws = draws; met = met; due = due; waits = waits }
+abbrev restamped : View → ℕ → Bool → ℕ → List ℕ → ℕ → View
+restamped v stamp announced draws met waits = record v { stamp = stamp; announced = announced; draws = draws; met = met; waits = waits }
 
-same_values : (v : View) (stamp : ℕ) (announced : Bool) (draws : ℕ) (met : List ℕ) (due : Option Cause) (waits : ℕ)
-    → v.stamp ≤ stamp → SameValues v (restamped v stamp announced draws met due waits)
-same_values v stamp announced draws met due waits later = record {
-  calls = record {
-    goes_on = record { who = refl; joined = refl; call = refl; floor = refl; still_open = λ t. t; still_begun = λ busy. busy };
-    seen = refl;
-    olds = refl;
-    abandoned = refl;
-    stamp = λ busy. later;
-  };
+same_values : (v : View) (stamp : ℕ) (announced : Bool) (draws : ℕ) (met : List ℕ) (waits : ℕ)
+    → v.stamp ≤ stamp → SameValues v (restamped v stamp announced draws met waits)
+same_values v stamp announced draws met waits later = record {
+  who = refl;
+  joined = refl;
+  seats = refl;
+  seen = refl;
+  call = refl;
+  floor = refl;
+  abandoned = refl;
+  phase = refl;
   trace = refl;
   undo = refl;
-  phase = refl;
+  uses = refl;
+  owed = refl;
+  stamp = λ busy. later;
   grants = λ k g. g;
   writes = λ k g. g;
 }
 
-stamps_aside : (n m j : ℕ) → m ≡ n → j < n → IsAside n (stamps_word m j)
-stamps_aside n m j e lt = record { serial = omega arith; calls = inr (omega arith); values = omega arith }
+-- the clock's word, or one of a timestamp
+words_stay : (n i x : ℕ) (ws : List ℕ) → 0 < i → (i < calls_word n 0) ⊎ (stamps_word n 0 ≤ i) → i < commits_word n 0 → SameWords n ws (slice_set ws i x)
+words_stay n i x ws above away to = record {
+  serial = get_or-set_other ws i 0 x 0 (λ e. omega arith);
+  calls = λ j lt. get_or-set_other ws i (calls_word n j) x 0
+      (λ e. ⊎_elim (λ (low : i < calls_word n 0). omega arith) (λ (high : stamps_word n 0 ≤ i). omega arith) away);
+  commits = λ j lt. get_or-set_other ws i (commits_word n j) x 0 (λ e. omega arith);
+  versions = λ k. version_kept n ws (slice_set ws i x) (λ l near. get_or-set_other ws i (version_word n l) x 0 (λ e. omega arith)) k;
+  values = λ a. get_or-set_other ws i (value_word n a) x 0 (λ e. omega arith);
+}
+
+-- a load changes no word
+same_words : (n i : ℕ) (ws : List ℕ) → SameWords n ws (slice_set ws i (slice_index ws i))
+same_words n i ws = subst (λ (l : List ℕ). SameWords n ws l) (sym (set-get_or ws i 0))
+    (record { serial = refl; calls = λ j lt. refl; commits = λ j lt. refl; versions = λ k. refl; values = λ a. refl })
 
 pub draw_stamp_values : (good : List ℕ → Type 0) (j : ℕ) → ValuesStay good (MayDrawStamp j) (draw_stamp_action j)
 draw_stamp_values good j n base ws vs id v s me may =
     let zero = may.unstamped in
-    aside_keeps good n base ws vs id v (draw_stamp_action j v) s.locks s.values me
-    (record { serial = omega arith; calls = inl (omega arith); values = omega arith })
-    (same_values v (slice_index ws clock_word + 1) v.announced (v.draws + 1) v.met v.due v.waits (omega arith))
+    let x : ℕ = slice_index ws clock_word + 1 in
+    aside_values good n base ws (slice_set ws clock_word x) vs id v (restamped v x v.announced (v.draws + 1) v.met v.waits) s.locks s.values me
+    (same_values v x v.announced (v.draws + 1) v.met v.waits (omega arith))
+    (words_stay n clock_word x ws (omega arith) (inl (omega arith)) (omega arith))
 
 pub announce_stamp_values : (good : List ℕ → Type 0) (j : ℕ) → ValuesStay good (MayAnnounceStamp j) (announce_stamp_action j)
 announce_stamp_values good j n base ws vs id v s me may =
     let o = own n base ws vs id j v s.locks me may.who in
-    aside_keeps good n base ws vs id v (announce_stamp_action j v) s.locks s.values me (stamps_aside n v.seats j o.seats o.below)
-    (same_values v v.stamp true v.draws v.met v.due v.waits (omega arith))
+    let seats = o.seats in
+    let below = o.below in
+    aside_values good n base ws (slice_set ws (stamps_word v.seats j) v.stamp) vs id v (record v { announced = true }) s.locks s.values me
+    (same_values v v.stamp true v.draws v.met v.waits (omega arith))
+    (words_stay n (stamps_word v.seats j) v.stamp ws (omega arith) (inr (omega arith)) (omega arith))
+
+-- where the timestamp invariant holds of a call that gave way to a cause, this was a new one
+new_cause : (good : List ℕ → Type 0) (n : ℕ) (base ws ws' : List ℕ) (vs : List View) (id j : ℕ) (v : View) (c : Cause)
+    → IsSound good n base ws vs → (me : Knows vs id v) → v.who ≡ j ∷ [] → (met : List ℕ)
+    → StampsHold n ws' (slice_set vs id (after_giving_way c (record v { met = met }))) → IsNewCause n v c
+new_cause good n base ws ws' vs id j v c s me single met stamps =
+    let o = own n base ws vs id j v s.locks me single in
+    let x : View = after_giving_way c (record v { met = met }) in
+    let here : Knows (slice_set vs id x) id x = put_here vs id v x me in
+    let past : past_causes x ≡ past_causes v ++ c ∷ [] = past_added v.abandoned (attempt_of c v) in
+    let last : slice_get (past_causes x) (length (past_causes v)) ≡ Some c =
+    subst (λ (l : List Cause). slice_get l (length (past_causes v)) ≡ Some c) (sym past) (get_last (past_causes v) c) in
+    let is_cause : IsIn c (past_causes x) = (length (past_causes v), last) in
+    let place = stamps.grounds.elsewhere id j x c here single is_cause in
+    let early = stamps.grounds.earlier id x c here (λ e. let z : Yielding ≡ Idle = e in cc) is_cause in
+    record {
+      elsewhere = (place.0, not_true (has c.seat v.who) (λ t. place.1 (o.is c.seat t)));
+      earlier = early;
+      first_there = λ y t same.
+          let at : slice_get (past_causes v) t.0 ≡ Some y.cause = attempt_cause v y t.0 t.1 in
+          let lt : t.0 < length (past_causes v) = slice_get_within (past_causes v) t.0 y.cause at in
+          let there : slice_get (past_causes x) t.0 ≡ Some y.cause =
+          subst (λ (l : List Cause). slice_get l t.0 ≡ Some y.cause) (sym past) (get_first (past_causes v) (c ∷ []) t.0 lt ∙ at) in
+          let e : t.0 ≡ length (past_causes v) = stamps.seats.distinct id x here t.0 (length (past_causes v)) y.cause c there last same in
+          omega (arith, e, lt);
+    }
+
+-- what a judgement leaves, by what it found
+by_verdict : (P : View → Type 0) (verdict : Option Cause) (u : View) → (verdict ≡ None → P u)
+    → ((c : Cause) → verdict ≡ Some c → P (after_giving_way c u)) → P (after_judgement verdict u)
+by_verdict P None u p q = p refl
+by_verdict P (Some c) u p q = q c refl
 
 pub judge_stamp_values : (good : List ℕ → Type 0) (j i : ℕ) → ValuesStay good (MayJudgeStamp j i) (judge_stamp_action j i)
 judge_stamp_values good j i n base ws vs id v s me may =
-    let o = own n base ws vs id j v s.locks me may.who in
-    let x : ℕ = slice_index ws (stamps_word v.seats i) in
-    aside_keeps good n base ws vs id v (judge_stamp_action j i v) s.locks s.values me
-    (stamps_aside n v.seats i o.seats (s.locks.met_are_others id i v me may.met).0)
-    (same_values v v.stamp v.announced v.draws (without i v.met) (judged i x v.stamp) v.waits (omega arith))
-
-pub load_serial_at_yield_values : (good : List ℕ → Type 0) (j : ℕ) → ValuesStay good (MayLoadSerialAtYield j) (load_serial_at_yield_action j)
-load_serial_at_yield_values good j n base ws vs id v s me may =
-    let o = own n base ws vs id j v s.locks me may.who in
-    let c : Cause = may.cause.0 in
-    let ws' : List ℕ = slice_set ws serial_word (slice_index ws serial_word) in
-    let w : View = after_giving_way c (history_of vs) v in
-    let is_cause : IsIn c (causes_of v) = due_is_cause v c may.cause.1 in
-    let place = s.stamps.grounds.elsewhere id j v c me may.who is_cause in
-    let new : IsNewCause n v c = record {
-      elsewhere = (place.0, not_true (has c.seat v.who) (λ t. place.1 (o.is c.seat t)));
-      earlier = s.stamps.grounds.earlier id v c me (runs v may.phase) is_cause;
-      first_there = λ x t. due_elsewhere v c x (s.stamps.seats.distinct id v me) may.cause.1 t;
-    } in
-    let gives : GivesWay c (history_of vs) v w = record {
-      goes_on = record { who = refl; joined = refl; call = refl; floor = refl; still_open = λ t. ap is_open may.phase; still_begun = λ busy. runs v may.phase };
-      runs = may.phase;
-      yields = refl;
-      seen = refl;
-      olds = refl;
-      stamp = refl;
-      abandoned = refl;
-      undo = refl;
-      writes = λ k g. g;
-    } in
-    yielded (λ (u : View). ValuesHold good n base ws' (slice_set vs id u)) v c may.cause.1 (history_of vs)
-    (values_yield good n base ws vs id v s.locks s.values me w ws' (words_unchanged n ws serial_word (slice_index ws serial_word) refl) c new gives)
+    let at : ℕ = stamps_word v.seats i in
+    let found : ℕ = slice_index ws at in
+    let met : List ℕ = without i v.met in
+    let passes : View = record v { met = met } in
+    by_verdict (λ (u : View). ValuesHold good n base (slice_set ws at found) (slice_set vs id u)) (judged i found v.stamp) passes
+    (λ e. aside_values good n base ws (slice_set ws at found) vs id v passes s.locks s.values me
+    (same_values v v.stamp v.announced v.draws met v.waits (omega arith)) (same_words n at ws))
+    (λ c e. let stamps : StampsHold n (slice_set ws at found) (slice_set vs id (after_giving_way c passes)) =
+    subst (λ (o : Option Cause). StampsHold n (slice_set ws at found) (slice_set vs id (after_judgement o passes))) e
+    (judge_stamp_stamps j i n base ws vs id v s.locks s.stamps me may) in
+    let new = new_cause good n base ws (slice_set ws at found) vs id j v c s me may.who met stamps in
+    subst (λ (l : List ℕ). ValuesHold good n base l (slice_set vs id (after_giving_way c passes))) (sym (set-get_or ws at 0))
+    (giving_way_values good n base ws vs id j v c met s.locks s.values me may.who may.phase new))
 
 pub load_cause_stamp_values : (good : List ℕ → Type 0) (j i stamp : ℕ) → ValuesStay good (MayLoadCauseStamp j i stamp) (load_cause_stamp_action j i stamp)
 load_cause_stamp_values good j i stamp n base ws vs id v s me may =
     let at : ℕ = stamps_word v.seats i in
     let x : ℕ = slice_index ws at in
-    let ws' : List ℕ = slice_set ws at x in
-    let same : SameWords n ws ws' = words_unchanged n ws at x refl in
-    let again : Restarts v (after_restarting v) = record {
-      calls = record {
-        goes_on = record {
-          who = refl;
-          joined = refl;
-          call = refl;
-          floor = refl;
-          still_open = λ t. ap is_open may.phase;
-          still_begun = λ busy idle. let z : Yielding ≡ Idle = sym may.phase ∙ idle in cc;
-        };
-        seen = refl;
-        olds = refl;
-        abandoned = refl;
-        stamp = λ busy. omega arith;
-      };
-      undone = may.undone;
-      runs = refl;
-      trace = refl;
-      undo = may.undone;
-    } in
-    picked (λ (u : View). ValuesHold good n base ws' (slice_set vs id u)) (x == stamp) (after_waiting v) (after_restarting v)
-    (values_same good n base ws vs id v s.locks s.values me (after_waiting v) ws' same
-    (same_values v v.stamp v.announced v.draws v.met v.due (v.waits + 1) (omega arith)))
-    (values_restart good n base ws vs id v s.locks s.values me (after_restarting v) ws' same again)
+    picked (λ (u : View). ValuesHold good n base (slice_set ws at x) (slice_set vs id u)) (x == stamp) (after_waiting v) (after_restarting v)
+    (aside_values good n base ws (slice_set ws at x) vs id v (after_waiting v) s.locks s.values me
+    (same_values v v.stamp v.announced v.draws v.met (v.waits + 1) (omega arith)) (same_words n at ws))
+    (subst (λ (l : List ℕ). ValuesHold good n base l (slice_set vs id (after_restarting v))) (sym (set-get_or ws at 0))
+    (restart_values good n base ws vs id v s.locks s.values me may.phase may.undone))

@@ -1,12 +1,11 @@
--- The counter of entries has room for one more, and so has the clock: there are no more entries, and no more timestamps,
--- than calls that were begun.
-use Rattle.std.proofs.Common.{◌≡◌, ℕ, zero, suc, ◌*◌, ◌^◌, ◌<◌, ◌≤◌, ◌+◌, Bool, true, List, [], ◌∷◌, slice_index, sym, ap, subst, arith}
+-- The clock has room for one more, and so has a version: there are no more timestamps than calls that were begun, and no
+-- version is greater than their number.
+use Rattle.std.proofs.Common.{◌≡◌, ℕ, zero, suc, ◌*◌, ◌^◌, ◌<◌, ◌≤◌, List, [], ◌∷◌, slice_index, sym, ap, subst, arith}
 use Rattle.history_model.specs.declared.view.View.{View}
 use Rattle.history_model.specs.Counts.{calls_below}
-use Rattle.history_model.specs.Table.{serial_word, calls_word, version_word}
+use Rattle.history_model.specs.Table.{calls_word, version_word}
 use Rattle.history_model.specs.declared.TheConstants.{LOCKS}
 use Rattle.locks_rule.specs.Versions.{load_version_action}
-use Rattle.values_rule.specs.Steps.{commit_call_action}
 use Rattle.stamps_rule.specs.Steps.{draw_stamp_action}
 use Rattle.locks_rule.proofs.Own.{own}
 use Rattle.word_table.specs.declared.limits.TheConstants.{MOST_PASSES}
@@ -17,17 +16,6 @@ unfolding calls_below
 calls_small n zero ws few = omega arith
 calls_small n (suc m) ws few = let rest = calls_small n m ws (λ j lt. few j (omega arith)) in let here = few m (omega arith) in omega arith
 
-pub commit_grows : (good : List ℕ → Type 0) (v : View) (j : ℕ) (kept : Bool) → v.who ≡ j ∷ [] → v.seats ≤ MOST_PASSES
-    → Grows good (commit_call_action j kept v) v
-commit_grows good v j kept single few n base ws vs id h me =
-    let o = own n base ws vs id j v h.locks me single in
-    let small = calls_small n n ws (λ i lt. h.values.calls.calls_fit i lt) in
-    let counted = h.values.calls.counted in
-    let serial = h.values.seen.serial in
-    let seats = o.seats in
-    omega arith
-
--- and so has the clock: there are no more timestamps than calls
 pub draw_grows : (good : List ℕ → Type 0) (v : View) (j : ℕ) → v.who ≡ j ∷ [] → v.seats ≤ MOST_PASSES → Grows good (draw_stamp_action j v) v
 draw_grows good v j single few n base ws vs id h me =
     let o = own n base ws vs id j v h.locks me single in
@@ -36,13 +24,14 @@ draw_grows good v j single few n base ws vs id h me =
     let seats = o.seats in
     omega arith
 
--- and so has a version: it is not above the counter of entries
 pub version_grows : (good : List ℕ → Type 0) (v : View) (j k : ℕ) → v.who ≡ j ∷ [] → v.seats ≤ MOST_PASSES → k < LOCKS
     → Grows good (load_version_action j k v) v
 version_grows good v j k single few near n base ws vs id h me =
-    let more : slice_index ws serial_word + 1 < 2 ^ 64 = commit_grows good v j true single few n base ws vs id h me in
     let o = own n base ws vs id j v h.locks me single in
+    let small = calls_small n n ws (λ i lt. h.values.calls.calls_fit i lt) in
+    let counted = h.versions.counted in
+    let seats = o.seats in
     let place : version_word v.seats k ≡ version_word n k = ap (λ (m : ℕ). version_word m k) o.seats in
-    let low : slice_index ws (version_word v.seats k) ≤ slice_index ws serial_word =
-    subst (λ (i : ℕ). slice_index ws i ≤ slice_index ws serial_word) (sym place) (h.versions.words_below k near) in
+    let low : slice_index ws (version_word v.seats k) ≤ h.versions.ended =
+    subst (λ (i : ℕ). slice_index ws i ≤ h.versions.ended) (sym place) (h.versions.words_below k near) in
     omega arith

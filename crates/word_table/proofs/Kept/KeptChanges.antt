@@ -1,13 +1,14 @@
 -- The cuts of a view and the joins of two keep what holds of a table, in its four parts.
 use Rattle.std.proofs.Common.{ℕ, List}
-use Rattle.locks_rule.specs.Joins.{MayTakeNote, left_by_note, note_of, MayMeetNote, after_note, MayJoinSeats, after_joining, KeepsJoin}
+use Rattle.locks_rule.specs.Joins.{MayTakeNote, left_by_note, note_of, MayMeetNote, MayJoinSeats, KeepsJoin}
 use Rattle.locks_rule.specs.Splits.{KeepsSplit, MaySplitSeat, left_by_split, given_by_split}
-use Rattle.locks_rule.proofs.Joining.{meet_note_keeps, join_seats_keeps}
 use Rattle.locks_rule.proofs.Splitting.{split_seat_keeps, take_note_keeps}
 use Rattle.values_rule.proofs.CutsAndJoins.Cuts.{split_seat_values, take_note_values}
 use Rattle.values_rule.proofs.CutsAndJoins.Joins.{meet_note_values, join_seats_values}
 use Rattle.stamps_rule.proofs.Cuts.{split_seat_stamps, take_note_stamps}
-use Rattle.stamps_rule.proofs.Joins.{meet_note_stamps, join_seats_stamps}
+use Rattle.stamps_rule.proofs.Joins.{meets_note, joins_seats}
+use Rattle.locks_rule.specs.Joins.{gains, after_note, after_joining}
+use Rattle.locks_rule.proofs.Joining.{meet_note_keeps, join_seats_keeps}
 use Rattle.word_table.specs.Sound.{IsSound}
 use Rattle.word_table.proofs.Kept.Bounded.{split_seat_bounded, take_note_bounded, meet_note_bounded, join_seats_bounded}
 
@@ -31,7 +32,7 @@ pub meet_note_sound : (good : List ℕ → Type 0) (n : ℕ) (base : List ℕ) �
 meet_note_sound good n base ws vs id other v w s ne me it may = record {
   locks = meet_note_keeps n base ws vs id other v w s.locks ne me it may;
   values = meet_note_values good n base ws vs id other v w s.locks s.values ne me it may;
-  stamps = meet_note_stamps n base ws vs id other v w s.locks s.stamps ne me it may;
+  stamps = meets_note n ws vs id other v w s.stamps ne me it may.phase may.note_phase (gains v.seen w.seen) may.unnumbered;
   versions = meet_note_bounded n ws vs id other v w s.versions ne me it;
 }
 
@@ -39,6 +40,6 @@ pub join_seats_sound : (good : List ℕ → Type 0) (n : ℕ) (base : List ℕ) 
 join_seats_sound good n base ws vs id other v w s ne me it may = record {
   locks = join_seats_keeps n base ws vs id other v w s.locks ne me it may;
   values = join_seats_values good n base ws vs id other v w s.locks s.values ne me it may;
-  stamps = join_seats_stamps n base ws vs id other v w s.locks s.stamps ne me it may;
+  stamps = joins_seats n ws vs id other v w s.stamps ne me it may.phase may.other_phase (gains v.seen w.seen) may;
   versions = join_seats_bounded n ws vs id other v w s.versions ne me it;
 }

@@ -1,20 +1,18 @@
--- The kinds of step on calls, values and the history keep the timestamp invariant: one begins a call, one ends it, and
+-- The kinds of step on calls, values and entries keep the timestamp invariant: one begins a call, one ends it, and
 -- the others leave timestamps and causes alone.
 use Rattle.std.proofs.Common.{◌≡◌, ℕ, ◌+◌, Bool, true, false, List, slice_index, refl, sym, ap, ◌∙◌, arith}
 use Rattle.history_model.specs.declared.view.View.{View}
 use Rattle.history_model.specs.declared.view.Phase.{Phase}
 use Rattle.history_model.specs.declared.view.Phase.TheVariants.{Idle, Running, Yielding, Withdrawing, Releasing}
 use Rattle.history_model.specs.Counts.{is_attempt, is_open}
-use Rattle.history_model.specs.Table.{Knows, history_of, calls_word, stamps_word}
+use Rattle.history_model.specs.Table.{Knows, calls_word, stamps_word}
 use Rattle.locks_rule.specs.Actions.{Action, found_by, words_after, views_after}
 use Rattle.locks_rule.proofs.Own.{own}
-use Rattle.values_rule.specs.Steps.{MayBeginCall, begin_call_action, MayLoadValue, load_value_action, MayStoreValue, store_value_action, MayUndoStore}
-use Rattle.values_rule.specs.Steps.{undo_store_action, undoing_phase, MayCommitCall, commit_call_action, MayClearStamp, clear_stamp_action, MayLoadSerial}
-use Rattle.values_rule.specs.Steps.{load_serial_action}
+use Rattle.values_rule.specs.Steps.{begin_call_action, load_value_action, store_value_action, undo_store_action, undoing_phase, clear_stamp_action}
+use Rattle.values_rule.specs.Steps.{MayBeginCall, MayLoadValue, MayStoreValue, MayUndoStore, MayCommitCall, commit_call_action, MayClearStamp}
 use Rattle.stamps_rule.specs.Causes.{is_yielding}
 use Rattle.stamps_rule.specs.Stamps.{is_idle, StampsHold}
 use Rattle.stamps_rule.proofs.Asides.{aside_keeps, opens_keeps, ends_keeps, notes_same}
-use Rattle.stamps_rule.proofs.Rests.{idle_rests}
 use Rattle.word_table.specs.Sound.{IsSound}
 
 -- a step of a seat that may take it keeps the timestamp invariant of a sound table
@@ -24,7 +22,7 @@ StampsStay good may action =
     → IsSound good n base words views → Knows views id v → may v
     → StampsHold n (words_after (action v) words) (views_after (action v) id words views)
 
-pub begin_call_stamps : (good : List ℕ → Type 0) (j : ℕ) → StampsStay good (MayBeginCall j) (begin_call_action j)
+pub begin_call_stamps : (good : List ℕ → Type 0) (j : ℕ) → StampsStay good ((MayBeginCall j)) (begin_call_action j)
 begin_call_stamps good j n base ws vs id v s me may =
     let o = own n base ws vs id j v s.locks me may.who in
     let place : calls_word v.seats j ≡ calls_word n j = ap (λ (m : ℕ). calls_word m j) o.seats in
@@ -41,15 +39,14 @@ begin_call_stamps good j n base ws vs id v s me may =
       announced =
           refl;
       draws = refl;
-      no_cause = may.no_cause;
       no_attempt = refl;
       none_met = refl;
     }
 
-pub load_value_stamps : (good : List ℕ → Type 0) (j a : ℕ) → StampsStay good (MayLoadValue j a) (load_value_action j a)
+pub load_value_stamps : (good : List ℕ → Type 0) (j a : ℕ) → StampsStay good ((MayLoadValue j a)) (load_value_action j a)
 load_value_stamps good j a n base ws vs id v s me may =
     let o = own n base ws vs id j v s.locks me may.who in
-    let w : View = (load_value_action j a v).view (history_of vs) (found_by (load_value_action j a v) ws) in
+    let w : View = (load_value_action j a v).view (found_by (load_value_action j a v) ws) in
     aside_keeps n base ws vs id v (load_value_action j a v) s.locks s.stamps me (λ t. let high = t.1 in let seats = o.seats in omega arith)
     record {
       who = refl;
@@ -57,19 +54,16 @@ load_value_stamps good j a n base ws vs id v s me may =
       stamp = refl;
       announced = refl;
       draws = refl;
-      due = refl;
-      no_cause =
-          may.no_cause;
       abandoned = refl;
       idle = refl;
       yielding = refl;
       notes = notes_same v w refl refl;
     }
 
-pub store_value_stamps : (good : List ℕ → Type 0) (j a x : ℕ) → StampsStay good (MayStoreValue j a) (store_value_action j a x)
+pub store_value_stamps : (good : List ℕ → Type 0) (j a x : ℕ) → StampsStay good ((MayStoreValue j a)) (store_value_action j a x)
 store_value_stamps good j a x n base ws vs id v s me may =
     let o = own n base ws vs id j v s.locks me may.who in
-    let w : View = (store_value_action j a x v).view (history_of vs) (found_by (store_value_action j a x v) ws) in
+    let w : View = (store_value_action j a x v).view (found_by (store_value_action j a x v) ws) in
     aside_keeps n base ws vs id v (store_value_action j a x v) s.locks s.stamps me (λ t. let high = t.1 in let seats = o.seats in omega arith)
     record {
       who = refl;
@@ -77,9 +71,6 @@ store_value_stamps good j a x n base ws vs id v s me may =
       stamp = refl;
       announced = refl;
       draws = refl;
-      due = refl;
-      no_cause =
-          may.no_cause;
       abandoned = refl;
       idle = refl;
       yielding = refl;
@@ -93,10 +84,10 @@ undoing Yielding e = (refl, refl)
 undoing Withdrawing e = (refl, refl)
 undoing Releasing e = absurd (cc)
 
-pub undo_store_stamps : (good : List ℕ → Type 0) (j a old : ℕ) → StampsStay good (MayUndoStore j a old) (undo_store_action j a old)
+pub undo_store_stamps : (good : List ℕ → Type 0) (j a old : ℕ) → StampsStay good ((MayUndoStore j a old)) (undo_store_action j a old)
 undo_store_stamps good j a old n base ws vs id v s me may =
     let o = own n base ws vs id j v s.locks me may.who in
-    let w : View = (undo_store_action j a old v).view (history_of vs) (found_by (undo_store_action j a old v) ws) in
+    let w : View = (undo_store_action j a old v).view (found_by (undo_store_action j a old v) ws) in
     let p = undoing v.phase may.phase in
     aside_keeps n base ws vs id v (undo_store_action j a old v) s.locks s.stamps me (λ t. let high = t.1 in let seats = o.seats in omega arith)
     record {
@@ -105,9 +96,6 @@ undo_store_stamps good j a old n base ws vs id v s me may =
       stamp = refl;
       announced = refl;
       draws = refl;
-      due = refl;
-      no_cause =
-          may.no_cause;
       abandoned = refl;
       idle = p.0;
       yielding = p.1;
@@ -121,30 +109,28 @@ attempting Yielding e = absurd (cc)
 attempting Withdrawing e = (refl, refl)
 attempting Releasing e = absurd (cc)
 
-pub commit_call_stamps : (good : List ℕ → Type 0) (j : ℕ) (kept : Bool) → StampsStay good (MayCommitCall good j kept) (commit_call_action j kept)
+pub commit_call_stamps : (good : List ℕ → Type 0) (j : ℕ) (kept : Bool) → StampsStay good ((MayCommitCall good j kept)) (commit_call_action j kept)
 commit_call_stamps good j kept n base ws vs id v s me may =
-    let w : View = (commit_call_action j kept v).view (history_of vs) (found_by (commit_call_action j kept v) ws) in
+    let w : View = (commit_call_action j kept v).view (found_by (commit_call_action j kept v) ws) in
     let p = attempting v.phase may.phase in
-    aside_keeps n base ws vs id v (commit_call_action j kept v) s.locks s.stamps me (λ t. let low = t.0 in omega arith)
+    aside_keeps n base ws vs id v (commit_call_action j kept v) s.locks s.stamps me
+    (λ t. let high = t.1 in let seats = (own n base ws vs id j v s.locks me may.who).seats in omega arith)
     record {
       who = refl;
       joined = refl;
       stamp = refl;
       announced = refl;
       draws = refl;
-      due = refl;
-      no_cause =
-          may.no_cause;
       abandoned = refl;
       idle = p.0;
       yielding = p.1;
       notes = notes_same v w refl refl;
     }
 
-pub clear_stamp_stamps : (good : List ℕ → Type 0) (j : ℕ) → StampsStay good (MayClearStamp j) (clear_stamp_action j)
+pub clear_stamp_stamps : (good : List ℕ → Type 0) (j : ℕ) → StampsStay good ((MayClearStamp j)) (clear_stamp_action j)
 clear_stamp_stamps good j n base ws vs id v s me may =
     let o = own n base ws vs id j v s.locks me may.who in
-    let w : View = (clear_stamp_action j v).view (history_of vs) (found_by (clear_stamp_action j v) ws) in
+    let w : View = (clear_stamp_action j v).view (found_by (clear_stamp_action j v) ws) in
     ends_keeps n base ws vs id j v (clear_stamp_action j v) s.locks s.stamps me
     record { place = ap (λ (m : ℕ). stamps_word m j) o.seats; none = refl }
     record {
@@ -156,28 +142,6 @@ clear_stamp_stamps good j n base ws vs id v s me may =
       announced = refl;
       draws =
           refl;
-      due = may.no_cause;
-      no_cause = may.no_cause;
       abandoned = refl;
-      notes = notes_same v w refl refl;
-    }
-
-pub load_serial_stamps : (good : List ℕ → Type 0) → StampsStay good MayLoadSerial load_serial_action
-load_serial_stamps good n base ws vs id v s me may =
-    let w : View = (load_serial_action v).view (history_of vs) (found_by (load_serial_action v) ws) in
-    let rests = idle_rests n ws vs id v s.stamps me may.phase in
-    aside_keeps n base ws vs id v (load_serial_action v) s.locks s.stamps me (λ t. let low = t.0 in omega arith)
-    record {
-      who = refl;
-      joined = refl;
-      stamp = refl;
-      announced = refl;
-      draws = refl;
-      due = refl;
-      no_cause =
-          rests.due;
-      abandoned = refl;
-      idle = refl;
-      yielding = refl;
       notes = notes_same v w refl refl;
     }

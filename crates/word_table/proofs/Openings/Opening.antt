@@ -11,6 +11,7 @@ use Rattle.atomic_table.specs.Seated.{TableId}
 use Rattle.history_model.specs.declared.TheConstants.{LOCKS}
 use Rattle.history_model.specs.declared.view.View.{View}
 use Rattle.history_model.specs.declared.view.Phase.TheVariants.{Idle}
+use Rattle.history_model.specs.Counts.{is_open, open_count}
 use Rattle.history_model.specs.Sets.{has, without, flag}
 use Rattle.history_model.specs.Table.{Knows, clock_word, stamps_word, row_word, writer_word, version_word, value_word, table_words}
 use Rattle.locks_rule.specs.Locks.{LocksHold, IsSeat}
@@ -73,6 +74,10 @@ opening_locks n base =
       bases_alike = λ id j u s. sym (ap (λ (x : View). x.base) (one id u s.knows).1);
     }
 
+closed_alone : (v : View) → is_open v.phase ≡ false → open_count (v ∷ []) ≡ 0
+unfolding open_count
+closed_alone v e = rw e refl
+
 -- no version was raised yet
 opening_versions : (n : ℕ) (base : List ℕ) → VersionsBounded n (opening_words n base) (opening_view base n (numbers 0 n) [] ∷ [])
 opening_versions n base =
@@ -80,6 +85,8 @@ opening_versions n base =
     let none : (id k x : ℕ) (u : View) → Knows (v ∷ []) id u → IsIn (k, x) u.uses → ⊥ =
     λ id k x u e t. none_in (k, x) (subst (λ (y : View). IsIn (k, x) y.uses) (sym (one_view v id u e).1) t) in
     record {
+      ended = 0;
+      counted = let none_open : open_count (v ∷ []) ≡ 0 = closed_alone v refl in omega arith;
       words_below = λ k near. let zero_there : slice_index (opening_words n base) (version_word n k) ≡ 0 =
           zeros_at (value_word n 0) base (version_word n k) (omega arith) in omega arith;
       uses_below = λ id k x u e t. absurd (none id k x u e t);
@@ -96,7 +103,7 @@ module _ (good : List ℕ → Type 0) (n : ℕ) (base : List ℕ) where
       clock = zeros_at (value_word n 0) base clock_word (omega arith);
       stamps = λ j lt. zeros_at (value_word n 0) base (stamps_word n j) (omega arith);
       unused = λ id v knows. subst (λ (x : View). IsUnused x) (one_view (opening_view base n (numbers 0 n) []) id v knows).1
-          (record { phase = refl; unstamped = refl; unannounced = refl; undrawn = refl; no_cause = refl; no_attempt = refl; none_met = refl });
+          (record { phase = refl; unstamped = refl; unannounced = refl; undrawn = refl; no_attempt = refl; none_met = refl });
     };
     versions = opening_versions n base;
   }
@@ -142,7 +149,6 @@ module _ (base : List ℕ) (n j : ℕ) (me : Me (Unit {0}) View) (lt : j < n) (e
     );
     phase = ap (λ (x : Me (Unit {0}) View). x.0.phase) known;
     unjoined = ap (λ (x : Me (Unit {0}) View). x.0.joined) known;
-    no_cause = ap (λ (x : Me (Unit {0}) View). x.0.due) known;
   }
 
   pub dealt_left : (after : Me (Unit {0}) View) → after ≡ (left_by_split me.0, me.1) → after ≡ (opening_view base n (numbers (j + 1) (n - (j + 1))) [], [])
@@ -169,7 +175,6 @@ pub opening_copy : (base : List ℕ) (call : CallCopy) (locks : LockCopy) (table
 opening_copy base call locks table me em idle fresh unstamped unannounced others row writers below few short long eb er
     ec es eu ew ev = subst (λ (m : Me (Unit {0}) View). IsCopy call locks table m) (sym em) record {
       slots = refl;
-      no_cause = refl;
       others_are = others;
       row_is = row;
       writers_are = writers;

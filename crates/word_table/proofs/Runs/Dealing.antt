@@ -67,7 +67,7 @@ module _ (good : List ℕ → Type 0) (n : ℕ) (base : List ℕ) where
     place = 0;
     view = opening_view base n (numbers j (suc (suc k))) [];
     knows = refl;
-    may = record { who = (suc j, numbers (suc (suc j)) k, refl, λ same. omega arith); phase = refl; unjoined = refl; no_cause = refl };
+    may = record { who = (suc j, numbers (suc (suc j)) k, refl, λ same. omega arith); phase = refl; unjoined = refl };
     words_are = refl;
     views_are = ap (λ (l : List ℕ). opening_view base n l [] ∷ dealt (suc j)) (sym (rest_of_numbers j (suc k)));
   }

@@ -1,19 +1,17 @@
 -- The clock counts the timestamps that were drawn, so no step but a draw changes it.
 use Rattle.std.proofs.Common.{◌≡◌, ◌≢◌, ℕ, ◌-◌, ◌%◌, Bool, true, false, List, ◌∷◌, ◌==◌, if◌then◌else◌, Option, Some, None, refl, arith}
 use Rattle.std.specs.Int.{bit_at}
-use Rattle.history_model.specs.declared.entry.Entry.{Entry}
 use Rattle.history_model.specs.declared.event.Cause.{Cause}
 use Rattle.history_model.specs.declared.view.View.{View}
-use Rattle.history_model.specs.Sets.{without_first}
-use Rattle.history_model.specs.Table.{history_of}
+use Rattle.history_model.specs.Sets.{without, without_first}
 use Rattle.locks_rule.specs.Actions.{found_by}
 use Rattle.locks_rule.specs.Steps.{is_free, after_asking, after_meeting}
-use Rattle.stamps_rule.specs.Steps.{after_yielding, after_waiting, after_restarting}
+use Rattle.stamps_rule.specs.Steps.{judged, after_judgement, after_waiting, after_restarting}
 use Rattle.stamps_rule.proofs.Counting.{draws_of-set}
 use Rattle.word_table.specs.declared.step.Step.{Step}
 use Rattle.word_table.specs.declared.step.Step.TheVariants.{SetReadBit, ClearReadBit, LoadWriter, ClaimWriter, ScanRow, ReleaseWriter, BeginCall, LoadValue}
-use Rattle.word_table.specs.declared.step.Step.TheVariants.{StoreValue, UndoStore, CommitCall, ClearStamp, LoadSerial, DrawStamp, AnnounceStamp, JudgeStamp}
-use Rattle.word_table.specs.declared.step.Step.TheVariants.{LoadSerialAtYield, LoadCauseStamp, LoadVersion, StoreVersion}
+use Rattle.word_table.specs.declared.step.Step.TheVariants.{StoreValue, UndoStore, CommitCall, ClearStamp, DrawStamp, AnnounceStamp, JudgeStamp}
+use Rattle.word_table.specs.declared.step.Step.TheVariants.{LoadCauseStamp, LoadVersion, StoreVersion}
 use Rattle.word_table.specs.Kinds.{action_of}
 use Rattle.word_table.specs.Meetings.{ClockCountsDraws, OnlyDrawsMoveClock}
 use Rattle.word_table.proofs.Kept.KeptKinds.{sound_kept}
@@ -27,35 +25,33 @@ either : (b : Bool) (v x y : View) → DrewNone v x → DrewNone v y → DrewNon
 either true v x y p q = p
 either false v x y p q = q
 
-yielding : (due : Option Cause) (h : List Entry) (v : View) → DrewNone v (after_yielding due h v)
-yielding None h v = refl
-yielding (Some cause) h v = refl
+judging : (verdict : Option Cause) (v w : View) → DrewNone v w → DrewNone v (after_judgement verdict w)
+judging None v w e = e
+judging (Some cause) v w e = e
 
 -- the kinds of step, one by one
-drew_none : (st : Step) (v : View) (h : List Entry) (w : ℕ) → ((j : ℕ) → st ≢ DrawStamp j) → DrewNone v ((action_of st v).view h w)
-drew_none (SetReadBit j l a) v h w other = refl
-drew_none (ClearReadBit j l) v h w other = refl
-drew_none (LoadWriter j l a) v h w other =
+drew_none : (st : Step) (v : View) (w : ℕ) → ((j : ℕ) → st ≢ DrawStamp j) → DrewNone v ((action_of st v).view w)
+drew_none (SetReadBit j l a) v w other = refl
+drew_none (ClearReadBit j l) v w other = refl
+drew_none (LoadWriter j l a) v w other =
     either (is_free j w) v (record (after_asking v a) { reads = l ∷ v.reads }) (after_meeting (after_asking v a) l (w - 1)) refl refl
-drew_none (ClaimWriter j l a) v h w other =
+drew_none (ClaimWriter j l a) v w other =
     either (w == 0) v (record (after_asking v a) { claims = l ∷ v.claims; scans = without_first l v.scans })
     (after_meeting (after_asking v a) l (w - 1)) refl refl
-drew_none (ScanRow j l i) v h w other = either (bit_at w (l % 64) == 0) v (record v { scans = (l, i) ∷ v.scans }) (after_meeting v l i) refl refl
-drew_none (ReleaseWriter j l) v h w other = refl
-drew_none (BeginCall j) v h w other = refl
-drew_none (LoadValue j a) v h w other = refl
-drew_none (StoreValue j a x) v h w other = refl
-drew_none (UndoStore j a old) v h w other = refl
-drew_none (CommitCall j kept) v h w other = refl
-drew_none (ClearStamp j) v h w other = refl
-drew_none LoadSerial v h w other = refl
-drew_none (DrawStamp j) v h w other = absurd (other j refl)
-drew_none (AnnounceStamp j) v h w other = refl
-drew_none (JudgeStamp j i) v h w other = refl
-drew_none (LoadSerialAtYield j) v h w other = yielding v.due h v
-drew_none (LoadCauseStamp j i stamp) v h w other = either (w == stamp) v (after_waiting v) (after_restarting v) refl refl
-drew_none (LoadVersion j l) v h w other = refl
-drew_none (StoreVersion j l x) v h w other = refl
+drew_none (ScanRow j l i) v w other = either (bit_at w (l % 64) == 0) v (record v { scans = (l, i) ∷ v.scans }) (after_meeting v l i) refl refl
+drew_none (ReleaseWriter j l) v w other = refl
+drew_none (BeginCall j) v w other = refl
+drew_none (LoadValue j a) v w other = refl
+drew_none (StoreValue j a x) v w other = refl
+drew_none (UndoStore j a old) v w other = refl
+drew_none (CommitCall j kept) v w other = refl
+drew_none (ClearStamp j) v w other = refl
+drew_none (DrawStamp j) v w other = absurd (other j refl)
+drew_none (AnnounceStamp j) v w other = refl
+drew_none (JudgeStamp j i) v w other = judging (judged i w v.stamp) v (record v { met = without i v.met }) refl
+drew_none (LoadCauseStamp j i stamp) v w other = either (w == stamp) v (after_waiting v) (after_restarting v) refl refl
+drew_none (LoadVersion j l) v w other = refl
+drew_none (StoreVersion j l x) v w other = refl
 
 pub clock_counts_draws : (good : List ℕ → Type 0) (n : ℕ) (base : List ℕ) → ClockCountsDraws good n base
 clock_counts_draws good n base state r = (run_sound good n base r.run r.base_good r.runs r.at state r.stands).stamps.drawn.drawn_are
@@ -64,9 +60,9 @@ pub only_draws_move_clock : (good : List ℕ → Type 0) (n : ℕ) (base : List 
 only_draws_move_clock good n base state place step view r knows may other =
     let before = run_sound good n base r.run r.base_good r.runs r.at state r.stands in
     let after = sound_kept good n base step state.words state.views place view before knows may in
-    let w : View = (action_of step view).view (history_of state.views) (found_by (action_of step view) state.words) in
+    let w : View = (action_of step view).view (found_by (action_of step view) state.words) in
     let sums = draws_of-set state.views place view w knows in
-    let same : w.draws ≡ view.draws = drew_none step view (history_of state.views) (found_by (action_of step view) state.words) other in
+    let same : w.draws ≡ view.draws = drew_none step view (found_by (action_of step view) state.words) other in
     let was = before.stamps.drawn.drawn_are in
     let is = after.stamps.drawn.drawn_are in
     omega arith

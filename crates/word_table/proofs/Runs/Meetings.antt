@@ -6,28 +6,27 @@ use Rattle.std.specs.Int.{bit_at}
 use mathlib.Core.Logic.{dite}
 use native.Mathlib.Decide.{ℕ_discrete}
 use Rattle.history_model.specs.declared.TheConstants.{LOCKS}
-use Rattle.history_model.specs.declared.entry.Entry.{Entry}
 use Rattle.history_model.specs.declared.event.Cause.{Cause}
 use Rattle.history_model.specs.declared.view.View.{View}
 use Rattle.history_model.specs.Conflicts.{Meets, IsAt}
-use Rattle.history_model.specs.Sets.{has, without_first}
-use Rattle.history_model.specs.Table.{TableState, Knows, history_of, stamps_word, row_word, writer_word}
+use Rattle.history_model.specs.Sets.{has, without, without_first}
+use Rattle.history_model.specs.Table.{TableState, Knows, stamps_word, row_word, writer_word}
 use Rattle.history_model.proofs.Views.Places.{same_view}
 use Rattle.history_model.proofs.SetLemmas.{has-join_same}
 use Rattle.locks_rule.specs.Locks.{LocksHold, AskedFor}
 use Rattle.locks_rule.specs.Steps.{MayLoadWriter, MayClaimWriter, MayScanRow, is_free, after_asking, after_meeting}
 use Rattle.locks_rule.proofs.Own.{is_own, lock_near}
 use Rattle.locks_rule.proofs.Readers.{free_cases}
-use Rattle.stamps_rule.specs.Steps.{after_yielding, after_waiting, after_restarting}
+use Rattle.stamps_rule.specs.Steps.{judged, after_judgement, after_waiting, after_restarting}
 use Rattle.stamps_rule.proofs.Bounds.{restarts_bounded}
+use Rattle.values_rule.proofs.Whole.Legality.{place}
 use Rattle.word_table.specs.declared.step.Step.{Step}
 use Rattle.word_table.specs.declared.step.Step.TheVariants.{SetReadBit, ClearReadBit, LoadWriter, ClaimWriter, ScanRow, ReleaseWriter, BeginCall, LoadValue}
-use Rattle.word_table.specs.declared.step.Step.TheVariants.{StoreValue, UndoStore, CommitCall, ClearStamp, LoadSerial, DrawStamp, AnnounceStamp, JudgeStamp}
-use Rattle.word_table.specs.declared.step.Step.TheVariants.{LoadSerialAtYield, LoadCauseStamp, LoadVersion, StoreVersion}
+use Rattle.word_table.specs.declared.step.Step.TheVariants.{StoreValue, UndoStore, CommitCall, ClearStamp, DrawStamp, AnnounceStamp, JudgeStamp}
+use Rattle.word_table.specs.declared.step.Step.TheVariants.{LoadCauseStamp, LoadVersion, StoreVersion}
 use Rattle.word_table.specs.Kinds.{May}
-use Rattle.word_table.specs.Meetings.{IsReached, view_after, StandsElsewhere, MeetsInConflict, NeverMeetsApart, RestartsFew, ReadsOneState}
+use Rattle.word_table.specs.Meetings.{IsReached, view_after, StandsElsewhere, MeetsInConflict, NeverMeetsApart, RestartsFew, ReadsOneState, IsArranged}
 use Rattle.word_table.specs.Sound.{IsSound}
-use Rattle.word_table.proofs.Known.{sees_history, attempts_read}
 use Rattle.word_table.proofs.Calls.Found.{StandsIn, claimant_found, not_own_found, reader_found}
 use Rattle.word_table.proofs.Runs.RunLaws.{run_sound}
 
@@ -55,9 +54,9 @@ this_one v m l x k i same t =
     let one : (l, x) ∷ [] ≡ (k, i) ∷ [] = append_cancel_left v.meetings ((l, x) ∷ []) ((k, i) ∷ []) e in
     let pair : (l, x) ≡ (k, i) = cc in (ap (λ (p : ℕ × ℕ). p.0) pair, ap (λ (p : ℕ × ℕ). p.1) pair)
 
-yielding_meets : (due : Option Cause) (h : List Entry) (v : View) → (after_yielding due h v).meetings ≡ v.meetings
-yielding_meets None h v = refl
-yielding_meets (Some c) h v = refl
+judgement_meets : (verdict : Option Cause) (v : View) → (after_judgement verdict v).meetings ≡ v.meetings
+judgement_meets None v = refl
+judgement_meets (Some c) v = refl
 
 -- by whether a number is 0
 by_zero : (w : ℕ) (P : Bool → Type 0) → P true → (w ≢ 0 → P false) → P (w == 0)
@@ -146,11 +145,10 @@ module _ (n : ℕ) (base ws : List ℕ) (vs : List View) (id : ℕ) (v : View) (
   meets good (UndoStore j a old) may m = absurd (nobody v (now (UndoStore j a old)) k i refl m)
   meets good (CommitCall j kept) may m = absurd (nobody v (now (CommitCall j kept)) k i refl m)
   meets good (ClearStamp j) may m = absurd (nobody v (now (ClearStamp j)) k i refl m)
-  meets good LoadSerial may m = absurd (nobody v (now LoadSerial) k i refl m)
   meets good (DrawStamp j) may m = absurd (nobody v (now (DrawStamp j)) k i refl m)
   meets good (AnnounceStamp j) may m = absurd (nobody v (now (AnnounceStamp j)) k i refl m)
-  meets good (JudgeStamp j x) may m = absurd (nobody v (now (JudgeStamp j x)) k i refl m)
-  meets good (LoadSerialAtYield j) may m = absurd (nobody v (now (LoadSerialAtYield j)) k i (yielding_meets v.due (history_of vs) v) m)
+  meets good (JudgeStamp j x) may m = absurd (nobody v (now (JudgeStamp j x)) k i
+      (judgement_meets (judged x (slice_index ws (stamps_word v.seats x)) v.stamp) (record v { met = without x v.met })) m)
   meets good (LoadCauseStamp j x stamp) may m =
       absurd (nobody v (now (LoadCauseStamp j x stamp)) k i (waiting_meets (slice_index ws (stamps_word v.seats x) == stamp) v) m)
   meets good (LoadVersion j l) may m = absurd (nobody v (now (LoadVersion j l)) k i refl m)
@@ -178,5 +176,7 @@ module _ (good : List ℕ → Type 0) (n : ℕ) (base : List ℕ) where
   restarts_few s id j v r me single = let h = reached_sound s r in restarts_bounded n base s.words s.views id j v h.locks h.stamps me single
 
   pub reads_one_state : ReadsOneState good n base
-  reads_one_state s id j v r me single busy = let h = reached_sound s r in
-      (attempts_read good n base s.words s.views id v h me j single busy, (sees_history good n base s.words s.views id v h me).begins)
+  reads_one_state s order p x r arranged at = let h = reached_sound s r in place good n base s.words s.views h.locks h.values order arranged p x at
+
+  pub is_arranged : IsArranged good n base
+  is_arranged s r = let h = reached_sound s r in (h.values.items.order, h.values.items.arranged)

@@ -4,7 +4,8 @@ use Rattle.std.specs.Prelude.{Option, Some, None, Bool, true, false, slice_get}
 use Rattle.history_model.specs.declared.view.View.{View}
 use Rattle.history_model.specs.Table.{TableState, Knows}
 use Rattle.locks_rule.specs.Actions.{words_after, views_after}
-use Rattle.locks_rule.specs.Joins.{KeepsJoin, left_by_note, note_of, MayMeetNote, after_note, MayJoinSeats, after_joining, views_joined}
+use Rattle.locks_rule.specs.Joins.{KeepsJoin, left_by_note, note_of, MayMeetNote, MayJoinSeats, views_joined}
+use Rattle.locks_rule.specs.Joins.{after_note, after_joining}
 use Rattle.locks_rule.specs.Splits.{opening_view, left_by_split, given_by_split}
 use Rattle.word_table.specs.declared.step.Step.{Step}
 use Rattle.word_table.specs.Kinds.{action_of, May}

@@ -1,14 +1,13 @@
 -- A call has one timestamp at most, from the step that draws it until the call ends.
 use Rattle.std.proofs.Common.{◌≡◌, ◌≢◌, ℕ, zero, suc, ◌+◌, ◌-◌, ◌%◌, ◌<◌, ◌≤◌, Bool, true, false, ◌⊎◌, inl, inr, ⊎_elim, List, [], ◌∷◌, ◌++◌, slice_index, ◌==◌}
 use Rattle.std.proofs.Common.{if◌then◌else◌, Option, Some, None, slice_get, slice_set, refl, sym, ap, ◌∙◌, subst, arith}
-use Rattle.history_model.specs.declared.entry.Entry.{Entry}
 use Rattle.history_model.specs.declared.event.Cause.{Cause}
 use Rattle.history_model.specs.declared.view.View.{View}
 use Rattle.history_model.specs.declared.view.Phase.{Phase}
 use Rattle.history_model.specs.declared.view.Phase.TheVariants.{Idle, Running, Releasing}
 use Rattle.history_model.specs.Counts.{is_attempt, is_open}
-use Rattle.history_model.specs.Sets.{has, without_first}
-use Rattle.history_model.specs.Table.{TableState, Knows, history_of}
+use Rattle.history_model.specs.Sets.{has, without, without_first}
+use Rattle.history_model.specs.Table.{TableState, Knows}
 use Rattle.history_model.specs.Views.{number}
 use Rattle.std.specs.Int.{bit_at}
 use mathlib.Core.Logic.{dite}
@@ -17,20 +16,20 @@ use Rattle.history_model.proofs.Views.Changes.{Change, StepTouches, NewByStep, c
 use Rattle.history_model.proofs.Views.Places.{same_view}
 use Rattle.history_model.proofs.SetLemmas.{differ, has-nil, has-one, has-without, has-join_same}
 use Rattle.locks_rule.specs.Actions.{found_by}
-use Rattle.locks_rule.specs.Joins.{MayMeetNote, left_by_note, note_of, after_note, MayJoinSeats, after_joining, spent_view}
+use Rattle.locks_rule.specs.Joins.{MayMeetNote, left_by_note, note_of, MayJoinSeats, spent_view}
 use Rattle.locks_rule.specs.Steps.{is_free, after_asking, after_meeting}
 use Rattle.locks_rule.specs.Splits.{MaySplitSeat, left_by_split, given_by_split}
 use Rattle.locks_rule.proofs.Own.{own_number}
 use Rattle.stamps_rule.proofs.LocksStand.{runs, yields}
-use Rattle.stamps_rule.specs.Steps.{after_yielding, after_waiting, after_restarting}
+use Rattle.stamps_rule.specs.Steps.{judged, after_judgement, after_giving_way, after_waiting, after_restarting}
+use Rattle.locks_rule.specs.Joins.{after_note, after_joining}
 use Rattle.word_table.specs.declared.step.Step.{Step}
 use Rattle.word_table.specs.declared.step.Step.TheVariants.{SetReadBit, ClearReadBit, LoadWriter, ClaimWriter, ScanRow, ReleaseWriter, BeginCall, LoadValue}
-use Rattle.word_table.specs.declared.step.Step.TheVariants.{StoreValue, UndoStore, CommitCall, ClearStamp, LoadSerial, DrawStamp, AnnounceStamp, JudgeStamp}
-use Rattle.word_table.specs.declared.step.Step.TheVariants.{LoadSerialAtYield, LoadCauseStamp, LoadVersion, StoreVersion}
+use Rattle.word_table.specs.declared.step.Step.TheVariants.{StoreValue, UndoStore, CommitCall, ClearStamp, DrawStamp, AnnounceStamp, JudgeStamp}
+use Rattle.word_table.specs.declared.step.Step.TheVariants.{LoadCauseStamp, LoadVersion, StoreVersion}
 use Rattle.word_table.specs.Kinds.{action_of, May}
 use Rattle.word_table.specs.Meetings.{view_after, StampsAreKept}
 use Rattle.word_table.specs.Runs.{TakesStep, CutsSeat, TakesNote, Joins, Steps, IsRun}
-use Rattle.word_table.proofs.Known.{never_joined}
 use Rattle.word_table.proofs.Runs.RunLaws.{before, run_sound}
 
 -- what a step does to call and timestamp of the view that takes it: it leaves them, or it ends the call, or it begins the
@@ -100,42 +99,41 @@ either : (b : Bool) (v x y : View) → GoesTo v x → GoesTo v y → GoesTo v (i
 either true v x y p q = p
 either false v x y p q = q
 
-yielding : (due : Option Cause) (h : List Entry) (v : View) → v.phase ≢ Idle → GoesTo v (after_yielding due h v)
-yielding None h v busy = stays v v refl refl refl refl busy
-yielding (Some cause) h v busy = stays v (after_yielding (Some cause) h v) refl refl refl refl busy
+judging : (verdict : Option Cause) (v : View) (met : List ℕ) → v.phase ≢ Idle
+    → GoesTo v (after_judgement verdict (record v { met = met }))
+judging None v met busy = stays v (record v { met = met }) refl refl refl refl busy
+judging (Some cause) v met busy = stays v (after_giving_way cause (record v { met = met })) refl refl refl refl busy
 
-goes : (good : List ℕ → Type 0) (st : Step) (v : View) (h : List Entry) (w : ℕ) → May good st v → GoesTo v ((action_of st v).view h w)
-goes good (SetReadBit j l a) v h w may = stays v ((action_of (SetReadBit j l a) v).view h w) refl refl refl refl (runs v may.phase)
-goes good (ClearReadBit j l) v h w may = stays v ((action_of (ClearReadBit j l) v).view h w) refl refl refl refl may.release.begun
-goes good (LoadWriter j l a) v h w may =
+goes : (good : List ℕ → Type 0) (st : Step) (v : View) (w : ℕ) → May good st v → GoesTo v ((action_of st v).view w)
+goes good (SetReadBit j l a) v w may = stays v ((action_of (SetReadBit j l a) v).view w) refl refl refl refl (runs v may.phase)
+goes good (ClearReadBit j l) v w may = stays v ((action_of (ClearReadBit j l) v).view w) refl refl refl refl may.release.begun
+goes good (LoadWriter j l a) v w may =
     let granted : View = record (after_asking v a) { reads = l ∷ v.reads } in let met : View = after_meeting (after_asking v a) l (w - 1) in
     either (is_free j w) v granted met (stays v granted refl refl refl refl (runs v may.phase)) (stays v met refl refl refl refl (runs v may.phase))
-goes good (ClaimWriter j l a) v h w may =
+goes good (ClaimWriter j l a) v w may =
     let won : View = record (after_asking v a) { claims = l ∷ v.claims; scans = without_first l v.scans } in
     let met : View = after_meeting (after_asking v a) l (w - 1) in
     either (w == 0) v won met (stays v won refl refl refl refl (runs v may.phase)) (stays v met refl refl refl refl (runs v may.phase))
-goes good (ScanRow j l i) v h w may =
+goes good (ScanRow j l i) v w may =
     let clear : View = record v { scans = (l, i) ∷ v.scans } in let met : View = after_meeting v l i in
     either (bit_at w (l % 64) == 0) v clear met (stays v clear refl refl refl refl (runs v may.phase))
     (stays v met refl refl refl refl (runs v may.phase))
-goes good (ReleaseWriter j l) v h w may = stays v ((action_of (ReleaseWriter j l) v).view h w) refl refl refl refl may.releases.release.begun
-goes good (BeginCall j) v h w may = (refl, refl, inr (inr (inl refl)))
-goes good (LoadValue j a) v h w may = stays v ((action_of (LoadValue j a) v).view h w) refl refl refl refl (runs v may.loads.phase)
-goes good (StoreValue j a x) v h w may = stays v ((action_of (StoreValue j a x) v).view h w) refl refl refl refl (runs v may.phase)
-goes good (UndoStore j a old) v h w may = stays v ((action_of (UndoStore j a old) v).view h w) refl refl refl refl (open_not v may.phase)
-goes good (CommitCall j kept) v h w may = stays v ((action_of (CommitCall j kept) v).view h w) refl refl refl refl (attempt_not v may.phase)
-goes good (ClearStamp j) v h w may = (refl, refl, inr (inl (record { call = refl; rests = refl })))
-goes good LoadSerial v h w may = (refl, refl, inl (record { call = refl; stamp = refl; rests = λ e. e }))
-goes good (DrawStamp j) v h w may = (refl, refl, inr (inr (inr (record { call = refl; none = may.unstamped; runs = may.phase }))))
-goes good (AnnounceStamp j) v h w may = stays v ((action_of (AnnounceStamp j) v).view h w) refl refl refl refl (runs v may.phase)
-goes good (JudgeStamp j i) v h w may = stays v ((action_of (JudgeStamp j i) v).view h w) refl refl refl refl (runs v may.phase)
-goes good (LoadSerialAtYield j) v h w may = yielding v.due h v (runs v may.phase)
-goes good (LoadCauseStamp j i stamp) v h w may =
+goes good (ReleaseWriter j l) v w may = stays v ((action_of (ReleaseWriter j l) v).view w) refl refl refl refl may.releases.release.begun
+goes good (BeginCall j) v w may = (refl, refl, inr (inr (inl refl)))
+goes good (LoadValue j a) v w may = stays v ((action_of (LoadValue j a) v).view w) refl refl refl refl (runs v may.phase)
+goes good (StoreValue j a x) v w may = stays v ((action_of (StoreValue j a x) v).view w) refl refl refl refl (runs v may.phase)
+goes good (UndoStore j a old) v w may = stays v ((action_of (UndoStore j a old) v).view w) refl refl refl refl (open_not v may.phase)
+goes good (CommitCall j kept) v w may = stays v ((action_of (CommitCall j kept) v).view w) refl refl refl refl (attempt_not v may.phase)
+goes good (ClearStamp j) v w may = (refl, refl, inr (inl (record { call = refl; rests = refl })))
+goes good (DrawStamp j) v w may = (refl, refl, inr (inr (inr (record { call = refl; none = may.unstamped; runs = may.phase }))))
+goes good (AnnounceStamp j) v w may = stays v ((action_of (AnnounceStamp j) v).view w) refl refl refl refl (runs v may.phase)
+goes good (JudgeStamp j i) v w may = judging (judged i w v.stamp) v (without i v.met) (runs v may.phase)
+goes good (LoadCauseStamp j i stamp) v w may =
     either (w == stamp) v (after_waiting v) (after_restarting v)
     (stays v (after_waiting v) refl refl refl refl (yields v may.phase)) (stays v (after_restarting v) refl refl refl refl (yields v may.phase))
-goes good (LoadVersion j l) v h w may = stays v ((action_of (LoadVersion j l) v).view h w) refl refl refl refl (runs v may.loads.phase)
-goes good (StoreVersion j l x) v h w may =
-    stays v ((action_of (StoreVersion j l x) v).view h w) refl refl refl refl (λ e. let z : Releasing ≡ Idle = sym may.stores.phase ∙ e in cc)
+goes good (LoadVersion j l) v w may = stays v ((action_of (LoadVersion j l) v).view w) refl refl refl refl (runs v may.phase)
+goes good (StoreVersion j l x) v w may =
+    stays v ((action_of (StoreVersion j l x) v).view w) refl refl refl refl (λ e. let z : Releasing ≡ Idle = sym may.stores.phase ∙ e in cc)
 
 -- a view that may be cut is none of which this is known
 cut_not : (j c s i : ℕ) (v : View) → MaySplitSeat i v → Keeps j c s v → ⊥
@@ -159,7 +157,7 @@ module _ (good : List ℕ → Type 0) (j c s : ℕ) (some : 0 < s) where
     takes : TakesStep good x y → AllKeep y.views
     takes t =
         let w : View = view_after t.step t.view x in
-        let on : GoesTo t.view w = goes good t.step t.view (history_of x.views) (found_by (action_of t.step t.view) x.words) t.may in
+        let on : GoesTo t.view w = goes good t.step t.view (found_by (action_of t.step t.view) x.words) t.may in
         subst AllKeep (sym t.views_are) (all_changed x.views (slice_set x.views t.place w) (StepTouches t.place)
         (NewByStep t.place w) (change_step x.views t.place w)
         (λ other u e named. subst (λ (z : View). Keeps j c s z) e.1 (keeps_step j c s t.view w some on
@@ -228,5 +226,5 @@ stamps_are_kept good n base run p q j earlier later place there v w fine r at at
     let sound_later = run_sound good n base run fine r q later at_later in
     ⊎_elim
     (λ t. ⊎_elim (λ a. a.1) (λ b. ⊎_elim (λ i. absurd (busy i.1)) (λ lt. absurd (omega (arith, call))) b) t.1)
-    (λ t. absurd (differ w.joined t (never_joined good n base later.words later.views there w sound_later kept j one)))
+    (λ t. absurd (differ w.joined t (sound_later.values.calls.alone_unjoined there j w kept one)))
     (kept_to good j v.call v.stamp some n base run r p earlier at start q later le at_later there w kept (own_number w j one))

@@ -8,7 +8,7 @@ use Rattle.history_model.specs.declared.TheConstants.{LOCKS}
 use Rattle.history_model.specs.declared.view.View.{View}
 use Rattle.history_model.specs.Locks.{lock_of_word}
 use Rattle.history_model.specs.Sets.{has, without_first}
-use Rattle.history_model.specs.Table.{Knows, serial_word, clock_word, calls_word, stamps_word, row_word, writer_word, version_word, value_word}
+use Rattle.history_model.specs.Table.{Knows, clock_word, calls_word, commits_word, stamps_word, row_word, writer_word, version_word, value_word}
 use Rattle.history_model.specs.Undoing.{Notes}
 use Rattle.values_rule.specs.Values.{oldest}
 use Rattle.history_model.specs.Views.{number, HasClaim}
@@ -21,13 +21,12 @@ use Rattle.locks_rule.proofs.Own.{own, lock_near}
 use Rattle.values_rule.proofs.Notes.{oldest_first, oldest_more, oldest_one}
 use Rattle.word_table.specs.declared.step.Step.{Step}
 use Rattle.word_table.specs.declared.step.Step.TheVariants.{SetReadBit, ClearReadBit, LoadWriter, ClaimWriter, ScanRow, ReleaseWriter, BeginCall, LoadValue}
-use Rattle.word_table.specs.declared.step.Step.TheVariants.{StoreValue, UndoStore, CommitCall, ClearStamp, LoadSerial, DrawStamp, AnnounceStamp, JudgeStamp}
-use Rattle.word_table.specs.declared.step.Step.TheVariants.{LoadSerialAtYield, LoadCauseStamp, LoadVersion, StoreVersion}
+use Rattle.word_table.specs.declared.step.Step.TheVariants.{StoreValue, UndoStore, CommitCall, ClearStamp, DrawStamp, AnnounceStamp, JudgeStamp}
+use Rattle.word_table.specs.declared.step.Step.TheVariants.{LoadCauseStamp, LoadVersion, StoreVersion}
 use Rattle.word_table.specs.Kinds.{May, action_of}
 use Rattle.word_table.specs.Meetings.{view_after, AsksApart}
 use Rattle.word_table.specs.Sound.{IsSound}
 use Rattle.word_table.specs.Writes.{HaveNoCommonWord, IsAskedWord, IsOwnWord, IsSharedWord, IsWordOfLock, WritesOwnAndAsked}
-use Rattle.word_table.proofs.Known.{noted_held}
 use Rattle.word_table.proofs.Runs.Meetings.{reached_sound}
 
 -- a load changes no word
@@ -85,9 +84,9 @@ module _ (good : List ℕ → Type 0) (n : ℕ) (base ws : List ℕ) (vs : List 
 
   changes : (st : Step) → May good st v → Changes st → MayChange (now st)
   changes (SetReadBit j l b) may c = own_word j (now (SetReadBit j l b)) may.who
-      (inr (inr (l, subst (λ k. k < LOCKS) may.lock (mod-lt b (omega arith)), stores ws (row_word v.seats j l) _ a c)))
+      (inr (inr (inr (l, subst (λ k. k < LOCKS) may.lock (mod-lt b (omega arith)), stores ws (row_word v.seats j l) _ a c))))
   changes (ClearReadBit j l) may c = own_word j (now (ClearReadBit j l)) may.who
-      (inr (inr (l, lock_near v l (s.locks.bits_were_asked id l v me may.bit), stores ws (row_word v.seats j l) _ a c)))
+      (inr (inr (inr (l, lock_near v l (s.locks.bits_were_asked id l v me may.bit), stores ws (row_word v.seats j l) _ a c))))
   changes (LoadWriter j l b) may c = absurd (loads ws (writer_word v.seats l) a c)
   changes (ClaimWriter j l b) may c =
       let w : ℕ = slice_index ws (writer_word v.seats l) in
@@ -103,16 +102,14 @@ module _ (good : List ℕ → Type 0) (n : ℕ) (base ws : List ℕ) (vs : List 
       (inr (inr (b, refl, stores ws (value_word v.seats b) x a c)))
   changes (UndoStore j b old) may c =
       let noted = note_found b old may.newest.0 in
-      let held = noted_held good n base ws vs id v s me b noted.0 (ap (oldest b) may.newest.1 ∙ noted.1) in
-      asked_word j (lock_of_word b) (now (UndoStore j b old)) may.who (claim_asked (lock_of_word b) held.0)
+      let held = s.values.undo.noted id b noted.0 v me (ap (oldest b) may.newest.1 ∙ noted.1) in
+      asked_word j (lock_of_word b) (now (UndoStore j b old)) may.who (claim_asked (lock_of_word b) held.1.0)
       (inr (inr (b, refl, stores ws (value_word v.seats b) old a c)))
-  changes (CommitCall j kept) may c = inr (inr (inr (stores ws serial_word _ a c)))
-  changes (ClearStamp j) may c = own_word j (now (ClearStamp j)) may.who (inr (inl (stores ws (stamps_word v.seats j) _ a c)))
-  changes LoadSerial may c = absurd (loads ws serial_word a c)
-  changes (DrawStamp j) may c = inr (inr (inl (stores ws clock_word _ a c, may.unjudged)))
-  changes (AnnounceStamp j) may c = own_word j (now (AnnounceStamp j)) may.who (inr (inl (stores ws (stamps_word v.seats j) _ a c)))
+  changes (CommitCall j kept) may c = own_word j (now (CommitCall j kept)) may.who (inr (inl (stores ws (commits_word v.seats j) _ a c)))
+  changes (ClearStamp j) may c = own_word j (now (ClearStamp j)) may.who (inr (inr (inl (stores ws (stamps_word v.seats j) _ a c))))
+  changes (DrawStamp j) may c = inr (inr (stores ws clock_word _ a c, may.unjudged))
+  changes (AnnounceStamp j) may c = own_word j (now (AnnounceStamp j)) may.who (inr (inr (inl (stores ws (stamps_word v.seats j) _ a c))))
   changes (JudgeStamp j i) may c = absurd (loads ws (stamps_word v.seats i) a c)
-  changes (LoadSerialAtYield j) may c = absurd (loads ws serial_word a c)
   changes (LoadCauseStamp j i stamp) may c = absurd (loads ws (stamps_word v.seats i) a c)
   changes (LoadVersion j l) may c = absurd (loads ws (version_word v.seats l) a c)
   changes (StoreVersion j l x) may c =
@@ -127,13 +124,20 @@ module _ (n i j a : ℕ) (v u : View) (i_below : i < n) (j_below : j < n) (other
   own_own : IsOwnWord n i a → IsOwnWord n j a → ⊥
   own_own (inl x) (inl y) = other (omega arith)
   own_own (inl x) (inr (inl y)) = absurd (omega arith)
-  own_own (inl x) (inr (inr (l, near, y))) = absurd (omega arith)
+  own_own (inl x) (inr (inr (inl y))) = absurd (omega arith)
+  own_own (inl x) (inr (inr (inr (l, near, y)))) = absurd (omega arith)
   own_own (inr (inl x)) (inl y) = absurd (omega arith)
   own_own (inr (inl x)) (inr (inl y)) = other (omega arith)
-  own_own (inr (inl x)) (inr (inr (l, near, y))) = absurd (omega arith)
-  own_own (inr (inr (k, close, x))) (inl y) = absurd (omega arith)
-  own_own (inr (inr (k, close, x))) (inr (inl y)) = absurd (omega arith)
-  own_own (inr (inr (k, close, x))) (inr (inr (l, near, y))) = other (omega arith)
+  own_own (inr (inl x)) (inr (inr (inl y))) = absurd (omega arith)
+  own_own (inr (inl x)) (inr (inr (inr (l, near, y)))) = absurd (omega arith)
+  own_own (inr (inr (inl x))) (inl y) = absurd (omega arith)
+  own_own (inr (inr (inl x))) (inr (inl y)) = absurd (omega arith)
+  own_own (inr (inr (inl x))) (inr (inr (inl y))) = other (omega arith)
+  own_own (inr (inr (inl x))) (inr (inr (inr (l, near, y)))) = absurd (omega arith)
+  own_own (inr (inr (inr (k, close, x)))) (inl y) = absurd (omega arith)
+  own_own (inr (inr (inr (k, close, x)))) (inr (inl y)) = absurd (omega arith)
+  own_own (inr (inr (inr (k, close, x)))) (inr (inr (inl y))) = absurd (omega arith)
+  own_own (inr (inr (inr (k, close, x)))) (inr (inr (inr (l, near, y)))) = other (omega arith)
 
   locks_locks : IsAskedWord n v a → IsAskedWord n u a → ⊥
   locks_locks (k, close, asked, x) (l, near, also, y) = by_kind x y where
@@ -159,9 +163,12 @@ own_lock n i k a below close (inl x) (inr (inr (w, lock, y))) = absurd (omega ar
 own_lock n i k a below close (inr (inl x)) (inl y) = absurd (omega arith)
 own_lock n i k a below close (inr (inl x)) (inr (inl y)) = absurd (omega arith)
 own_lock n i k a below close (inr (inl x)) (inr (inr (w, lock, y))) = absurd (omega arith)
-own_lock n i k a below close (inr (inr (l, near, x))) (inl y) = absurd (omega arith)
-own_lock n i k a below close (inr (inr (l, near, x))) (inr (inl y)) = absurd (omega arith)
-own_lock n i k a below close (inr (inr (l, near, x))) (inr (inr (w, lock, y))) = absurd (omega arith)
+own_lock n i k a below close (inr (inr (inl x))) (inl y) = absurd (omega arith)
+own_lock n i k a below close (inr (inr (inl x))) (inr (inl y)) = absurd (omega arith)
+own_lock n i k a below close (inr (inr (inl x))) (inr (inr (w, lock, y))) = absurd (omega arith)
+own_lock n i k a below close (inr (inr (inr (l, near, x)))) (inl y) = absurd (omega arith)
+own_lock n i k a below close (inr (inr (inr (l, near, x)))) (inr (inl y)) = absurd (omega arith)
+own_lock n i k a below close (inr (inr (inr (l, near, x)))) (inr (inr (w, lock, y))) = absurd (omega arith)
 
 pub have_no_common_word : HaveNoCommonWord
 have_no_common_word n i j a v u i_below j_below other apart (inl x) (inl y) = own_own n i j a v u i_below j_below other apart x y

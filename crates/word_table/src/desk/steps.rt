@@ -1,24 +1,23 @@
 //! Steps on the shared table, for lock_or_yield and txn_commit: a program that runs jobs by `transact` calls none of them.
 
 ghost use Rattle.std.specs.Prelude.{◌≡◌, ◌≢◌, ◌⊎◌, ◌<◌, ℕ, [], ◌∷◌, length, Some, ◌++◌, ◌+◌, ◌==◌, not, true, false, List};
-ghost use Rattle.history_model.specs.declared.entry.Entry.{Entry};
 ghost use Rattle.history_model.specs.declared.event.Event.{Event};
 ghost use Rattle.history_model.specs.declared.event.Event.TheVariants.{Read};
 ghost use Rattle.history_model.specs.Counts.{is_attempt, is_open};
-ghost use Rattle.history_model.specs.Legal.{IsPrefix};
 ghost use Rattle.history_model.specs.Locks.{lock_of_word};
 ghost use Rattle.history_model.specs.Traces.{after, IsLegalTrace};
 ghost use Rattle.history_model.specs.Undoing.{Notes};
 ghost use Rattle.history_model.specs.Views.{number, HasBit, HasReadGrant, HasClaim, IsScanned, HasWriteGrant, IsGranted};
 ghost use Rattle.locks_rule.specs.Steps.{load_writer_action, claim_writer_action, scan_row_action, release_writer_action, clear_read_bit_action};
-ghost use Rattle.values_rule.specs.Steps.{begin_call_action, store_value_action, undo_store_action, commit_call_action, clear_stamp_action};
+ghost use Rattle.values_rule.specs.Steps.{begin_call_action, store_value_action, undo_store_action, clear_stamp_action};
+ghost use Rattle.values_rule.specs.Steps.{after_commit, commit_call_action};
 ghost use Rattle.stamps_rule.specs.Causes.{newest, past_causes};
 ghost use Rattle.stamps_rule.specs.Stamps.{AreRestartsBounded};
 ghost use Rattle.stamps_rule.specs.Steps.{draw_stamp_action, announce_stamp_action, load_cause_stamp_action};
 ghost use Rattle.history_model.specs.Sets.{has, without};
-ghost use Rattle.word_table.specs.Calls.{ClaimedBy, CommitsAt, GainsUse, GaveUp, GaveWay, GrantsStay, JudgedBy, LoadedBy, MetOn, ReadsHistory, SameCall, ScannedBy, SharedBy, paid, with_bit};
+ghost use Rattle.word_table.specs.Calls.{ClaimedBy, GainsUse, GaveUp, GaveWay, GrantsStay, JudgedBy, LoadedBy, MetOn, ReadsArranged, SameCall, ScannedBy, SharedBy, paid, with_bit};
 ghost use Rattle.word_table.specs.Kinds.{TakenIn};
-ghost use Rattle.word_table.specs.Desks.{AreGoodWords, IsLegalFor, RuleHolds};
+ghost use Rattle.word_table.specs.Desks.{AreGoodWords, RuleHolds};
 
 use super::Desk;
 use crate::answer::{Claimed, Judged, Scanned, Shared, claimed_by};
@@ -137,7 +136,7 @@ impl<S: Shape> Desk<S> {
         requires begun { pass.old.view.phase ≢ Phase.Idle }
         ensures desk { pass.new.table ≡ pass.old.table }
         ensures step { pass.new.view
-            ≡ (release_writer_action (number pass.old.view) k (paid k pass.old.view)).view [] 0 }
+            ≡ (release_writer_action (number pass.old.view) k (paid k pass.old.view)).view 0 }
         ensures taken { GaveUp (RuleHolds S.Shape self.now) k pass.old.view pass.new.view }
         ensures gone { ¬ HasClaim pass.new.view k }
     {
@@ -153,7 +152,7 @@ impl<S: Shape> Desk<S> {
         requires begun { pass.old.view.phase ≢ Phase.Idle }
         ensures desk { pass.new.table ≡ pass.old.table }
         ensures step { pass.new.view
-            ≡ (clear_read_bit_action (number pass.old.view) k pass.old.view).view [] 0 }
+            ≡ (clear_read_bit_action (number pass.old.view) k pass.old.view).view 0 }
         ensures taken { (found : ℕ) × TakenIn (RuleHolds S.Shape self.now)
             (clear_read_bit_action (number pass.old.view) k pass.old.view) pass.old.view found
             pass.new.view }
@@ -170,17 +169,17 @@ impl<S: Shape> Desk<S> {
         ensures desk { pass.new.table ≡ pass.old.table }
         ensures number { result ≡ pass.old.view.call + 1 }
         ensures step { pass.new.view
-            ≡ (begin_call_action (number pass.old.view) pass.old.view).view [] 0 }
+            ≡ (begin_call_action (number pass.old.view) pass.old.view).view 0 }
         ensures taken { (found : ℕ) × TakenIn (RuleHolds S.Shape self.now)
             (begin_call_action (number pass.old.view) pass.old.view) pass.old.view found
             pass.new.view }
-        ensures fits { ReadsHistory (AreGoodWords S.Shape self.now)
+        ensures fits { ReadsArranged (AreGoodWords S.Shape self.now)
             self.now.seats self.now.base pass.new.view }
     {
         pass.begin_call(&self.table.shared)
     }
 
-    /// Loads the value of word a, under its lock. It is what the call's own events and the committed history leave
+    /// Loads the value of word a, under its lock. It is what the call's own events and all that was committed leave
     /// there, since whoever would change it has to wait. At the attempt's first use of the lock its version is loaded
     /// before, and noted.
     pub fn load(&self, pass: &mut Pass<S>, a: u64) -> u64
@@ -196,7 +195,7 @@ impl<S: Shape> Desk<S> {
             } }
         ensures uses { GainsUse (lock_of_word a) pass.old.view.uses pass.new.view.uses }
         ensures taken { LoadedBy (RuleHolds S.Shape self.now) pass.old.view a result pass.new.view }
-        ensures fits { ReadsHistory (AreGoodWords S.Shape self.now)
+        ensures fits { ReadsArranged (AreGoodWords S.Shape self.now)
             self.now.seats self.now.base pass.new.view }
     {
         pass.find_version(&self.table.shared, a);
@@ -214,7 +213,7 @@ impl<S: Shape> Desk<S> {
             × (pass.old.view.trace ≡ before ++ Read a old ∷ []) }
         ensures desk { pass.new.table ≡ pass.old.table }
         ensures step { pass.new.view
-            ≡ (store_value_action (number pass.old.view) a value pass.old.view).view [] 0 }
+            ≡ (store_value_action (number pass.old.view) a value pass.old.view).view 0 }
         ensures noted { (before : List Event) (old : ℕ)
             → pass.old.view.trace ≡ before ++ Read a old ∷ []
             → pass.new.view.undo ≡ pass.old.view.undo ++ (a, old) ∷ [] }
@@ -234,7 +233,7 @@ impl<S: Shape> Desk<S> {
         requires newest { (older : Notes) × (pass.old.view.undo ≡ older ++ (a, old) ∷ []) }
         ensures desk { pass.new.table ≡ pass.old.table }
         ensures step { pass.new.view
-            ≡ (undo_store_action (number pass.old.view) a old pass.old.view).view [] 0 }
+            ≡ (undo_store_action (number pass.old.view) a old pass.old.view).view 0 }
         ensures undone { (older : Notes) → pass.old.view.undo ≡ older ++ (a, old) ∷ []
             → pass.new.view.undo ≡ older }
         ensures taken { (found : ℕ) × TakenIn (RuleHolds S.Shape self.now)
@@ -244,10 +243,11 @@ impl<S: Shape> Desk<S> {
         pass.undo_store(&self.table.shared, a, old);
     }
 
-    /// Gives the call its entry in the committed history, and answers the entry's place, from 1. Where `kept` is true
+    /// Gives the call its entry: one store to a word of its pass alone, which no other pass writes. Where `kept` is true
     /// the call's writes stand, and the caller owes that they leave good words; where it is false they are undone
-    /// already. The locks are released afterwards (strict two-phase locking).
-    pub fn commit(&self, pass: &mut Pass<S>, kept: bool) -> u64
+    /// already. The locks are released afterwards (strict two-phase locking), each with its next version where the call
+    /// wrote it.
+    pub fn commit(&self, pass: &mut Pass<S>, kept: bool)
         requires desk { pass.old.table ≡ self.now.table }
         requires phase { is_attempt pass.old.view.phase ≡ true }
         requires runs { kept ≡ true → pass.old.view.phase ≡ Phase.Running }
@@ -257,19 +257,13 @@ impl<S: Shape> Desk<S> {
             → AreGoodWords S.Shape self.now (after pass.old.view.trace words) }
         requires undone { kept ≡ false → pass.old.view.undo ≡ [] }
         ensures desk { pass.new.table ≡ pass.old.table }
-        ensures entry { CommitsAt (S.word_count self.now.shape) (S.good self.now.shape)
-            self.now.base
-            kept pass.old.view pass.new.view result }
-        ensures place { result ≡ length pass.new.view.seen }
+        ensures entry { pass.new.view ≡ after_commit kept pass.old.view }
         ensures bounded { AreRestartsBounded self.now.seats (number pass.old.view) pass.old.view }
-        ensures behind { (told : List Entry) → IsPrefix told pass.old.view.seen
-            → IsPrefix told pass.new.view.seen × (length told < result) }
-        ensures legal { IsLegalFor S.Shape self.now pass.new.view.seen }
-        ensures taken { (found : ℕ) × (result ≡ found + 1) × TakenIn (RuleHolds S.Shape self.now)
+        ensures taken { (found : ℕ) × TakenIn (RuleHolds S.Shape self.now)
             (commit_call_action (number pass.old.view) kept pass.old.view) pass.old.view found
             pass.new.view }
     {
-        pass.commit_call(&self.table.shared, kept) + 1
+        pass.commit_call(&self.table.shared, kept);
     }
 
     /// Ends the call, once all its locks are released. A call that ends without an entry did nothing.
@@ -282,7 +276,7 @@ impl<S: Shape> Desk<S> {
         requires undone { pass.old.view.undo ≡ [] }
         ensures desk { pass.new.table ≡ pass.old.table }
         ensures step { pass.new.view
-            ≡ (clear_stamp_action (number pass.old.view) pass.old.view).view [] 0 }
+            ≡ (clear_stamp_action (number pass.old.view) pass.old.view).view 0 }
         ensures bounded { AreRestartsBounded self.now.seats (number pass.old.view) pass.old.view }
         ensures taken { (found : ℕ) × TakenIn (RuleHolds S.Shape self.now)
             (clear_stamp_action (number pass.old.view) pass.old.view) pass.old.view found
@@ -315,7 +309,7 @@ impl<S: Shape> Desk<S> {
         requires unannounced { pass.old.view.announced ≡ false }
         ensures desk { pass.new.table ≡ pass.old.table }
         ensures step { pass.new.view
-            ≡ (announce_stamp_action (number pass.old.view) pass.old.view).view [] 0 }
+            ≡ (announce_stamp_action (number pass.old.view) pass.old.view).view 0 }
         ensures taken { (found : ℕ) × TakenIn (RuleHolds S.Shape self.now)
             (announce_stamp_action (number pass.old.view) pass.old.view) pass.old.view found
             pass.new.view }
@@ -324,7 +318,7 @@ impl<S: Shape> Desk<S> {
     }
 
     /// Looks at the timestamp of a seat that the call met. The attempt gives way exactly where that is above 0 and
-    /// below the call's own. It is abandoned then, and what it read is legal on the history as far as it goes.
+    /// below the call's own. It is abandoned then.
     pub fn judge(&self, pass: &mut Pass<S>, other: u32) -> Judged
         requires desk { pass.old.table ≡ self.now.table }
         requires phase { pass.old.view.phase ≡ Phase.Running }
@@ -338,8 +332,7 @@ impl<S: Shape> Desk<S> {
             → pass.new.view ≡ record pass.old.view { met = without other pass.old.view.met } }
         ensures yields { (stamp : ℕ) → result ≡ Judged.Yield stamp
             → (0 < stamp) × (stamp < pass.old.view.stamp)
-            × GaveWay (AreGoodWords S.Shape self.now) self.now.seats self.now.base
-            (record { seat = other; stamp = stamp }) pass.old.view pass.new.view }
+            × GaveWay (record { seat = other; stamp = stamp }) pass.old.view pass.new.view }
         ensures cause { (stamp : ℕ) → result ≡ Judged.Yield stamp
             → newest (past_causes pass.new.view) ≡ Some (record { seat = other; stamp = stamp }) }
         ensures bounded { AreRestartsBounded self.now.seats (number pass.old.view) pass.new.view }
@@ -369,7 +362,7 @@ impl<S: Shape> Desk<S> {
         ensures waits { result ≡ false
             → pass.new.view ≡ record pass.old.view { waits = pass.old.view.waits + 1 } }
         ensures fits { result ≡ true
-            → ReadsHistory (AreGoodWords S.Shape self.now)
+            → ReadsArranged (AreGoodWords S.Shape self.now)
             self.now.seats self.now.base pass.new.view }
     {
         let shown = pass.load_cause_stamp(&self.table.shared, other, stamp);

@@ -9,13 +9,13 @@ ghost use Rattle.values_rule.specs.Steps.{clear_stamp_action};
 ghost use Rattle.stamps_rule.specs.Causes.{newest, past_causes};
 ghost use Rattle.stamps_rule.specs.Stamps.{AreRestartsBounded};
 ghost use Rattle.stamps_rule.specs.Steps.{draw_stamp_action, announce_stamp_action, load_cause_stamp_action};
-ghost use Rattle.word_table.specs.Calls.{JudgedBy, ReadsHistory};
+ghost use Rattle.word_table.specs.Calls.{JudgedBy, ReadsArranged};
 ghost use Rattle.word_table.specs.Kinds.{TakenIn};
 ghost use Rattle.word_table.specs.Sound.{GroundHolds};
 
 use super::Pass;
 use crate::answer::{Judged, judged_by};
-use crate::layout::{PLACE_OF_CLOCK, PLACE_OF_SERIAL, place_of_stamp};
+use crate::layout::{PLACE_OF_CLOCK, place_of_stamp};
 use crate::rule::TableWords;
 use crate::step::Step;
 use crate::{bits, step};
@@ -67,7 +67,7 @@ impl<S: Shape> Pass<S> {
         requires unannounced { self.old.view.announced ≡ false }
         ensures table { self.new.table ≡ self.old.table }
         ensures view { self.new.view
-            ≡ (announce_stamp_action (number self.old.view) self.old.view).view [] 0 }
+            ≡ (announce_stamp_action (number self.old.view) self.old.view).view 0 }
         ensures taken { (found : ℕ) × TakenIn (GroundHolds S.word_count S.good table.now.key)
             (announce_stamp_action (number self.old.view) self.old.view) self.old.view found
             self.new.view }
@@ -85,8 +85,7 @@ impl<S: Shape> Pass<S> {
         );
     }
 
-    // The load of the timestamp of a seat that the call met, and where that is an earlier one the load of the counter
-    // of entries, at which the attempt gives way.
+    // The load of the timestamp of a seat that the call met: where that is an earlier one the attempt gives way by it.
     pub(crate) fn judge_stamp(&mut self, table: &TableWords<S>, other: u32) -> Judged
         requires table { self.old.table ≡ table.now.table_id }
         requires phase { self.old.view.phase ≡ Phase.Running }
@@ -97,7 +96,6 @@ impl<S: Shape> Pass<S> {
         ensures judged { JudgedBy (GroundHolds S.word_count S.good table.now.key) self.old.view
             other result self.new.view }
         ensures one { self.old.view.who ≡ number self.old.view ∷ [] }
-        ensures no_cause { self.old.view.due ≡ None }
     {
         let shown = step::load(
             table,
@@ -112,14 +110,6 @@ impl<S: Shape> Pass<S> {
         let Judged::Yield(_) = judged else {
             return judged;
         };
-        step::load(
-            table,
-            &mut self.seat,
-            PLACE_OF_SERIAL,
-            &Step::LoadSerialAtYield {
-                seat: self.call.who,
-            },
-        );
         self.call.phase = Phase::Yielding;
         self.locks.versions.written = [0; 16];
         judged
@@ -140,7 +130,7 @@ impl<S: Shape> Pass<S> {
             (load_cause_stamp_action (number self.old.view) other stamp self.old.view) self.old.view
             result self.new.view }
         ensures fits { result ≢ stamp
-            → ReadsHistory (IsGood (S.word_count table.now.key.shape) (S.good table.now.key.shape))
+            → ReadsArranged (IsGood (S.word_count table.now.key.shape) (S.good table.now.key.shape))
             table.now.key.seats table.now.key.base.items self.new.view }
     {
         let shown = step::load(
@@ -169,7 +159,7 @@ impl<S: Shape> Pass<S> {
         requires undone { self.old.view.undo ≡ [] }
         ensures table { self.new.table ≡ self.old.table }
         ensures view { self.new.view
-            ≡ (clear_stamp_action (number self.old.view) self.old.view).view [] 0 }
+            ≡ (clear_stamp_action (number self.old.view) self.old.view).view 0 }
         ensures taken { (found : ℕ) × TakenIn (GroundHolds S.word_count S.good table.now.key)
             (clear_stamp_action (number self.old.view) self.old.view) self.old.view found
             self.new.view }

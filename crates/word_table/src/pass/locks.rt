@@ -38,7 +38,7 @@ impl<S: Shape> Pass<S> {
             × ¬ HasBit self.old.view (lock_of_word a) }
         ensures table { self.new.table ≡ self.old.table }
         ensures view { self.new.view
-            ≡ (set_read_bit_action (number self.old.view) (lock_of_word a) a self.old.view).view []
+            ≡ (set_read_bit_action (number self.old.view) (lock_of_word a) a self.old.view).view
             0 }
         ensures taken { (found : ℕ) × TakenIn (GroundHolds S.word_count S.good table.now.key)
             (set_read_bit_action (number self.old.view) (lock_of_word a) a self.old.view)
@@ -204,7 +204,7 @@ impl<S: Shape> Pass<S> {
         requires unowed { has k self.old.view.owed ≡ false }
         ensures table { self.new.table ≡ self.old.table }
         ensures view { self.new.view
-            ≡ (release_writer_action (number self.old.view) k self.old.view).view [] 0 }
+            ≡ (release_writer_action (number self.old.view) k self.old.view).view 0 }
         ensures taken { (found : ℕ) × TakenIn (GroundHolds S.word_count S.good table.now.key)
             (release_writer_action (number self.old.view) k self.old.view) self.old.view found
             self.new.view }
@@ -233,7 +233,7 @@ impl<S: Shape> Pass<S> {
         requires begun { self.old.view.phase ≢ Phase.Idle }
         ensures table { self.new.table ≡ self.old.table }
         ensures view { self.new.view
-            ≡ (clear_read_bit_action (number self.old.view) k self.old.view).view [] 0 }
+            ≡ (clear_read_bit_action (number self.old.view) k self.old.view).view 0 }
         ensures taken { (found : ℕ) × TakenIn (GroundHolds S.word_count S.good table.now.key)
             (clear_read_bit_action (number self.old.view) k self.old.view) self.old.view found
             self.new.view }

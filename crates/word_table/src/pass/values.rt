@@ -1,24 +1,24 @@
 //! The steps of a pass with which a call begins, reads, writes, undoes and gets its entry.
 
-ghost use Rattle.std.specs.Prelude.{◌≡◌, ◌<◌, ◌+◌, ℕ, true, false, length, [], ◌∷◌, ◌++◌, ◌^◌, List};
+ghost use Rattle.std.specs.Prelude.{◌≡◌, ◌<◌, ◌+◌, ℕ, true, false, length, [], ◌∷◌, ◌++◌, List};
 ghost use Rattle.history_model.specs.Locks.{lock_of_word};
 ghost use Rattle.history_model.specs.Views.{number, HasWriteGrant, IsGranted};
 ghost use Rattle.history_model.specs.declared.event.Event.{Event};
 ghost use Rattle.history_model.specs.declared.event.Event.TheVariants.{Read};
 ghost use Rattle.history_model.specs.Counts.{is_attempt, is_open};
 ghost use Rattle.history_model.specs.Fitting.{IsGood};
-ghost use Rattle.history_model.specs.Legal.{IsLegalHistory};
 ghost use Rattle.history_model.specs.Traces.{after, IsLegalTrace};
 ghost use Rattle.history_model.specs.Undoing.{Notes};
-ghost use Rattle.values_rule.specs.Steps.{undoing_phase, begin_call_action, load_value_action, store_value_action, undo_store_action, commit_call_action};
+ghost use Rattle.values_rule.specs.Steps.{undoing_phase, begin_call_action, load_value_action, store_value_action, undo_store_action};
 ghost use Rattle.stamps_rule.specs.Stamps.{AreRestartsBounded};
-ghost use Rattle.word_table.specs.Calls.{CommitsAt, ReadsHistory};
+ghost use Rattle.values_rule.specs.Steps.{commit_call_action};
+ghost use Rattle.word_table.specs.Calls.{ReadsArranged};
 ghost use Rattle.word_table.specs.Kinds.{TakenIn};
 ghost use Rattle.word_table.specs.Sound.{GroundHolds};
 ghost use Rattle.word_table.specs.Versions.{HasUse};
 
 use super::Pass;
-use crate::layout::{PLACE_OF_SERIAL, place_of_calls, place_of_value};
+use crate::layout::{place_of_calls, place_of_commit, place_of_value};
 use crate::limits::LAST_CALL;
 use crate::rule::TableWords;
 use crate::step::Step;
@@ -46,11 +46,11 @@ impl<S: Shape> Pass<S> {
         ensures table { self.new.table ≡ self.old.table }
         ensures number { result ≡ self.old.view.call + 1 }
         ensures view { self.new.view
-            ≡ (begin_call_action (number self.old.view) self.old.view).view [] 0 }
+            ≡ (begin_call_action (number self.old.view) self.old.view).view 0 }
         ensures taken { (found : ℕ) × TakenIn (GroundHolds S.word_count S.good table.now.key)
             (begin_call_action (number self.old.view) self.old.view) self.old.view found
             self.new.view }
-        ensures fits { ReadsHistory
+        ensures fits { ReadsArranged
             (IsGood (S.word_count table.now.key.shape) (S.good table.now.key.shape))
             table.now.key.seats table.now.key.base.items self.new.view }
     {
@@ -82,7 +82,7 @@ impl<S: Shape> Pass<S> {
         ensures taken { TakenIn (GroundHolds S.word_count S.good table.now.key)
             (load_value_action (number self.old.view) a self.old.view) self.old.view result
             self.new.view }
-        ensures fits { ReadsHistory
+        ensures fits { ReadsArranged
             (IsGood (S.word_count table.now.key.shape) (S.good table.now.key.shape))
             table.now.key.seats table.now.key.base.items self.new.view }
     {
@@ -107,7 +107,7 @@ impl<S: Shape> Pass<S> {
             × (self.old.view.trace ≡ before ++ Read a old ∷ []) }
         ensures table { self.new.table ≡ self.old.table }
         ensures view { self.new.view
-            ≡ (store_value_action (number self.old.view) a value self.old.view).view [] 0 }
+            ≡ (store_value_action (number self.old.view) a value self.old.view).view 0 }
         ensures taken { (found : ℕ) × TakenIn (GroundHolds S.word_count S.good table.now.key)
             (store_value_action (number self.old.view) a value self.old.view) self.old.view found
             self.new.view }
@@ -134,7 +134,7 @@ impl<S: Shape> Pass<S> {
         requires newest { (older : Notes) × (self.old.view.undo ≡ older ++ (a, old) ∷ []) }
         ensures table { self.new.table ≡ self.old.table }
         ensures view { self.new.view
-            ≡ (undo_store_action (number self.old.view) a old self.old.view).view [] 0 }
+            ≡ (undo_store_action (number self.old.view) a old self.old.view).view 0 }
         ensures taken { (found : ℕ) × TakenIn (GroundHolds S.word_count S.good table.now.key)
             (undo_store_action (number self.old.view) a old self.old.view) self.old.view found
             self.new.view }
@@ -155,8 +155,8 @@ impl<S: Shape> Pass<S> {
         );
     }
 
-    // The fetch-and-add of 1 on the counter of entries.
-    pub(crate) fn commit_call(&mut self, table: &TableWords<S>, kept: bool) -> u64
+    // The store of the call's number to the own COMMITS word.
+    pub(crate) fn commit_call(&mut self, table: &TableWords<S>, kept: bool)
         requires table { self.old.table ≡ table.now.table_id }
         requires phase { is_attempt self.old.view.phase ≡ true }
         requires runs { kept ≡ true → self.old.view.phase ≡ Phase.Running }
@@ -167,29 +167,25 @@ impl<S: Shape> Pass<S> {
             (after self.old.view.trace words) }
         requires undone { kept ≡ false → self.old.view.undo ≡ [] }
         ensures table { self.new.table ≡ self.old.table }
-        ensures taken { TakenIn (GroundHolds S.word_count S.good table.now.key)
-            (commit_call_action (number self.old.view) kept self.old.view) self.old.view result
+        ensures view { self.new.view
+            ≡ (commit_call_action (number self.old.view) kept self.old.view).view 0 }
+        ensures taken { (found : ℕ) × TakenIn (GroundHolds S.word_count S.good table.now.key)
+            (commit_call_action (number self.old.view) kept self.old.view) self.old.view found
             self.new.view }
-        ensures commits { CommitsAt (S.word_count table.now.key.shape) (S.good table.now.key.shape)
-            table.now.key.base.items
-            kept self.old.view self.new.view (result + 1) }
-        ensures legal { IsLegalHistory
-            (IsGood (S.word_count table.now.key.shape) (S.good table.now.key.shape))
-            table.now.key.seats table.now.key.base.items self.new.view.seen }
-        ensures room { result + 1 < 2 ^ 64 }
         ensures bounded { AreRestartsBounded table.now.key.seats (number self.old.view)
             self.old.view }
     {
         self.call.phase = Phase::Releasing;
         bits::clear_unless(&mut self.locks.versions.written, kept);
-        step::add(
+        step::store(
             table,
             &mut self.seat,
-            PLACE_OF_SERIAL,
+            place_of_commit(self.call.seats, self.call.who),
+            u64::from(self.call.calls),
             &Step::CommitCall {
                 seat: self.call.who,
                 kept,
             },
-        )
+        );
     }
 }

@@ -1,5 +1,5 @@
 -- What one worker did.
-use Rattle.std.specs.Prelude.{◌≡◌, ℕ, ◌+◌, ◌<◌, ◌≤◌, ◌&&◌, ◌==◌, nat_lt, if◌then◌else◌, List, [], ◌∷◌, map, length, All, AllPairs, count_by, Some}
+use Rattle.std.specs.Prelude.{◌≡◌, ℕ, ◌+◌, ◌<◌, ◌≤◌, ◌&&◌, ◌==◌, nat_lt, if◌then◌else◌, List, [], ◌∷◌, length, All, AllPairs, count_by, Some}
 use Rattle.std.specs.Prelude.{slice_get}
 use Rattle.history_model.specs.declared.entry.Entry.{Entry}
 use Rattle.history_model.specs.declared.view.Phase.TheVariants.{Idle}
@@ -16,12 +16,6 @@ use Rattle.txn_books.specs.Standing.{IsGoodFor}
 use Rattle.worker_pool.specs.declared.done.Done.{Done}
 use Rattle.worker_pool.specs.Days.{place_of_item, places_of_items, IsEntryOf}
 
--- the serials of a seat's entries in a list whose first has this serial
-abbrev pub serials_by : ℕ → ℕ → List Entry → List ℕ
-serials_by who serial [] = []
-serials_by who serial (entry ∷ entries) =
-    if who == entry.who then serial ∷ serials_by who (serial + 1) entries else serials_by who (serial + 1) entries
-
 -- an entry is that of an item's call, and of all good words on which its trace is legal the meaning of the item's script
 -- holds
 pub record IsMadeBy (shape : BooksShape) (input : ClearingInput) (entry : Entry) (item : Done) : Type 0 where
@@ -29,23 +23,21 @@ pub record IsMadeBy (shape : BooksShape) (input : ClearingInput) (entry : Entry)
   pub meaning : (s : List ℕ) → IsGood (words_of shape) (IsGoodFor shape) s → IsLegalTrace entry.trace s
       → ScriptMeans shape (script_at input item.caller item.index) s entry.kept item.reply (after entry.trace s)
 
--- an item has its entry among those that were seen, at the place that its serial says
-pub record IsMade (shape : BooksShape) (input : ClearingInput) (seen : List Entry) (item : Done) : Type 0 where
-  pub place : ℕ
-  pub entry : Entry
-  pub serial_is : item.serial ≡ place + 1
-  pub stands_at : slice_get seen place ≡ Some entry
-  pub made_by : IsMadeBy shape input entry item
+-- each item was made by the entry beside it
+pub record AreMadeBy (shape : BooksShape) (input : ClearingInput) (entries : List Entry) (done : List Done) : Type 0 where
+  pub as_many : length done ≡ length entries
+  pub each : (k : ℕ) (item : Done) (entry : Entry) → slice_get done k ≡ Some item → slice_get entries k ≡ Some entry
+      → IsMadeBy shape input entry item
 
--- a pass of the desk made these items, a call each
+-- a pass of the desk made these items, a call each, and has seen their entries
 pub record HasMade (desk : DeskView BooksShape) (input : ClearingInput) (who : ℕ) (pass : PassView) (done : List Done) : Type 0 where
   pub of_table : pass.table ≡ desk.table
   pub idle : pass.view.phase ≡ Idle
   pub number_is : pass.view.who ≡ who ∷ []
   pub calls : pass.view.call ≡ length done
   pub seats : All (λ item. item.seat ≡ who) done
-  pub serials : map (λ item. item.serial) done ≡ serials_by who 1 pass.view.seen
-  pub made : All (IsMade desk.shape input pass.view.seen) done
+  pub numbers : (k : ℕ) (item : Done) → slice_get done k ≡ Some item → item.call ≡ k + 1
+  pub made : AreMadeBy desk.shape input pass.view.seen done
   pub below : All (λ item. item.restarts < desk.seats) done
 
 -- of caller x the items are all scripts, h x times, and for caller c the first i scripts beside, in their order

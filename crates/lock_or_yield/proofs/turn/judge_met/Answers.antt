@@ -27,10 +27,10 @@ returns-in-Yield-clause-yields g c cause e =
     let good = IsGood (g.S.Shape.word_count c.args.desk.now.shape) (g.S.Shape.good c.args.desk.now.shape) in
     let y = c.in-Yield.ensures.yields c.in-Yield.stamp refl in
     subst (λ (x : Cause). (x.seat ≡ c.args.other)
-    × JudgedToYield good c.args.desk.now.seats c.args.desk.now.base x c.args.pass.now.view c.judge.new.pass.view)
+    × JudgedToYield x c.args.pass.now.view c.judge.new.pass.view)
     (yield_same (record { seat = c.args.other; stamp = c.in-Yield.stamp }) cause e) (
       refl,
-      settled_to_yield good c.args.desk.now.seats c.args.desk.now.base (record {
+      settled_to_yield (record {
         seat = c.args.other;
         stamp =
             c.in-Yield.stamp;

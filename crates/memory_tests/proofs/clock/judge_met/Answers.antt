@@ -45,7 +45,7 @@ returns-in-Wait c = let stays = c.in-Wait.ensures.waits refl in let shown = c.sh
 pub returns-in-Yield : goal.returns-in-Yield
 returns-in-Yield c =
     let w = c.judge.new.pass.view in let shown = c.show_stamp.new.pass.view in let rest = c.show_stamp.ensures.rest in
-    let gave = (c.in-Yield.ensures.yields c.in-Yield.stamp refl).2.view in
+    let gave = (c.in-Yield.ensures.yields c.in-Yield.stamp refl).2 in
     let in_table : c.args.other < w.seats = omega (arith, c.requires.met.0, ap (λ (v : View). v.seats) rest, ap (λ (v : View). v.seats) gave) in
     let more : length w.abandoned ≡ length shown.abandoned + 1 = ap (λ (v : View). length v.abandoned) gave ∙ one_more shown.abandoned _ in
     record {

@@ -1,5 +1,6 @@
 use Rattle.order_rebuild.proofs.Loops.{IsRisingBelow}
+use Rattle.history_model.specs.declared.item.LockUse.{LockUse}
 use Rattle.order_rebuild.proofs.turn.is_rising.Given as goal
 
 abbrev pub invariant-loop-i : goal.invariant-loop-i
-invariant-loop-i l = IsRisingBelow l.uses l.i
+invariant-loop-i l = IsRisingBelow (λ (u : LockUse). u.lock) l.uses l.i

@@ -1,8 +1,9 @@
-use Rattle.std.proofs.Common.{◌≡◌, ◌*◌, All, length, sum}
+use Rattle.std.proofs.Common.{◌≡◌, ◌*◌, ◌≤◌, All, length, sum}
+use Rattle.history_model.specs.declared.entry.Entry.{Entry}
 use Rattle.history_model.specs.declared.view.Phase.TheVariants.{Idle}
-use Rattle.history_model.specs.SeatEntries.{entries_of}
+use Rattle.history_model.specs.Legal.{IsIn}
 use Rattle.history_model.specs.Views.{number}
-use Rattle.transfers.specs.Making.{AreMade}
+use Rattle.transfers.specs.Making.{AreAudited, AreMade}
 use Rattle.transfers.proofs.teller.make_moves.Given as goal
 
 -- so many moves were made, and as many audits, which told the sum
@@ -13,7 +14,8 @@ invariant-loop-step g l = record {
   who : l.pass.view.who ≡ l.initial.pass.view.who;
   calls : l.pass.view.call ≡ 2 * l.step-index;
   made : AreMade l.desk.base l.pass.view.seen (number l.pass.view) l.moves l.step-index;
-  entries : entries_of (number l.pass.view) l.pass.view.seen ≡ 2 * l.step-index;
+  audited : AreAudited l.desk.base l.pass.view.seen (number l.pass.view) l.step-index;
+  own : (e : Entry) → IsIn e l.pass.view.seen → (e.who ≡ number l.pass.view) × (e.call ≤ 2 * l.step-index);
   audits : length l.told.items ≡ l.step-index;
   tell : All (λ total. total ≡ sum l.desk.base) l.told.items;
 }

@@ -1,4 +1,4 @@
-use Rattle.std.proofs.Common.{◌≡◌, true, false, refl}
+use Rattle.std.proofs.Common.{refl}
 use Rattle.history_model.proofs.SetLemmas.{differ}
 use Rattle.txn_commit.proofs.rollback.undo_unless.Goals as goal
 

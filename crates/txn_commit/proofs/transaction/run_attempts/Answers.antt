@@ -1,16 +1,13 @@
-use Rattle.std.proofs.Common.{◌≡◌, ℕ, ◌<◌, Bool, Option, None, Some, Result, Ok, Err, List, [], ◌∷◌, ◌++◌, length, refl, sym, ap, ◌∙◌, subst, rules, if◌then◌else◌}
+use Rattle.std.proofs.Common.{◌≡◌, ℕ, ◌<◌, Bool, Option, None, Some, Result, Ok, Err, List, length, refl, sym, ap, ◌∙◌, subst, rules}
 use Rattle.history_model.specs.declared.entry.Abandoned.{Abandoned}
-use Rattle.history_model.specs.declared.entry.Entry.{Entry}
-use Rattle.history_model.specs.declared.view.Phase.TheVariants.{Running, Releasing}
+use Rattle.history_model.specs.declared.view.Phase.TheVariants.{Running}
 use Rattle.history_model.specs.declared.view.View.{View}
 use Rattle.history_model.specs.Fitting.{IsGood}
-use Rattle.history_model.specs.Legal.{IsLegalHistory}
-use Rattle.locks_rule.specs.Versions.{locks_of}
-use Rattle.values_rule.specs.Steps.{entry_of}
 use Rattle.txn_words.specs.declared.words.Stop.{Stop}
 use Rattle.txn_words.specs.declared.words.Stop.TheVariants as stop
 use Rattle.txn_words.specs.Verdicts.{is_kept, answer_of}
-use Rattle.word_table.specs.Calls.{CommitsAt, ReadsHistory}
+use Rattle.values_rule.specs.Steps.{after_commit}
+use Rattle.word_table.specs.Calls.{ReadsArranged}
 use Rattle.word_table.specs.Copies.{PassView}
 use Rattle.word_table.specs.Desks.{DeskView}
 use Rattle.txn_commit.specs.declared.attempt.Halt.{Halt}
@@ -20,7 +17,7 @@ use Rattle.txn_commit.specs.Inner.Releasing.{Undoes}
 use Rattle.txn_commit.specs.Transactions.{LeavesFootprint, SameSeat}
 use Rattle.txn_commit.proofs.Footprints.{commits_footprint, footprint_same}
 use Rattle.txn_commit.proofs.Attempts.{not_halted, same_call}
-use Rattle.txn_commit.proofs.Ending.{same_desk, same_pass, still_reads, gets_entry, meant, undone_others, one_more, ran_on, still_runs, gave_way}
+use Rattle.txn_commit.proofs.Ending.{same_desk, same_pass, still_reads, gets_entry, is_meant, meant, undone_seen, one_more, ran_on, still_runs, gave_way}
 use Rattle.txn_commit.proofs.transaction.run_attempts.Goals as goal
 
 -- what began from the same has the same name, and its table is the same
@@ -31,29 +28,12 @@ same_table : {S : Type 0} (d e : DeskView S) → d ≡ e → d.table ≡ e.table
 same_table d e same = ap (λ x. x.table) same
 
 -- what a commit leaves, and what undoing leaves
-abbrev Commits : View → View → List Entry → Bool → Type 0
-Commits old new history kept = new ≡ record old {
-  seen = history ++ entry_of kept old ∷ [];
-  owed = if kept then locks_of old.undo else [];
-  undo = [];
-  phase = Releasing;
-}
-
-seat_after_commit : (first old new : View) (history : List Entry) (kept : Bool) → Commits old new history kept → SameSeat first old → SameSeat first new
-seat_after_commit first old new history kept e same = record {
+seat_after_commit : (first old new : View) (kept : Bool) → new ≡ after_commit kept old → SameSeat first old → SameSeat first new
+seat_after_commit first old new kept e same = record {
   who = ap (λ (v : View). v.who) e ∙ same.who;
   base = ap (λ (v : View). v.base) e ∙ same.base;
   seats = ap (λ (v : View). v.seats) e ∙ same.seats;
 }
-
-call_after_commit : (old new : View) (history : List Entry) (kept : Bool) → Commits old new history kept → new.call ≡ old.call
-call_after_commit old new history kept e = ap (λ (v : View). v.call) e
-
-undone_by_commit : (old new : View) (history : List Entry) (kept : Bool) → Commits old new history kept → new.undo ≡ []
-undone_by_commit old new history kept e = ap (λ (v : View). v.undo) e
-
-phase_after_commit : (old new : View) (history : List Entry) (kept : Bool) → Commits old new history kept → new.phase ≡ Releasing
-phase_after_commit old new history kept e = ap (λ (v : View). v.phase) e
 
 seat_after_undo : (first old new : View) → Undoes old new → SameSeat first old → SameSeat first new
 seat_after_undo first old new undone same = record {
@@ -73,9 +53,16 @@ footprint_undone old new undone =
     footprint_same old new (ap (λ (v : View). v.trace) undone.some.rest)
     (ap (λ (v : View). v.abandoned) undone.some.rest) (ap (λ (v : View). v.meetings) undone.some.rest) (ap (λ (v : View). v.asked) undone.some.rest)
 
-reads_undone : (good : List ℕ → Type 0) (n : ℕ) (base : List ℕ) (old new : View) → Undoes old new → ReadsHistory good n base old → ReadsHistory good n base new
-reads_undone good n base old new undone = still_reads good n base old new (ap (λ (v : View). v.seen) undone.some.rest)
-    (ap (λ (v : View). v.trace) undone.some.rest)
+reads_undone : (good : List ℕ → Type 0) (n : ℕ) (base : List ℕ) (old new : View) → Undoes old new → ReadsArranged good n base old
+    → ReadsArranged good n base new
+reads_undone good n base old new undone = let rest = undone.some.rest in still_reads good n base old new (record {
+  who = ap (λ (v : View). v.who) rest;
+  call = ap (λ (v : View). v.call) rest;
+  seats = ap (λ (v : View). v.seats) rest;
+  seen = ap (λ (v : View). v.seen) rest;
+  abandoned = ap (λ (v : View). v.abandoned) rest;
+  trace = ap (λ (v : View). v.trace) rest;
+})
 
 memory_not_yield : {A : Type 0} (r : Result A Stop) → r ≡ Err stop.Memory → r ≡ Err stop.Yield → ⊥
 memory_not_yield (Ok x) m y = cc
@@ -103,18 +90,17 @@ returns-in-Ok g c = let inv = c.loop-restarts.invariant in let first = c.args.at
       name = c.settle.ensures.name
           ∙ (same_name ran.desk.now at.desk.now ran.pass.ghost_name at.pass.ghost_name ran.began.value at.began.value c.run.ensures.origin ∙ inv.name);
       desk = c.settle.ensures.desk ∙ same_table ran.desk.now c.args.attempt.now.desk.now desk;
-      seat = seat_after_commit first ran.pass.now.view new commits.history c.decision-kept.result.0 commits.view same.seat;
-      call = call_after_commit ran.pass.now.view new commits.history c.decision-kept.result.0 commits.view ∙ (same.call ∙ c.requires.call);
-      undone = undone_by_commit ran.pass.now.view new commits.history c.decision-kept.result.0 commits.view;
+      seat = seat_after_commit first ran.pass.now.view new c.decision-kept.result.0 commits same.seat;
+      call = ap (λ (v : View). v.call) commits ∙ (same.call ∙ c.requires.call);
+      undone = ap (λ (v : View). v.undo) commits;
       entry =
           gets_entry (g.S.Shape.word_count ran.desk.now.shape) (g.S.Shape.good ran.desk.now.shape)
           (IsGood (g.S.Shape.word_count c.args.attempt.now.desk.now.shape) (g.S.Shape.good c.args.attempt.now.desk.now.shape))
-          c.args.attempt.now.desk.now.base (g.J.Job.means c.args.job.now) c.decision-kept.result.0 c.args.call first
+          (g.J.Job.means c.args.job.now) c.decision-kept.result.0 c.args.call first
           ran.pass.now.view c.settle.new.attempt.pass.now.view
-          (record { serial = c.in-Ok-settle.serial; call = c.args.call; restarts = c.loop-restarts.restarts; uses = c.in-Ok-settle.uses; answer = c.decision-kept.result.1 })
+          (record { call = c.args.call; restarts = c.loop-restarts.restarts; uses = c.in-Ok-settle.uses; answer = c.decision-kept.result.1 })
           same c.requires.floor c.requires.call
-          (subst (λ d. CommitsAt (g.S.Shape.word_count ran.desk.now.shape) (g.S.Shape.good ran.desk.now.shape) d.base
-          c.decision-kept.result.0 ran.pass.now.view c.settle.new.attempt.pass.now.view c.in-Ok-settle.serial) desk c.in-Ok-settle.ensures.entry)
+          commits
           refl
           (ap (λ (l : List Abandoned). length l) runs.abandoned
           ∙ (ap (λ (p : PassView). length p.view.abandoned) (same_pass ran.desk.now at.desk.now ran.pass.ghost_name
@@ -125,17 +111,24 @@ returns-in-Ok g c = let inv = c.loop-restarts.invariant in let first = c.args.at
           (answer_of c.in-Ok.verdict) c.decision-kept.result.1
           shape c.decision-kept.ensures.kept c.decision-kept.ensures.answer c.in-Ok.ensures.meaning)
           (λ s good. subst (λ d. IsGood (g.S.Shape.word_count d.shape) (g.S.Shape.good d.shape) s) (sym desk) good);
-      legal =
-          subst (λ d. IsLegalHistory (IsGood (g.S.Shape.word_count d.shape) (g.S.Shape.good d.shape)) d.seats d.base
-          new.seen) desk c.in-Ok-settle.ensures.legal;
+      meant =
+          is_meant (g.S.Shape.word_count ran.desk.now.shape) (g.S.Shape.good ran.desk.now.shape)
+          (IsGood (g.S.Shape.word_count c.args.attempt.now.desk.now.shape) (g.S.Shape.good c.args.attempt.now.desk.now.shape))
+          (g.J.Job.means c.args.job.now) c.decision-kept.result.0 ran.pass.now.view.trace c.decision-kept.result.1
+          c.run.ensures.sound.fits
+          (meant (g.J.Job.means c.args.job.now) g.S.Shape.word_count g.S.Shape.good ran.desk.now.shape
+          (g.J.Job.shape c.args.job.now) ran.pass.now.view.trace (is_kept c.in-Ok.verdict) c.decision-kept.result.0
+          (answer_of c.in-Ok.verdict) c.decision-kept.result.1
+          shape c.decision-kept.ensures.kept c.decision-kept.ensures.answer c.in-Ok.ensures.meaning)
+          (λ s good. subst (λ d. IsGood (g.S.Shape.word_count d.shape) (g.S.Shape.good d.shape) s) desk good);
       few = subst (λ (n : ℕ). n < c.args.attempt.now.desk.now.seats) inv.restarts inv.few;
-      committed = phase_after_commit ran.pass.now.view new commits.history c.decision-kept.result.0 commits.view;
-      others = search rules;
+      committed = ap (λ (v : View). v.phase) commits;
+      seen = search rules;
       floor = search rules;
       given_up = search rules;
       footprint =
-          commits_footprint c.decision-kept.result.0 commits.history ran.pass.now.view new
-          (ap (λ (v : View). v.seen) commits.view) (ap (λ (v : View). v.asked) commits.view) (ap (λ (v : View). v.meetings) commits.view)
+          commits_footprint c.decision-kept.result.0 ran.pass.now.view.seen ran.pass.now.view new
+          (ap (λ (v : View). v.seen) commits) (ap (λ (v : View). v.asked) commits) (ap (λ (v : View). v.meetings) commits)
           c.run.ensures.sound.footprint;
       left = search rules;
       last = search rules;
@@ -157,16 +150,16 @@ returns-in-Err-Memory g c = let inv = c.loop-restarts.invariant in let first = c
       call = call_after_undo ran.pass.now.view new undone ∙ (same.call ∙ c.requires.call);
       undone = undone.none_left;
       entry = search rules;
-      legal = search rules;
+      meant = search rules;
       few = search rules;
       committed = search rules;
-      others = undone_others first ran.pass.now.view c.undo_all.new.pass.view same c.undo_all.ensures.undone;
+      seen = undone_seen first ran.pass.now.view c.undo_all.new.pass.view same c.undo_all.ensures.undone;
       floor = floor_after_undo ran.pass.now.view new undone ∙ same.floor;
       given_up = search rules;
       footprint = search rules;
       left = footprint_undone ran.pass.now.view new undone c.run.ensures.sound.footprint;
       last =
-          subst (λ d. ReadsHistory (IsGood (g.S.Shape.word_count d.shape) (g.S.Shape.good d.shape)) d.seats d.base new) desk
+          subst (λ d. ReadsArranged (IsGood (g.S.Shape.word_count d.shape) (g.S.Shape.good d.shape)) d.seats d.base new) desk
           (reads_undone (IsGood (g.S.Shape.word_count ran.desk.now.shape) (g.S.Shape.good ran.desk.now.shape))
           ran.desk.now.seats ran.desk.now.base ran.pass.now.view new undone
           (c.run.ensures.sound.current (runs_at_memory ran.desk.now.seats ran.halt ran.began.value.view
@@ -197,10 +190,10 @@ loop-restarts-preserved g c = let inv = c.loop-restarts.invariant in let first =
     }
 
 -- there was no memory for the list of uses, and all was undone
-pub returns-in_default-clause-others : goal.returns-in_default-clause-others
-returns-in_default-clause-others g c = let inv = c.loop-restarts.invariant in let first = c.args.attempt.now.pass.now.view in let at =
+pub returns-in_default-clause-seen : goal.returns-in_default-clause-seen
+returns-in_default-clause-seen g c = let inv = c.loop-restarts.invariant in let first = c.args.attempt.now.pass.now.view in let at =
     c.loop-restarts.attempt in let ran = c.run.new.w in
-    undone_others first ran.pass.now.view c.settle.new.attempt.pass.now.view
+    undone_seen first ran.pass.now.view c.settle.new.attempt.pass.now.view
     (ran_on first ran.began.value at.began.value at.pass.now ran.pass.now.view inv.call
     (same_pass ran.desk.now at.desk.now ran.pass.ghost_name at.pass.ghost_name ran.began.value at.began.value
     c.run.ensures.origin) inv.began c.run.ensures.sound.call) c.in_default.ensures.undone
@@ -215,6 +208,6 @@ returns-in_default-clause-last g c = let inv = c.loop-restarts.invariant in let 
     let runs = still_runs ran.desk.now.seats ran.halt ran.began.value.view ran.pass.now.view
     (not_halted ran.halt (c.in-Ok.ensures.done)) c.run.ensures.sound.stands in
     let desk = same_desk ran.desk.now at.desk.now ran.pass.ghost_name at.pass.ghost_name ran.began.value at.began.value c.run.ensures.origin ∙ inv.desk in
-    subst (λ d. ReadsHistory (IsGood (g.S.Shape.word_count d.shape) (g.S.Shape.good d.shape)) d.seats d.base new) desk
+    subst (λ d. ReadsArranged (IsGood (g.S.Shape.word_count d.shape) (g.S.Shape.good d.shape)) d.seats d.base new) desk
     (reads_undone (IsGood (g.S.Shape.word_count ran.desk.now.shape) (g.S.Shape.good ran.desk.now.shape))
     ran.desk.now.seats ran.desk.now.base ran.pass.now.view new c.in_default.ensures.undone (c.run.ensures.sound.current runs.phase))

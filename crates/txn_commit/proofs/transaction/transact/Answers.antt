@@ -6,7 +6,6 @@ use Rattle.values_rule.specs.Steps.{begin_call_action}
 use Rattle.word_table.specs.Copies.{PassView}
 use Rattle.txn_commit.specs.Transactions.{AsksItsFootprint, EndsWithoutEntry}
 use Rattle.txn_commit.proofs.Ending.{begins_sound, both_on_err, ends_with_footprint, ends_without, some_seats, words_counted}
-use Rattle.txn_commit.proofs.Meaning.{is_meant}
 use Rattle.txn_commit.proofs.transaction.transact.Goals as goal
 
 pub run_attempts-ended-requires-clause-sound : goal.run_attempts-ended-requires-clause-sound
@@ -25,15 +24,15 @@ run_attempts-ended-requires-clause-seats g c κs within = let old = c.args.pass.
 -- the pass that was lent to the attempt is the one that comes back
 pub returns-clause-err : goal.returns-clause-err
 returns-clause-err g c = let old = c.args.pass.now.view in let back = sym (c.pass-1.given.1 (sym c.run_attempts-ended.ensures.name)) in
-    let ran = c.run_attempts-ended.ensures in let taken = c.finish_call.ensures.taken in
+    let ran = c.run_attempts-ended.ensures in
     on_err_weaker c.run_attempts-ended.result
     (λ up. inr (subst (λ (p : PassView). EndsWithoutEntry (IsGood (g.S.Shape.word_count c.args.desk.now.shape)
     (g.S.Shape.good c.args.desk.now.shape)) c.args.desk.now.seats c.args.desk.now.base old p.view) back
-    (ends_without g.S.Shape.word_count g.S.Shape.good c.args.desk.now (number c.release_all.new.pass.view) taken.0 old
+    (ends_without g.S.Shape.word_count g.S.Shape.good c.args.desk.now (number c.release_all.new.pass.view) old
     c.begin-call.new.pass.view c.run_attempts-ended.new.attempt.pass.now.view c.release_all.new.pass.view c.finish_call.new.pass.view
     c.begin-call.ensures.step (up.0, up.1.0, up.1.1.0, up.1.1.1.0, up.1.1.1.1) (ran.call ∙ c.begin-call.ensures.number)
-    c.release_all.ensures.released c.release_all.ensures.nothing c.finish_call.ensures.bounded c.finish_call.ensures.step taken.1)))
-    (both_on_err _ _ c.run_attempts-ended.result ran.others (both_on_err _ _ c.run_attempts-ended.result ran.floor
+    c.release_all.ensures.released c.release_all.ensures.nothing c.finish_call.ensures.bounded c.finish_call.ensures.step)))
+    (both_on_err _ _ c.run_attempts-ended.result ran.seen (both_on_err _ _ c.run_attempts-ended.result ran.floor
     (both_on_err _ _ c.run_attempts-ended.result ran.given_up (both_on_err _ _ c.run_attempts-ended.result ran.left ran.last))))
 
 pub returns-clause-footprint : goal.returns-clause-footprint
@@ -42,9 +41,3 @@ returns-clause-footprint g c = let back = sym (c.pass-1.given.1 (sym c.run_attem
     (ends_with_footprint (number c.release_all.new.pass.view) c.run_attempts-ended.new.attempt.pass.now.view
     c.release_all.new.pass.view c.finish_call.new.pass.view c.release_all.ensures.released c.finish_call.ensures.step asks))
     c.run_attempts-ended.ensures.footprint
-
-pub returns-clause-meant : goal.returns-clause-meant
-returns-clause-meant g c =
-    is_meant (IsGood (g.S.Shape.word_count c.args.desk.now.shape) (g.S.Shape.good c.args.desk.now.shape)) c.args.desk.now.seats
-    c.args.desk.now.base _ _ _ _ _ c.began_good.ensures c.run_attempts-ended.result c.run_attempts-ended.ensures.legal
-    c.run_attempts-ended.ensures.entry

@@ -1,8 +1,7 @@
 use Rattle.std.proofs.Common.{sym, subst}
 use Rattle.history_model.specs.Fitting.{IsGood}
-use Rattle.history_model.specs.Legal.{IsLegalHistory}
-use Rattle.history_model.proofs.Histories.HistoryLaws.{replay_is_good}
-use Rattle.txn_threads.proofs.Working.{all_passes, seen_its_own}
+use Rattle.word_table.specs.Closing.{IsCoherent, IsLegalInEachOrder}
+use Rattle.txn_threads.proofs.Working.{all_passes, left_good}
 use Rattle.txn_threads.proofs.run.run_clients.Goals as goal
 
 pub close-requires : goal.close-requires
@@ -17,9 +16,9 @@ returns-clause-good g c =
     let opened = c.in_ok-desk.ensures.desk in
     let closed = c.in-Ok.ensures in
     let Good = IsGood (shape.word_count c.args.shape) (shape.good c.args.shape) in
-    subst Good (sym closed.words)
-    (replay_is_good Good desk.seats desk.base c.in-Ok.closed.history (subst Good (sym opened.0) c.requires.good)
-    (subst (λ s. IsLegalHistory (IsGood (shape.word_count s) (shape.good s)) desk.seats desk.base c.in-Ok.closed.history) opened.2 closed.legal))
+    left_good Good c.in-Ok.closed (subst Good (sym closed.desk.0) (subst Good (sym opened.0) c.requires.good))
+    (subst (λ s. IsCoherent (IsGood (shape.word_count s) (shape.good s)) c.in-Ok.closed) opened.2 closed.coherent)
+    (subst (λ s. IsLegalInEachOrder (IsGood (shape.word_count s) (shape.good s)) c.in-Ok.closed) opened.2 closed.legal)
 
 pub returns-clause-worked : goal.returns-clause-worked
 returns-clause-worked g c =
@@ -36,7 +35,5 @@ returns-clause-worked g c =
       left = served.left;
       count = served.count;
       each = served.each;
-      seen = λ p is. seen_its_own desk passes served.of_desk c.in-Ok.closed.history closed.owners p is (closed.seen p is);
-      longest = closed.longest;
-      owners = closed.owners;
+      seen = closed.seen;
     }

@@ -1,5 +1,5 @@
 use Rattle.values_rule.proofs.StepKinds.LocksStand.{begin_call_locks}
-use Rattle.values_rule.proofs.StepKinds.CallKinds.{begin_call_values}
+use Rattle.values_rule.proofs.StepKinds.Begins.{begin_call_values}
 use Rattle.values_rule.proofs.laws.begin_call.Goals as goal
 
 pub returns-clause-locks : goal.returns-clause-locks

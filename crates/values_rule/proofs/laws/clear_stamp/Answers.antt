@@ -1,5 +1,5 @@
 use Rattle.values_rule.proofs.StepKinds.LocksStand.{clear_stamp_locks}
-use Rattle.values_rule.proofs.StepKinds.CallKinds.{clear_stamp_values}
+use Rattle.values_rule.proofs.StepKinds.LockKinds.{clear_stamp_values}
 use Rattle.values_rule.proofs.laws.clear_stamp.Goals as goal
 
 pub returns-clause-locks : goal.returns-clause-locks

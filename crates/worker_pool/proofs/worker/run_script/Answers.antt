@@ -26,7 +26,6 @@ returns-clause-made g c = λ done made.
       index = c.args.index;
       seat = c.who.result;
       call = receipt.call;
-      serial = receipt.serial;
       uses = receipt.uses;
       restarts = receipt.restarts;
       reply = receipt.answer;
@@ -34,11 +33,11 @@ returns-clause-made g c = λ done made.
     let shape_is : job.shape ≡ desk.shape = ap (λ (j : ScriptOn). j.shape) c.new-job.ensures ∙ sym c.requires.fit.shape_is in
     let script_is : job.script ≡ script_at input c.args.caller c.args.index = ap (λ (j : ScriptOn). j.script) c.new-job.ensures ∙ c.script-script.ensures in
     let good = IsGood (words_of desk.shape) (IsGoodFor desk.shape) in
-    let gets = subst (λ (s : BooksShape). GetsEntry good desk.base
+    let gets = subst (λ (s : BooksShape). GetsEntry good
     (ScriptMeans s (script_at input c.args.caller c.args.index)) (number old.view) (old.view.call + 1) old.view.seen new.view.seen receipt) shape_is
-    (subst (λ (script : List Part). GetsEntry good desk.base (ScriptMeans job.shape script) (number old.view) (old.view.call + 1)
+    (subst (λ (script : List Part). GetsEntry good (ScriptMeans job.shape script) (number old.view) (old.view.call + 1)
     old.view.seen new.view.seen receipt) script_is e.entry) in
     let named : c.who.result ≡ number old.view = c.who.ensures.number ∙ ap (λ (w : List ℕ). slice_index w 0) e.seat.who in
     made_more desk input (number old.view) (old.view.call + 1) old.view.seen new.view.seen receipt item gets
-    (record { seat = named; call = refl; serial = refl; uses = refl; restarts = refl; reply = refl })
-    done _ old new refl refl refl e.desk e.idle e.seat.who e.call e.few made
+    (record { seat = named; call = refl; uses = refl; restarts = refl; reply = refl })
+    done _ old new refl refl refl e.desk e.idle e.seat.who e.call refl e.few made

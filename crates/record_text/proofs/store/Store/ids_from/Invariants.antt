@@ -1,4 +1,4 @@
-use Rattle.std.proofs.Common.{ℕ, List}
+use Rattle.std.proofs.Common.{List}
 use Rattle.std.specs.FinMap as finite
 use Rattle.record_text.specs.Records.{index_of}
 use Rattle.record_text.proofs.Listing.{Entry, IsListed}

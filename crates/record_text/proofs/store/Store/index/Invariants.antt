@@ -1,4 +1,4 @@
-use Rattle.std.proofs.Common.{◌≡◌, ℕ, List, ◌++◌, map}
+use Rattle.std.proofs.Common.{ℕ, List}
 use Rattle.std.specs.FinMap as finite
 use Rattle.record_text.proofs.Indexes.{IsIndexed}
 use Rattle.record_text.proofs.store.Store.index.Given as goal

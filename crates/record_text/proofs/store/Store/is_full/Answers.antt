@@ -1,4 +1,4 @@
-use Rattle.std.proofs.Common.{◌≡◌, ◌+◌, ◌*◌, nat_lt, length, sym, ap, ◌∙◌, arith}
+use Rattle.std.proofs.Common.{◌+◌, ◌*◌, nat_lt, sym, ap, ◌∙◌, arith}
 use Rattle.record_text.specs.Records.{is_full}
 use Rattle.record_text.proofs.Rooms.{blocks_of_tree}
 use Rattle.record_text.proofs.store.Store.is_full.Goals as goal

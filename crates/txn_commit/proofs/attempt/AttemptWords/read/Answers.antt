@@ -45,7 +45,7 @@ returns-in-Yield g c =
           c.args.self.now.began.value c.ask_to_read.new.pass c.args.self.now.undo h) (sym way.1)
           (yields_sound g.S.Shape.word_count g.S.Shape.good c.args.self.now.desk.now c.args.self.now.began.value c.args.a
           c.args.self.now.pass.now c.ask_to_read.new.pass c.args.self.now.undo way.0
-          sound c.in-Yield.ensures.desk asks c.in-Yield.ensures.asked.judged way.2 way.3 way.4);
+          sound c.in-Yield.ensures.desk asks c.in-Yield.ensures.asked.judged way.2 way.3);
       memory = λ e. cc;
       asked = asks.asked;
       reads = c.in-Yield.ensures.asked.locks;

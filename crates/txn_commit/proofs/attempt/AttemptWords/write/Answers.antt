@@ -19,16 +19,16 @@ use Rattle.txn_commit.proofs.attempt.AttemptWords.write.Goals as goal
 
 -- what a store after a load leaves of the trace, of the words asked for and of locks
 store_trace : (a was x : ℕ) (first loaded stored : View) → loaded.trace ≡ first.trace ++ Read a was ∷ []
-    → stored ≡ (store_value_action (number loaded) a x loaded).view [] 0 → stored.trace ≡ first.trace ++ Read a was ∷ Write a x ∷ []
+    → stored ≡ (store_value_action (number loaded) a x loaded).view 0 → stored.trace ≡ first.trace ++ Read a was ∷ Write a x ∷ []
 store_trace a was x first loaded stored read step =
     ap (λ (v : View). v.trace) step ∙ ap (λ (t : Trace). t ++ Write a x ∷ []) read ∙ append_assoc first.trace (Read a was ∷ []) (Write a x ∷ [])
 
 store_asked : (a x : ℕ) (first loaded stored : View) → GainsAtMost a first.asked loaded.asked
-    → stored ≡ (store_value_action (number loaded) a x loaded).view [] 0 → GainsAtMost a first.asked stored.asked
+    → stored ≡ (store_value_action (number loaded) a x loaded).view 0 → GainsAtMost a first.asked stored.asked
 store_asked a x first loaded stored asked step = subst (λ (v : View). GainsAtMost a first.asked v.asked) (sym step) asked
 
 store_writes : (a x : ℕ) (first loaded stored : View) → AsksToWrite (lock_of_word a) first loaded
-    → stored ≡ (store_value_action (number loaded) a x loaded).view [] 0 → AsksToWrite (lock_of_word a) first stored
+    → stored ≡ (store_value_action (number loaded) a x loaded).view 0 → AsksToWrite (lock_of_word a) first stored
 store_writes a x first loaded stored writes step = subst (λ (v : View). AsksToWrite (lock_of_word a) first v) (sym step)
     (record { bits = writes.bits; reads = writes.reads; claims = writes.claims; scans = writes.scans })
 
@@ -50,7 +50,7 @@ returns-in-Yield g c =
           c.args.self.now.began.value c.ask_to_write.new.pass c.args.self.now.undo h) (sym way.1)
           (yields_sound g.S.Shape.word_count g.S.Shape.good c.args.self.now.desk.now c.args.self.now.began.value c.args.a
           c.args.self.now.pass.now c.ask_to_write.new.pass c.args.self.now.undo way.0
-          sound c.in-Yield.ensures.desk asks c.in-Yield.ensures.asked.judged way.2 way.3 way.4);
+          sound c.in-Yield.ensures.desk asks c.in-Yield.ensures.asked.judged way.2 way.3);
       memory = λ room e. cc;
       asked = asks.asked;
       writes = c.in-Yield.ensures.asked.locks;

@@ -1,11 +1,10 @@
-use Rattle.std.proofs.Common.{◌<◌, subst}
+use Rattle.std.proofs.Common.{subst}
 use Rattle.history_model.specs.Fitting.{IsGood}
 use Rattle.history_model.specs.Views.{number}
 use Rattle.stamps_rule.specs.Stamps.{AreRestartsBounded}
 use Rattle.stamps_rule.specs.Steps.{MayJudgeStamp}
-use Rattle.word_table.specs.Calls.{GaveWay}
 use Rattle.word_table.specs.Desks.{DeskView}
-use Rattle.word_table.proofs.Calls.Judging.{judged_yields, judged_bounded, judged_cause}
+use Rattle.word_table.proofs.Calls.Judging.{judged_waits, judged_yields, judged_bounded, judged_cause}
 use Rattle.word_table.proofs.desk.Desk.judge.Given.{Over}
 use Rattle.word_table.proofs.desk.Desk.judge.Goals as goal
 
@@ -17,16 +16,17 @@ may g c = record {
   announced = c.requires.announced;
   met =
       c.requires.met;
-  no_cause = c.judge_stamp.ensures.no_cause;
 }
 
+pub returns-clause-waits : goal.returns-clause-waits
+returns-clause-waits g c e = let t = c.self.inside.table.shared in
+    judged_waits (IsGood (g.S.Shape.word_count t.key.shape) (g.S.Shape.good t.key.shape)) t.key.seats t.key.base.items
+    c.args.pass.now.view c.args.other c.judge_stamp.result c.judge_stamp.new.self.view c.judge_stamp.ensures.judged (may g c) e
+
 pub returns-clause-yields : goal.returns-clause-yields
-returns-clause-yields g c stamp e = let t = c.self.inside.table.shared in let v = c.args.pass.now.view in
-    subst (λ (d : DeskView _). (0 < stamp) × (stamp < v.stamp)
-    × GaveWay (IsGood (g.S.Shape.word_count d.shape) (g.S.Shape.good d.shape)) d.seats d.base
-    (record { seat = c.args.other; stamp = stamp }) v c.judge_stamp.new.self.view) c.self.view_is
-    (judged_yields (IsGood (g.S.Shape.word_count t.key.shape) (g.S.Shape.good t.key.shape)) t.key.seats t.key.base.items
-    v c.args.other c.judge_stamp.result c.judge_stamp.new.self.view c.judge_stamp.ensures.judged (may g c) stamp e)
+returns-clause-yields g c stamp e = let t = c.self.inside.table.shared in
+    judged_yields (IsGood (g.S.Shape.word_count t.key.shape) (g.S.Shape.good t.key.shape)) t.key.seats t.key.base.items
+    c.args.pass.now.view c.args.other c.judge_stamp.result c.judge_stamp.new.self.view c.judge_stamp.ensures.judged (may g c) stamp e
 
 pub returns-clause-bounded : goal.returns-clause-bounded
 returns-clause-bounded g c = let t = c.self.inside.table.shared in let v = c.args.pass.now.view in

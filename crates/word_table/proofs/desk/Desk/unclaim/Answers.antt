@@ -1,4 +1,4 @@
-use Rattle.std.proofs.Common.{[], ap, ◌∙◌, subst}
+use Rattle.std.proofs.Common.{ap, ◌∙◌, subst}
 use Rattle.history_model.specs.declared.view.View.{View}
 use Rattle.history_model.specs.Sets.{has}
 use Rattle.history_model.specs.Views.{number}
@@ -17,7 +17,7 @@ release_writer-requires-clause-unowed g c = ap (λ (v : View). has c.args.k v.ow
 
 pub returns-clause-step : goal.returns-clause-step
 returns-clause-step g c = c.release_writer.ensures.view
-    ∙ ap (λ (v : View). (release_writer_action (number v) c.args.k v).view [] 0) c.pay_version.ensures.view
+    ∙ ap (λ (v : View). (release_writer_action (number v) c.args.k v).view 0) c.pay_version.ensures.view
 
 pub returns-clause-gone : goal.returns-clause-gone
 returns-clause-gone g c = claim_gone c.pay_version.new.self.view c.release_writer.new.self.view c.args.k c.release_writer.ensures.view

@@ -1,4 +1,4 @@
-use Rattle.std.proofs.Common.{◌≡◌, ℕ, ◌+◌, ◌^◌, ◌<◌, [], refl, ap, arith}
+use Rattle.std.proofs.Common.{◌≡◌, ℕ, ◌+◌, ◌^◌, ◌<◌, refl, ap, arith}
 use Rattle.atomic_table.specs.Table.{Me}
 use Rattle.history_model.specs.declared.view.View.{View}
 use Rattle.history_model.specs.declared.view.Phase.TheVariants.{Idle, Running}
@@ -10,16 +10,16 @@ use Rattle.word_table.proofs.Copied.Rows.{zeros, shows_none}
 use Rattle.word_table.proofs.Copied.After.{copy_called, lock_copy, busy}
 use Rattle.word_table.proofs.Copied.VersionCopies.{versions_begun}
 use Rattle.word_table.proofs.Calls.Committing.{begin_reads}
-use Rattle.word_table.proofs.Calls.Taken.{taken_in, own_number, still_none}
+use Rattle.word_table.proofs.Calls.Taken.{taken_in, own_number}
 use Rattle.word_table.proofs.pass.Pass.begin_call.Goals as goal
 
 pub invariant_of-self : goal.invariant_of-self
 invariant_of-self g c = let i = c.self.invariant in let p = c.self.inside in let l = i.locks_are in let v : View = p.seat.me.0 in
-    let w : View = (begin_call_action p.call.who v).view [] 0 in let after : Me (Unit {0}) View = (w, p.seat.me.1) in
+    let w : View = (begin_call_action p.call.who v).view 0 in let after : Me (Unit {0}) View = (w, p.seat.me.1) in
     let locks : LockCopy = record p.locks { versions = record p.locks.versions { used = zeros 16; written = zeros 16 } } in
     copy_called i Running (p.call.calls + 1) locks c.store.new.seat.table_id c.store.new.seat.me w c.store.ensures.seat
     (ap (λ (m : Me (Unit {0}) View). m.0) {y = after} c.store.ensures.view) (ap (λ (m : Me (Unit {0}) View). m.1) {y = after} c.store.ensures.view)
-    refl refl refl refl (ap (λ (x : ℕ). x + 1) i.call_is.calls_are) refl refl refl
+    refl refl refl (ap (λ (x : ℕ). x + 1) i.call_is.calls_are) refl refl refl
     (lock_copy locks w l.bits_are l.reads_are l.claims_are l.scans_are
     (versions_begun p.locks.versions v.uses v.owed v.trace v.undo v.phase l.versions_are (zeros 16) (zeros 16) shows_none shows_none))
     (busy w (λ e. let z : Running ≡ Idle = e in cc))
@@ -41,5 +41,4 @@ returns-clause-fits g c = let p = c.self.inside in let i = c.self.invariant in l
       who = own_number p.call.who p.seat.me.0 p.seat.table_id c.args.self.now c.self.view_is i.call_is.who_is;
       phase = c.requires.phase;
       room = room;
-      no_cause = still_none p.seat.me.0 p.seat.table_id c.args.self.now c.self.view_is i.no_cause;
     }

@@ -19,14 +19,14 @@ store-requires-clause-stored g c = let i = c.self.invariant in
 
 pub invariant_of-self : goal.invariant_of-self
 invariant_of-self g c = let i = c.self.invariant in let p = c.self.inside in let l = i.locks_are in let v : View =
-    (clear_read_bit_action p.call.who c.args.k p.seat.me.0).view [] c.lowered-new.result in
+    (clear_read_bit_action p.call.who c.args.k p.seat.me.0).view c.lowered-new.result in
     copy_stored i c.leave_running.new.phase (record p.locks {
       bits = c.lower.new.row;
       reads =
           c.lower-2.new.row;
     }) c.store.new.seat.table_id c.store.new.seat.me v c.store.ensures.seat
     c.store.ensures.view
-    (steady p.seat.me.0 v refl refl refl refl refl refl refl) (ap (λ (x : Phase). released_phase x) i.call_is.phase_is
+    (steady p.seat.me.0 v refl refl refl refl refl refl) (ap (λ (x : Phase). released_phase x) i.call_is.phase_is
     ∙ sym c.leave_running.ensures)
     (lock_copy (record p.locks { bits = c.lower.new.row; reads = c.lower-2.new.row }) v
     (c.lower.ensures p.seat.me.0.bits l.bits_are) (c.lower-2.ensures p.seat.me.0.reads l.reads_are) l.claims_are l.scans_are

@@ -1,75 +1,40 @@
-use Rattle.std.proofs.Common.{◌≡◌, ◌≤◌, refl, ap, ◌∙◌, arith}
+use Rattle.std.proofs.Common.{◌≡◌, refl, ap, ◌∙◌}
 use Rattle.history_model.specs.declared.view.View.{View}
 use Rattle.history_model.specs.declared.view.Phase.TheVariants.{Idle, Releasing}
-use Rattle.history_model.specs.Table.{history_of}
 use Rattle.history_model.specs.Fitting.{IsGood}
-use Rattle.word_table.specs.declared.limits.TheConstants.{MOST_PASSES}
 use Rattle.values_rule.specs.Steps.{commit_call_action}
 use Rattle.word_table.specs.Sound.{IsSound}
-use Rattle.word_table.proofs.Calls.Committing.{commits_at, commit_legal}
 use Rattle.word_table.specs.declared.copies.LockCopy.{LockCopy}
 use Rattle.word_table.specs.Copies.{PassView}
-use Rattle.word_table.proofs.Copied.After.{copy_after, steady, lock_copy, busy}
+use Rattle.word_table.proofs.Copied.After.{copy_stored, steady, lock_copy, busy}
 use Rattle.word_table.proofs.Copied.VersionCopies.{versions_committed}
-use Rattle.word_table.proofs.Calls.Taken.{taken_in, own_number, still_none}
-use Rattle.word_table.proofs.Kept.Growing.{commit_grows}
+use Rattle.word_table.proofs.Calls.Taken.{taken_in, own_number}
 use Rattle.history_model.specs.Views.{number}
 use Rattle.stamps_rule.proofs.Bounds.{restarts_bounded}
 use Rattle.word_table.proofs.pass.Pass.commit_call.Goals as goal
 
-pub add-requires-clause-room : goal.add-requires-clause-room
-add-requires-clause-room g c = let i = c.self.invariant in
-    let few : c.self.inside.seat.me.0.seats ≤ MOST_PASSES = omega (arith, i.call_is.seats_are, i.few) in
-    commit_grows (IsGood (g.S.Shape.word_count c.args.table.now.key.shape) (g.S.Shape.good c.args.table.now.key.shape))
-    c.self.inside.seat.me.0 c.self.inside.call.who c.args.kept i.call_is.who_is few
-
 pub invariant_of-self : goal.invariant_of-self
 invariant_of-self g c = let i = c.self.invariant in let p = c.self.inside in let l = i.locks_are in let v : View = p.seat.me.0 in
-    let t = c.add.ensures.took in
-    let w : View = (commit_call_action p.call.who c.args.kept v).view (history_of t.0.views) c.add.result in
+    let w : View = (commit_call_action p.call.who c.args.kept v).view 0 in
     let locks : LockCopy = record p.locks { versions = record p.locks.versions { written = c.clear_unless.new.row } } in
-    copy_after i Releasing locks c.add.new.seat.table_id c.add.new.seat.me w c.add.ensures.seat t.0.view t.1
-    (steady v w refl refl refl refl refl refl refl) refl
+    copy_stored i Releasing locks c.store.new.seat.table_id c.store.new.seat.me w c.store.ensures.seat c.store.ensures.view
+    (steady v w refl refl refl refl refl refl) refl
     (lock_copy locks w l.bits_are l.reads_are l.claims_are l.scans_are
     (versions_committed p.locks.versions v.uses v.owed v.trace v.undo v.phase l.versions_are c.args.kept c.clear_unless.new.row
     (λ k. ap (λ (x : PassView). x.view.phase) c.self.view_is ∙ c.requires.runs k) c.clear_unless.ensures))
     (busy w (λ e. let z : Releasing ≡ Idle = e in cc))
 
 pub returns-clause-taken : goal.returns-clause-taken
-returns-clause-taken g c = let p = c.self.inside in
-    taken_in (IsSound (IsGood (g.S.Shape.word_count c.args.table.now.key.shape)
-    (g.S.Shape.good c.args.table.now.key.shape)) c.args.table.now.key.seats c.args.table.now.key.base.items)
-    (λ j k. commit_call_action j c.args.kept) p.call.who 0 0 p.seat.me c.add.new.seat.me.0 p.seat.table_id
-    c.args.self.now c.add.result c.self.view_is c.self.invariant.call_is.who_is refl c.add.ensures.took.0
-
-pub returns-clause-commits : goal.returns-clause-commits
-returns-clause-commits g c = let p = c.self.inside in let i = c.self.invariant in
-    commits_at (g.S.Shape.word_count c.args.table.now.key.shape) (g.S.Shape.good c.args.table.now.key.shape)
-    c.args.table.now.key.seats c.args.table.now.key.base.items c.args.kept c.args.self.now.view c.add.new.seat.me.0
-    c.add.result (returns-clause-taken g c) record {
-      who = own_number p.call.who p.seat.me.0 p.seat.table_id c.args.self.now c.self.view_is i.call_is.who_is;
-      phase = c.requires.phase;
-      runs = c.requires.runs;
-      leaves_good = c.requires.leaves_good;
-      undone = c.requires.undone;
-      no_cause = still_none p.seat.me.0 p.seat.table_id c.args.self.now c.self.view_is i.no_cause;
-    }
-
-pub returns-clause-legal : goal.returns-clause-legal
-returns-clause-legal g c = let p = c.self.inside in let i = c.self.invariant in
-    commit_legal (g.S.Shape.word_count c.args.table.now.key.shape) (g.S.Shape.good c.args.table.now.key.shape)
-    c.args.table.now.key.seats c.args.table.now.key.base.items c.args.kept c.args.self.now.view c.add.new.seat.me.0
-    c.add.result (returns-clause-taken g c) record {
-      who = own_number p.call.who p.seat.me.0 p.seat.table_id c.args.self.now c.self.view_is i.call_is.who_is;
-      phase = c.requires.phase;
-      runs = c.requires.runs;
-      leaves_good = c.requires.leaves_good;
-      undone = c.requires.undone;
-      no_cause = still_none p.seat.me.0 p.seat.table_id c.args.self.now c.self.view_is i.no_cause;
-    }
+returns-clause-taken g c = let p = c.self.inside in let t = c.store.ensures.took in (
+  t.0,
+  taken_in (IsSound (IsGood (g.S.Shape.word_count c.args.table.now.key.shape)
+      (g.S.Shape.good c.args.table.now.key.shape)) c.args.table.now.key.seats c.args.table.now.key.base.items)
+      (λ j k. commit_call_action j c.args.kept) p.call.who 0 0 p.seat.me c.store.new.seat.me.0 p.seat.table_id
+      c.args.self.now t.0 c.self.view_is c.self.invariant.call_is.who_is refl t.1.0,
+)
 
 pub returns-clause-bounded : goal.returns-clause-bounded
-returns-clause-bounded g c = let p = c.self.inside in let t = (returns-clause-taken g c) in
+returns-clause-bounded g c = let p = c.self.inside in let t = (returns-clause-taken g c).1 in
     restarts_bounded c.args.table.now.key.seats c.args.table.now.key.base.items t.words t.views t.place
     (number c.args.self.now.view) c.args.self.now.view t.holds.locks t.holds.stamps t.knows
     (own_number p.call.who p.seat.me.0 p.seat.table_id c.args.self.now c.self.view_is c.self.invariant.call_is.who_is)

@@ -7,7 +7,7 @@ use Rattle.word_table.specs.Copies.{PassView}
 use Rattle.word_table.proofs.Copied.After.{copy_after, busy, look_same, look_phase, look_copy}
 use Rattle.word_table.specs.Sound.{IsSound}
 use Rattle.word_table.proofs.Calls.Committing.{restart_reads}
-use Rattle.word_table.proofs.Calls.Taken.{taken_in, own_number, still_none}
+use Rattle.word_table.proofs.Calls.Taken.{taken_in, own_number}
 use Rattle.word_table.proofs.pass.Pass.load_cause_stamp.Goals as goal
 
 -- the call goes on
@@ -45,5 +45,4 @@ returns-clause-fits g c ne = let p = c.self.inside in let i = c.self.invariant i
       no_bit = c.requires.no_bit;
       no_claim = c.requires.no_claim;
       undone = c.requires.undone;
-      no_cause = still_none p.seat.me.0 p.seat.table_id c.args.self.now c.self.view_is i.no_cause;
     } ne

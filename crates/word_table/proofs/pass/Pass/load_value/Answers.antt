@@ -1,23 +1,34 @@
-use Rattle.std.proofs.Common.{[], refl, ap, ◌∙◌}
+use Rattle.std.proofs.Common.{◌<◌, length, refl, sym, ap, ◌∙◌, subst}
 use Rattle.history_model.specs.declared.view.View.{View}
 use Rattle.history_model.specs.Locks.{lock_of_word}
 use Rattle.history_model.specs.Sets.{has}
+use Rattle.history_model.specs.Views.{IsGranted}
 use Rattle.history_model.specs.Fitting.{IsGood}
 use Rattle.values_rule.specs.Steps.{load_value_action}
 use Rattle.word_table.specs.Sound.{IsSound}
 use Rattle.word_table.specs.Copies.{PassView}
 use Rattle.word_table.specs.Versions.{locks_found}
 use Rattle.word_table.proofs.Copied.After.{copy_after, steady, lock_copy, busy, runs_on}
-use Rattle.word_table.proofs.Copied.VersionCopies.{versions_read}
+use Rattle.word_table.proofs.Copied.VersionCopies.{use_found, versions_read}
 use Rattle.word_table.proofs.Calls.Committing.{load_reads}
-use Rattle.word_table.proofs.Calls.Taken.{taken_in, own_number, still_none}
+use Rattle.word_table.proofs.Calls.Taken.{taken_in, own_number}
 use Rattle.word_table.proofs.pass.Pass.load_value.Goals as goal
+
+pub load-requires-clause-may : goal.load-requires-clause-may
+load-requires-clause-may g c = let p = c.self.inside in let i = c.self.invariant in let v : View = p.seat.me.0 in record {
+  who = i.call_is.who_is;
+  phase = ap (λ (x : PassView). x.view.phase) c.self.view_is ∙ c.requires.phase;
+  word = subst (λ (x : PassView). c.args.a < length x.view.base) (sym c.self.view_is) c.requires.word;
+  granted = subst (λ (x : PassView). IsGranted x.view (lock_of_word c.args.a)) (sym c.self.view_is) c.requires.granted;
+  used = use_found v.uses (lock_of_word c.args.a)
+      (ap (λ (x : PassView). has (lock_of_word c.args.a) (locks_found x.view.uses)) c.self.view_is ∙ c.requires.used);
+}
 
 pub invariant_of-self : goal.invariant_of-self
 invariant_of-self g c = let i = c.self.invariant in let p = c.self.inside in let l = i.locks_are in let v : View = p.seat.me.0 in
-    let t = c.load.ensures.took in let w : View = (load_value_action p.call.who c.args.a v).view [] c.load.result in
+    let t = c.load.ensures.took in let w : View = (load_value_action p.call.who c.args.a v).view c.load.result in
     copy_after i p.call.phase p.locks c.load.new.seat.table_id c.load.new.seat.me w c.load.ensures.seat t.0.view t.1
-    (steady v w refl refl refl refl refl refl refl) i.call_is.phase_is
+    (steady v w refl refl refl refl refl refl) i.call_is.phase_is
     (lock_copy p.locks w l.bits_are l.reads_are l.claims_are l.scans_are
     (versions_read p.locks.versions v.uses v.owed v.trace v.undo v.phase l.versions_are c.args.a c.load.result
     (ap (λ (x : PassView). has (lock_of_word c.args.a) (locks_found x.view.uses)) c.self.view_is ∙ c.requires.used)))
@@ -35,12 +46,9 @@ returns-clause-fits g c = let p = c.self.inside in let i = c.self.invariant in
     load_reads (IsGood (g.S.Shape.word_count c.args.table.now.key.shape) (g.S.Shape.good c.args.table.now.key.shape))
     c.args.table.now.key.seats c.args.table.now.key.base.items c.args.a c.args.self.now.view c.load.new.seat.me.0
     c.load.result (returns-clause-taken g c) record {
-      loads = record {
-        who = own_number p.call.who p.seat.me.0 p.seat.table_id c.args.self.now c.self.view_is i.call_is.who_is;
-        phase = c.requires.phase;
-        word = c.requires.word;
-        granted = c.requires.granted;
-        no_cause = still_none p.seat.me.0 p.seat.table_id c.args.self.now c.self.view_is i.no_cause;
-      };
-      used = c.requires.used;
+      who = own_number p.call.who p.seat.me.0 p.seat.table_id c.args.self.now c.self.view_is i.call_is.who_is;
+      phase = c.requires.phase;
+      word = c.requires.word;
+      granted = c.requires.granted;
+      used = use_found c.args.self.now.view.uses (lock_of_word c.args.a) c.requires.used;
     }

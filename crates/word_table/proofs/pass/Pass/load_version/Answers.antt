@@ -1,4 +1,4 @@
-use Rattle.std.proofs.Common.{◌≡◌, ℕ, ◌+◌, ◌^◌, ◌<◌, ◌≤◌, false, [], slice_set, refl, sym, ap, ◌∙◌, subst, arith}
+use Rattle.std.proofs.Common.{◌≡◌, ℕ, ◌+◌, ◌^◌, ◌<◌, ◌≤◌, false, slice_set, refl, sym, ap, ◌∙◌, subst, arith}
 use Rattle.history_model.specs.declared.view.View.{View}
 use Rattle.history_model.specs.Fitting.{IsGood}
 use Rattle.history_model.specs.Sets.{has}
@@ -19,14 +19,11 @@ load-version-requires-clause-may g c = let i = c.self.invariant in let p = c.sel
     let fresh : has k (locks_found v.uses) ≡ false = ap (λ (x : PassView). has k (locks_found x.view.uses)) c.self.view_is
     ∙ (ap (λ (m : ℕ). has m (locks_found c.args.self.now.view.uses)) c.lock_of-lock.ensures.lock ∙ c.requires.unused) in
     record {
-      loads = record {
-        who = i.call_is.who_is;
-        phase = ap (λ (x : PassView). x.view.phase) c.self.view_is ∙ c.requires.phase;
-        granted = subst (λ (x : PassView). IsGranted x.view k) (sym c.self.view_is)
-            (subst (λ (m : ℕ). IsGranted c.args.self.now.view m) (sym c.lock_of-lock.ensures.lock) c.requires.granted);
-        unused = λ x t. differ (has k (locks_found v.uses)) (found_use v.uses k x t) fresh;
-      };
-      no_cause = i.no_cause;
+      who = i.call_is.who_is;
+      phase = ap (λ (x : PassView). x.view.phase) c.self.view_is ∙ c.requires.phase;
+      granted = subst (λ (x : PassView). IsGranted x.view k) (sym c.self.view_is)
+          (subst (λ (m : ℕ). IsGranted c.args.self.now.view m) (sym c.lock_of-lock.ensures.lock) c.requires.granted);
+      unused = λ x t. differ (has k (locks_found v.uses)) (found_use v.uses k x t) fresh;
     }
 
 pub invariant_of-self : goal.invariant_of-self
@@ -39,9 +36,9 @@ invariant_of-self g c = let i = c.self.invariant in let p = c.self.inside in let
     (version_grows (IsGood (g.S.Shape.word_count c.args.table.now.key.shape) (g.S.Shape.good c.args.table.now.key.shape)) v p.call.who k
     i.call_is.who_is few c.lock_of-lock.ensures.below c.args.table.now.key.seats c.args.table.now.key.base.items
     t.0.words t.0.views t.0.place t.0.holds t.0.knows) in
-    let w : View = (load_version_action p.call.who k v).view [] x in
+    let w : View = (load_version_action p.call.who k v).view x in
     copy_after i p.call.phase _ c.load-version.new.seat.table_id c.load-version.new.seat.me w c.load-version.ensures.seat t.0.view t.1
-    (steady v w refl refl refl refl refl refl refl) i.call_is.phase_is
+    (steady v w refl refl refl refl refl refl) i.call_is.phase_is
     (lock_copy _ w l.bits_are l.reads_are l.claims_are l.scans_are
     (versions_found p.locks.versions v.uses v.owed v.trace v.undo v.phase l.versions_are k x c.raise.new.row
     (slice_set p.locks.versions.found.items k x) c.lock_of-lock.ensures.below fresh fits c.raise.ensures refl _ refl refl refl))

@@ -1,4 +1,4 @@
-use Rattle.std.proofs.Common.{[], ◌≤◌, ◌∙◌, arith, ap}
+use Rattle.std.proofs.Common.{◌≤◌, ◌∙◌, arith, ap}
 use Rattle.history_model.specs.Locks.{lock_of_word}
 use Rattle.history_model.specs.Fitting.{IsGood}
 use Rattle.word_table.specs.Sound.{IsSound}
@@ -14,13 +14,13 @@ pub invariant_of-self : goal.invariant_of-self
 invariant_of-self g c = let i = c.self.invariant in let p = c.self.inside in let l = i.locks_are in let w =
     c.load-found.result in let k = c.lock_of-lock.result in let t = c.load-found.ensures.took in
     copy_after i p.call.phase (record p.locks { reads = c.raise_if.new.row }) c.load-found.new.seat.table_id
-    c.load-found.new.seat.me ((load_writer_action p.call.who k c.args.a p.seat.me.0).view [] w) c.load-found.ensures.seat t.0.view t.1
+    c.load-found.new.seat.me ((load_writer_action p.call.who k c.args.a p.seat.me.0).view w) c.load-found.ensures.seat t.0.view t.1
     (load_same p.call.who k c.args.a p.seat.me.0 w) (load_phase p.call.who k c.args.a p.seat.me.0 w ∙ i.call_is.phase_is)
     (load_copy (record p.locks { reads = c.raise_if.new.row }) p.call.who k c.args.a p.seat.me.0 w l.bits_are
     (same_test c.raise_if.new.row p.seat.me.0.reads k c.is_unclaimed-unclaimed.result (is_free p.call.who w)
     c.is_unclaimed-unclaimed.ensures (c.raise_if.ensures p.seat.me.0.reads l.reads_are)) l.claims_are l.scans_are l.versions_are)
-    (busy ((load_writer_action p.call.who k c.args.a p.seat.me.0).view [] w)
-    (runs_on p.seat.me.0 ((load_writer_action p.call.who k c.args.a p.seat.me.0).view [] w)
+    (busy ((load_writer_action p.call.who k c.args.a p.seat.me.0).view w)
+    (runs_on p.seat.me.0 ((load_writer_action p.call.who k c.args.a p.seat.me.0).view w)
     (load_phase p.call.who k c.args.a p.seat.me.0 w) (ap (λ (x : PassView). x.view.phase) c.self.view_is ∙ c.requires.phase)))
 
 pub returns-clause-taken : goal.returns-clause-taken

@@ -13,14 +13,14 @@ use Rattle.word_table.proofs.pass.Pass.release_writer.Goals as goal
 
 pub invariant_of-self : goal.invariant_of-self
 invariant_of-self g c = let i = c.self.invariant in let p = c.self.inside in let l = i.locks_are in let v : View =
-    (release_writer_action p.call.who c.args.k p.seat.me.0).view [] 0 in
+    (release_writer_action p.call.who c.args.k p.seat.me.0).view 0 in
     copy_stored i c.leave_running.new.phase (record p.locks {
       claims = c.lower.new.row;
       scans =
           c.forget_if.new.masks;
     }) c.store.new.seat.table_id c.store.new.seat.me v c.store.ensures.seat
     c.store.ensures.view
-    (steady p.seat.me.0 v refl refl refl refl refl refl refl) (ap (λ (x : Phase). released_phase x) i.call_is.phase_is
+    (steady p.seat.me.0 v refl refl refl refl refl refl) (ap (λ (x : Phase). released_phase x) i.call_is.phase_is
     ∙ sym c.leave_running.ensures)
     (lock_copy (record p.locks { claims = c.lower.new.row; scans = c.forget_if.new.masks }) v l.bits_are l.reads_are
     (c.lower.ensures p.seat.me.0.claims l.claims_are) (c.forget_if.ensures p.seat.me.0.scans l.scans_are)

@@ -1,4 +1,4 @@
-use Rattle.std.proofs.Common.{[], ◌∷◌, ◌%◌, ◌∙◌, refl, ap}
+use Rattle.std.proofs.Common.{◌∷◌, ◌%◌, ◌∙◌, refl, ap}
 use Rattle.history_model.specs.Fitting.{IsGood}
 use Rattle.word_table.specs.Sound.{IsSound}
 use Rattle.locks_rule.specs.Steps.{scan_row_action}
@@ -11,13 +11,13 @@ pub invariant_of-self : goal.invariant_of-self
 invariant_of-self g c = let i = c.self.invariant in let p = c.self.inside in let l = i.locks_are in let w =
     c.load-found.result in let t = c.load-found.ensures.took in
     copy_after i p.call.phase (record p.locks { scans = c.note_if.new.masks }) c.load-found.new.seat.table_id
-    c.load-found.new.seat.me ((scan_row_action p.call.who c.args.k c.args.other p.seat.me.0).view [] w) c.load-found.ensures.seat t.0.view t.1
+    c.load-found.new.seat.me ((scan_row_action p.call.who c.args.k c.args.other p.seat.me.0).view w) c.load-found.ensures.seat t.0.view t.1
     (scan_same p.call.who c.args.k c.args.other p.seat.me.0 w) (scan_phase p.call.who c.args.k c.args.other p.seat.me.0 w ∙ i.call_is.phase_is)
     (scan_copy (record p.locks { scans = c.note_if.new.masks }) p.call.who c.args.k c.args.other p.seat.me.0 w l.bits_are l.reads_are l.claims_are
     (clear_bit c.note_if.new.masks.items w (c.args.k % 64) ((c.args.k, c.args.other) ∷ p.seat.me.0.scans)
     p.seat.me.0.scans (c.note_if.ensures p.seat.me.0.scans l.scans_are)) l.versions_are)
-    (busy ((scan_row_action p.call.who c.args.k c.args.other p.seat.me.0).view [] w)
-    (runs_on p.seat.me.0 ((scan_row_action p.call.who c.args.k c.args.other p.seat.me.0).view [] w)
+    (busy ((scan_row_action p.call.who c.args.k c.args.other p.seat.me.0).view w)
+    (runs_on p.seat.me.0 ((scan_row_action p.call.who c.args.k c.args.other p.seat.me.0).view w)
     (scan_phase p.call.who c.args.k c.args.other p.seat.me.0 w) (ap (λ (x : PassView). x.view.phase) c.self.view_is ∙ c.requires.phase)))
 
 pub returns-clause-taken : goal.returns-clause-taken

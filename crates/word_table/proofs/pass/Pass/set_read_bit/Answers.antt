@@ -1,4 +1,4 @@
-use Rattle.std.proofs.Common.{[], refl, ap, ◌∙◌}
+use Rattle.std.proofs.Common.{refl, ap, ◌∙◌}
 use Rattle.history_model.specs.declared.view.View.{View}
 use Rattle.history_model.specs.Fitting.{IsGood}
 use Rattle.word_table.specs.Sound.{IsSound}
@@ -17,10 +17,10 @@ store-requires-clause-stored g c = let i = c.self.invariant in
 
 pub invariant_of-self : goal.invariant_of-self
 invariant_of-self g c = let i = c.self.invariant in let p = c.self.inside in let v : View =
-    (set_read_bit_action p.call.who c.lock_of-lock.result c.args.a p.seat.me.0).view [] c.raised-new.result in
+    (set_read_bit_action p.call.who c.lock_of-lock.result c.args.a p.seat.me.0).view c.raised-new.result in
     copy_stored i p.call.phase (record p.locks { bits = c.raise.new.row }) c.store.new.seat.table_id c.store.new.seat.me v c.store.ensures.seat
     c.store.ensures.view
-    (steady p.seat.me.0 v refl refl refl refl refl refl refl) i.call_is.phase_is
+    (steady p.seat.me.0 v refl refl refl refl refl refl) i.call_is.phase_is
     (lock_copy (record p.locks { bits = c.raise.new.row }) v (c.raise.ensures p.seat.me.0.bits i.locks_are.bits_are)
     i.locks_are.reads_are i.locks_are.claims_are i.locks_are.scans_are i.locks_are.versions_are)
     (busy v (runs_on p.seat.me.0 v refl (ap (λ (x : PassView). x.view.phase) c.self.view_is ∙ c.requires.phase)))

@@ -1,4 +1,4 @@
-use Rattle.std.proofs.Common.{ℕ, [], ◌∷◌, refl, ap, ◌∙◌, subst}
+use Rattle.std.proofs.Common.{ℕ, ◌∷◌, refl, ap, ◌∙◌, subst}
 use Rattle.history_model.specs.declared.view.View.{View}
 use Rattle.values_rule.specs.Steps.{store_value_action, known_value}
 use Rattle.word_table.specs.declared.copies.LockCopy.{LockCopy}
@@ -9,11 +9,11 @@ use Rattle.word_table.proofs.pass.Pass.store_value.Goals as goal
 
 pub invariant_of-self : goal.invariant_of-self
 invariant_of-self g c = let i = c.self.invariant in let p = c.self.inside in let l = i.locks_are in let v : View = p.seat.me.0 in
-    let w : View = (store_value_action p.call.who c.args.a c.args.value v).view [] c.args.value in
+    let w : View = (store_value_action p.call.who c.args.a c.args.value v).view c.args.value in
     let locks : LockCopy = record p.locks { versions = record p.locks.versions { written = c.raise.new.row } } in
     let runs = ap (λ (x : PassView). x.view.phase) c.self.view_is ∙ c.requires.phase in
     copy_stored i p.call.phase locks c.store.new.seat.table_id c.store.new.seat.me w c.store.ensures.seat c.store.ensures.view
-    (steady v w refl refl refl refl refl refl refl) i.call_is.phase_is
+    (steady v w refl refl refl refl refl refl) i.call_is.phase_is
     (lock_copy locks w l.bits_are l.reads_are l.claims_are l.scans_are
     (versions_stored p.locks.versions v.uses v.owed v.trace v.undo v.phase l.versions_are c.args.a c.args.value (known_value v c.args.a)
     c.requires.read.1 c.requires.read.0 c.raise.new.row runs (ap (λ (x : PassView). x.view.trace) c.self.view_is ∙ c.requires.read.2)

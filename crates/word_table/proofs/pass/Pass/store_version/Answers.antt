@@ -1,4 +1,4 @@
-use Rattle.std.proofs.Common.{◌≡◌, ℕ, ◌<◌, true, [], length, refl, sym, ap, ◌∙◌, subst, arith}
+use Rattle.std.proofs.Common.{◌≡◌, ℕ, ◌<◌, true, length, refl, sym, ap, ◌∙◌, subst, arith}
 use Rattle.std.proofs.lemmas.Grind.{get_or_default_zero}
 use Rattle.history_model.specs.declared.view.View.{View}
 use Rattle.history_model.specs.declared.view.Phase.TheVariants.{Idle, Releasing}
@@ -30,16 +30,15 @@ store-requires-clause-may g c = let i = c.self.invariant in let p = c.self.insid
             (found_again p.locks.versions v.uses v.owed v.trace v.undo v.phase l.versions_are c.args.k owed);
       };
       claim = subst (λ (x : PassView). HasClaim x.view c.args.k) (sym c.self.view_is) c.requires.claim.1;
-      no_cause = i.no_cause;
     }
 
 pub invariant_of-self : goal.invariant_of-self
 invariant_of-self g c = let i = c.self.invariant in let p = c.self.inside in let l = i.locks_are in let v : View = p.seat.me.0 in
     let ends : v.phase ≡ Releasing = ap (λ (x : PassView). x.view.phase) c.self.view_is ∙ c.requires.phase in
-    let w : View = (store_version_action p.call.who c.args.k 0 v).view [] 0 in
+    let w : View = (store_version_action p.call.who c.args.k 0 v).view 0 in
     let locks : LockCopy = record p.locks { versions = record p.locks.versions { written = c.lower.new.row } } in
     copy_stored i p.call.phase locks c.store.new.seat.table_id c.store.new.seat.me w c.store.ensures.seat c.store.ensures.view
-    (steady v w refl refl refl refl refl refl refl) i.call_is.phase_is
+    (steady v w refl refl refl refl refl refl) i.call_is.phase_is
     (lock_copy locks w l.bits_are l.reads_are l.claims_are l.scans_are
     (versions_paid p.locks.versions v.uses v.owed v.trace v.undo v.phase l.versions_are c.args.k c.lower.new.row ends c.lower.ensures))
     (busy w (λ e. let z : Releasing ≡ Idle = sym ends ∙ e in cc))

@@ -1,9 +1,9 @@
-use Rattle.std.proofs.Common.{◌≡◌, ◌-◌, true, [], length, refl, sym, ap, ◌∙◌}
+use Rattle.std.proofs.Common.{◌≡◌, ◌-◌, true, length, refl, sym, ap, ◌∙◌}
 use Rattle.history_model.specs.declared.view.View.{View}
 use Rattle.history_model.specs.declared.view.Phase.{Phase}
 use Rattle.history_model.specs.Counts.{is_open}
 use Rattle.values_rule.specs.Steps.{undo_store_action, undoing_phase}
-use Rattle.values_rule.proofs.StepKinds.LocksStand.{undoing_idle}
+use Rattle.values_rule.proofs.Phases.{undoing_idle}
 use Rattle.word_table.specs.declared.copies.LockCopy.{LockCopy}
 use Rattle.word_table.specs.Copies.{PassView}
 use Rattle.word_table.proofs.Copied.Rows.{zeros, shows_none}
@@ -13,11 +13,11 @@ use Rattle.word_table.proofs.pass.Pass.undo_store.Goals as goal
 
 pub invariant_of-self : goal.invariant_of-self
 invariant_of-self g c = let i = c.self.invariant in let p = c.self.inside in let l = i.locks_are in let v : View = p.seat.me.0 in
-    let w : View = (undo_store_action p.call.who c.args.a c.args.old v).view [] c.args.old in
+    let w : View = (undo_store_action p.call.who c.args.a c.args.old v).view c.args.old in
     let locks : LockCopy = record p.locks { versions = record p.locks.versions { written = zeros 16 } } in
     let opens : is_open v.phase ≡ true = ap (λ (x : PassView). is_open x.view.phase) c.self.view_is ∙ c.requires.phase in
     copy_stored i c.after_undo-undoing.result locks c.store.new.seat.table_id c.store.new.seat.me w c.store.ensures.seat c.store.ensures.view
-    (steady v w refl refl refl refl refl refl refl) (ap (λ (x : Phase). undoing_phase x) i.call_is.phase_is ∙ sym c.after_undo-undoing.ensures)
+    (steady v w refl refl refl refl refl refl) (ap (λ (x : Phase). undoing_phase x) i.call_is.phase_is ∙ sym c.after_undo-undoing.ensures)
     (lock_copy locks w l.bits_are l.reads_are l.claims_are l.scans_are
     (versions_undone p.locks.versions v.uses v.owed v.trace v.undo v.phase l.versions_are (zeros 16) (length v.undo - 1) shows_none opens))
     (busy w (undoing_idle v.phase opens))

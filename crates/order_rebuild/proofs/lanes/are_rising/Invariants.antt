@@ -1,0 +1,6 @@
+use Rattle.order_rebuild.specs.declared.lanes.Lane.{Lane}
+use Rattle.order_rebuild.proofs.Loops.{IsRisingBelow}
+use Rattle.order_rebuild.proofs.lanes.are_rising.Given as goal
+
+abbrev pub invariant-loop-i : goal.invariant-loop-i
+invariant-loop-i l = IsRisingBelow (λ (lane : Lane). lane.caller) l.lanes l.i

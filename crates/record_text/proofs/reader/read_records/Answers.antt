@@ -1,0 +1,20 @@
+use Rattle.std.proofs.Common.{ℕ, List, [], ◌∷◌, ap, ◌∙◌, slice_index_or}
+use Rattle.std.proofs.lemmas.Result.{err_from_is_err_and}
+use Rattle.script_reader.specs.Gathered.{CallerOf}
+use Rattle.record_text.specs.declared.script.RecordOp.{RecordOp}
+use Rattle.record_text.specs.Input.{StoreInput}
+use Rattle.record_text.proofs.reader.read_records.Goals as goal
+
+abbrev input_with : ℕ → List (CallerOf (List RecordOp)) → StoreInput
+input_with blocks callers = record { blocks = blocks; callers = callers }
+
+pub returns-in_err-blocks-clause-read : goal.returns-in_err-blocks-clause-read
+returns-in_err-blocks-clause-read c input spelled =
+    let p = err_from_is_err_and c.from_residual.result c.from_residual.ensures.1 in
+    rw (p.1, p.2) (c.in_err-blocks.ensures.read (input.blocks ∷ []) input.callers spelled)
+
+pub returns-clause-read : goal.returns-clause-read
+returns-clause-read c input spelled =
+    let same = c.in_ok-blocks.ensures.read (input.blocks ∷ []) input.callers spelled in
+    let blocks = ap (λ sizes. slice_index_or sizes 0 0) same.0 in
+    c.new.ensures ∙ (λ i. input_with (blocks i) (same.1 i))

@@ -1,3 +1,0 @@
-pub mod Asking
-pub mod Turns
-pub mod Intents

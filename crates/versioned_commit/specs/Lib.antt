@@ -1,4 +1,0 @@
-pub mod Uses
-pub mod Attempts
-pub mod Transactions
-pub mod Inner

@@ -1,8 +1,0 @@
--- bits of a pass's own rows and masks
-pub mod Rows
--- what a pass's own copy says of its view
-pub mod Passes
--- what a pass keeps of versions, and what it is after a step
-pub mod VersionCopies
--- a pass's copy after a step
-pub mod After

@@ -1,4 +1,0 @@
--- notes are taken and met
-pub mod Noting
--- all passes of a table come together: the last seat has all numbers, and what it knows says what the table left
-pub mod Gathering

@@ -1,6 +1,0 @@
-use Rattle.std.proofs.Common.{arith}
-use Rattle.versioned_table.proofs.Copied.Rows.{least_bit}
-use Rattle.versioned_table.proofs.bits.least_seat.Goals as goal
-
-pub returns : goal.returns
-returns c = least_bit c.args.seats c.if-seats-eq0.false (omega arith)

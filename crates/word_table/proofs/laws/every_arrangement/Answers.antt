@@ -1,0 +1,13 @@
+use Rattle.history_model.specs.Fitting.{IsGood}
+use Rattle.word_table.proofs.Runs.Meetings.{is_arranged, reads_one_state}
+use Rattle.word_table.proofs.Runs.Recorded.{entries_stay}
+use Rattle.word_table.proofs.laws.every_arrangement.Goals as goal
+
+pub returns-clause-arranged : goal.returns-clause-arranged
+returns-clause-arranged g c shape n base = is_arranged (IsGood (g.S.Shape.word_count shape) (g.S.Shape.good shape)) n base
+
+pub returns-clause-opacity : goal.returns-clause-opacity
+returns-clause-opacity g c shape n base = reads_one_state (IsGood (g.S.Shape.word_count shape) (g.S.Shape.good shape)) n base
+
+pub returns-clause-stays : goal.returns-clause-stays
+returns-clause-stays g c shape n base = entries_stay (IsGood (g.S.Shape.word_count shape) (g.S.Shape.good shape)) n base

@@ -1,0 +1,269 @@
+-- What stands at places, each of which stands among them once.
+use Rattle.std.proofs.Common.{◌≡◌, ◌≢◌, ℕ, zero, suc, ◌+◌, ◌<◌, ◌≤◌, ◌==◌, if◌then◌else◌, Bool, true, false, List, [], ◌∷◌, ◌++◌, All, map, length, length-append, get_or, slice_get, slice_set, Option, Some, None, refl, sym, ap, ◌∙◌, subst, arith}
+use Rattle.std.specs.Prelude.{sum_by}
+use mathlib.Core.Logic.{dite}
+use native.Mathlib.Decide.{ℕ_discrete, dec_lt}
+use Rattle.std.proofs.lemmas.Bool.Decides.{nat_tests}
+use Rattle.std.proofs.lemmas.List.{length-map, length-set}
+use Rattle.std.proofs.lemmas.List.Sums.{sum_by-cons}
+use Rattle.std.proofs.lemmas.Option.{get_or_from_slice_get, slice_get-get_or, slice_get_within}
+use Rattle.history_model.specs.Legal.{IsIn}
+use Rattle.history_model.proofs.ListPlaces.{at_map, get_first, get_last}
+use Rattle.worker_pool.specs.Counting.{once_below, times}
+use Rattle.worker_pool.specs.Days.{AreAt}
+use Rattle.worker_pool.proofs.Sums.{times_cons}
+
+-- all places below n, each once
+pub record AreAllPlaces (n : ℕ) (places : List ℕ) : Type 0 where
+  pub within : (i p : ℕ) → slice_get places i ≡ Some p → p < n
+  pub once : (i j p : ℕ) → slice_get places i ≡ Some p → slice_get places j ≡ Some p → i ≡ j
+  pub whole : (p : ℕ) → p < n → IsIn p places
+
+-- the rest of a list without the number n
+pub without : ℕ → List ℕ → List ℕ
+without n [] = []
+without n (x ∷ xs) = if x == n then without n xs else x ∷ without n xs
+
+length_if : (b : Bool) (x : ℕ) (xs : List ℕ) → length (if b then xs else x ∷ xs) + (if b then 1 else 0) ≡ length xs + 1
+length_if true x xs = refl
+length_if false x xs = omega arith
+
+times_if : (b : Bool) (x y : ℕ) (xs : List ℕ) → times x (if b then xs else y ∷ xs) ≤ (if y == x then 1 else 0) + times x xs
+times_if true x y xs = omega arith
+times_if false x y xs = omega (arith, times_cons x y xs)
+
+times_if_not : (b : Bool) (n y : ℕ) (xs : List ℕ) → b ≡ (y == n) → times n xs ≡ 0 → times n (if b then xs else y ∷ xs) ≡ 0
+times_if_not true n y xs e none = none
+times_if_not false n y xs e none = grind (arith, times_cons n y xs, e, none)
+
+pub length_without : (n : ℕ) (xs : List ℕ) → length (without n xs) + times n xs ≡ length xs
+unfolding without
+length_without n [] =
+    let none : times n [] ≡ 0 = refl in
+    let r : length {A = ℕ} [] + times n [] ≡ length {A = ℕ} [] = omega (arith, none) in
+    r
+length_without n (x ∷ xs) =
+    let r : length (if x == n then without n xs else x ∷ without n xs) + times n (x ∷ xs) ≡ suc (length xs) =
+    omega (arith, length_without n xs, times_cons n x xs, length_if (x == n) x (without n xs)) in
+    r
+
+pub times_without : (n x : ℕ) (xs : List ℕ) → times x (without n xs) ≤ times x xs
+unfolding without
+times_without n x [] = let r : times x [] ≤ times x [] = omega arith in r
+times_without n x (y ∷ ys) =
+    let r : times x (if y == n then without n ys else y ∷ without n ys) ≤ times x (y ∷ ys) =
+    omega (arith, times_without n x ys, times_cons x y ys, times_if (y == n) x y (without n ys)) in
+    r
+
+pub none_without : (n : ℕ) (xs : List ℕ) → times n (without n xs) ≡ 0
+unfolding without
+none_without n [] = refl
+none_without n (x ∷ xs) = times_if_not (x == n) n x (without n xs) refl (none_without n xs)
+
+-- a number that stands in no place of a list stands there no times, and one that stands in one place alone once
+times_none : (x : ℕ) (xs : List ℕ) → (IsIn x xs → ⊥) → times x xs ≡ 0
+times_none x [] out = refl
+times_none x (y ∷ ys) out =
+    let off : y ≢ x = λ e. out (zero, ap Some e) in
+    grind (arith, nat_tests, times_cons x y ys, off, times_none x ys (λ t. out (suc t.0, t.1)))
+
+times_one : (x : ℕ) (xs : List ℕ) → ((i j : ℕ) → slice_get xs i ≡ Some x → slice_get xs j ≡ Some x → i ≡ j) → (i : ℕ) → slice_get xs i ≡ Some x
+    → times x xs ≡ suc zero
+times_one x [] once i e = absurd (cc)
+times_one x (y ∷ ys) once zero e =
+    let here : y ≡ x = same y x e in
+    let none : times x ys ≡ 0 = times_none x ys (λ t. absurd (omega (arith, once zero (suc t.0) e t.1))) in
+    grind (arith, nat_tests, times_cons x y ys, here, none)
+  where
+    same : (u v : ℕ) → Some u ≡ Some v → u ≡ v
+    same u v e = cc
+times_one x (y ∷ ys) once (suc i) e =
+    let off : y ≢ x = λ f. absurd (omega (arith, once zero (suc i) (ap Some f) e)) in
+    let rest : times x ys ≡ suc zero = times_one x ys (λ j k f g. omega (arith, once (suc j) (suc k) f g)) i e in
+    grind (arith, nat_tests, times_cons x y ys, off, rest)
+
+-- a sum of which one number counts
+none_counts : (v x : ℕ) (xs : List ℕ) → times x xs ≡ 0 → sum_by (λ y. if y == x then v else 0) xs ≡ 0
+none_counts v x [] h = refl
+none_counts v x (y ∷ ys) h =
+    let g : ℕ → ℕ = λ z. if z == x then v else 0 in
+    grind (arith, none_counts v x ys, times_cons x y ys, sum_by-cons g y ys, h)
+
+one_counts : (v x : ℕ) (xs : List ℕ) → times x xs ≡ 1 → sum_by (λ y. if y == x then v else 0) xs ≡ v
+one_counts v x [] h = absurd (omega arith)
+one_counts v x (y ∷ ys) h =
+    let g : ℕ → ℕ = λ z. if z == x then v else 0 in
+    grind (arith, one_counts v x ys, none_counts v x ys, times_cons x y ys, sum_by-cons g y ys, h)
+
+-- a sum without one number, and how often others stand then
+sum_if : (b : Bool) (g : ℕ → ℕ) (y : ℕ) (xs : List ℕ) → sum_by g (if b then xs else y ∷ xs) ≡ (if b then 0 else g y) + sum_by g xs
+sum_if true g y xs = omega arith
+sum_if false g y xs = sum_by-cons g y xs
+
+sum_without : (g : ℕ → ℕ) (n : ℕ) (xs : List ℕ) → sum_by g xs ≡ sum_by g (without n xs) + sum_by (λ y. if y == n then g n else 0) xs
+unfolding without
+sum_without g n [] = refl
+sum_without g n (x ∷ xs) =
+    let here : ℕ → ℕ = λ y. if y == n then g n else 0 in
+    let r : sum_by g (x ∷ xs) ≡ sum_by g (if x == n then without n xs else x ∷ without n xs) + sum_by here (x ∷ xs) =
+    grind (arith, nat_tests, sum_without g n xs, sum_by-cons g x xs, sum_by-cons here x xs, sum_if (x == n) g x (without n xs)) in
+    r
+
+times_if_other : (b : Bool) (x y n : ℕ) (xs : List ℕ) → b ≡ (y == n) → x ≢ n → times x (if b then xs else y ∷ xs) ≡ (if y == x then 1 else 0) + times x xs
+times_if_other true x y n xs e off = grind (arith, nat_tests, e, off)
+times_if_other false x y n xs e off = times_cons x y xs
+
+times_other : (x n : ℕ) (xs : List ℕ) → x ≢ n → times x (without n xs) ≡ times x xs
+unfolding without
+times_other x n [] off = refl
+times_other x n (y ∷ ys) off =
+    let r : times x (if y == n then without n ys else y ∷ without n ys) ≡ times x (y ∷ ys) =
+    omega (arith, times_other x n ys off, times_cons x y ys, times_if_other (y == n) x y n (without n ys) refl off) in
+    r
+
+-- the sum over the numbers below n
+sum_below : (ℕ → ℕ) → ℕ → ℕ
+sum_below g zero = 0
+sum_below g (suc n) = sum_below g n + g n
+
+sum_from : (g : ℕ → ℕ) (n : ℕ) → sum_below g (suc n) ≡ g 0 + sum_below (λ i. g (suc i)) n
+unfolding sum_below
+sum_from g zero = omega arith
+sum_from g (suc n) = let r : sum_below g n + g n + g (suc n) ≡ g 0 + (sum_below (λ i. g (suc i)) n + g (suc n)) = omega (arith, sum_from g n) in r
+
+sum_all : {X : Type 0} (f : X → ℕ) (d : X) (xs : List X) → sum_below (λ p. f (get_or xs p d)) (length xs) ≡ sum_by f xs
+unfolding sum_below
+sum_all f d [] = refl
+sum_all f d (x ∷ xs) = sum_from (λ p. f (get_or (x ∷ xs) p d)) (length xs) ∙ (ap (λ k. f x + k) (sum_all f d xs) ∙ sym (sum_by-cons f x xs))
+
+-- each number below n once: the sum over them is that over the numbers below n
+sum_once : (g : ℕ → ℕ) (n : ℕ) (xs : List ℕ) → ((x : ℕ) → times x xs ≡ once_below x n) → sum_by g xs ≡ sum_below g n
+unfolding sum_below
+sum_once g zero [] once = refl
+sum_once g zero (x ∷ xs) once = absurd (grind (arith, nat_tests, once x, times_cons x x xs))
+sum_once g (suc n) xs once =
+    let less : (x : ℕ) → times x (without n xs) ≡ once_below x n = λ x. dite (ℕ_discrete x n)
+    (λ e. ap (λ k. times k (without n xs)) e ∙ (none_without n xs ∙ sym (ap (λ k. once_below k n) e ∙ grind (arith, nat_tests))))
+    (λ off. times_other x n xs off ∙ (once x ∙ grind (arith, nat_tests, off))) in
+    let one : times n xs ≡ 1 = once n ∙ grind (arith, nat_tests) in
+    omega (arith, sum_without g n xs, sum_once g n (without n xs) less, one_counts (g n) n xs one)
+
+module _ {X : Type 0} (given done : List X) (places : List ℕ) (at : AreAt given places done) (all : AreAllPlaces (length given) places) where
+  -- what stands in the one stands in the other
+  pub place_of_done : (k : ℕ) (x : X) → slice_get done k ≡ Some x → (p : ℕ) × (slice_get places k ≡ Some p) × (slice_get given p ≡ Some x)
+  place_of_done k x e =
+      let lt : k < length places = omega (arith, slice_get_within done k x e, at.count) in
+      let is = slice_get-get_or places k 0 lt in
+      (get_or places k 0, is, sym (at.each k (get_or places k 0) is) ∙ e)
+
+  pub all_arranged : (P : X → Type 0) → All P given → All P done
+  all_arranged P each k d lt =
+      let x : X = get_or done k d in
+      let t = place_of_done k x (slice_get-get_or done k d lt) in
+      subst P (get_or_from_slice_get given t.0 x x t.2) (each t.0 x (slice_get_within given t.0 x t.2))
+
+  places_times : (x : ℕ) → times x places ≡ once_below x (length given)
+  places_times x = dite (dec_lt x (length given))
+      (λ lt. let t = all.whole x lt in times_one x places (λ i j e f. all.once i j x e f) t.0 t.1 ∙ grind (arith, nat_tests, lt))
+      (λ no. times_none x places (λ t. no (all.within t.0 x t.1)) ∙ grind (arith, nat_tests, no))
+
+  -- and counts as much
+  pub sum_arranged : (f : X → ℕ) → sum_by f done ≡ sum_by f given
+  sum_arranged f = with_first given refl
+    where
+      -- the images of the places, where something stands in the first list
+      images : (d : X) (ys : List X) (ps : List ℕ) → AreAt given ps ys → ((i p : ℕ) → slice_get ps i ≡ Some p → p < length given)
+          → sum_by f ys ≡ sum_by (λ p. f (get_or given p d)) ps
+      images d [] [] a within = refl
+      images d [] (p ∷ ps) a within = absurd (omega (arith, a.count))
+      images d (y ∷ ys) [] a within = absurd (omega (arith, a.count))
+      images d (y ∷ ys) (p ∷ ps) a within =
+          let here : get_or given p d ≡ y = get_or_from_slice_get given p y d (sym (a.each zero p refl)) in
+          let rest = images d ys ps (record { count = omega (arith, a.count); each = λ i q e. a.each (suc i) q e }) (λ i q e. within (suc i) q e) in
+          omega (arith, rest, sum_by-cons f y ys, sum_by-cons (λ q. f (get_or given q d)) p ps, ap f here)
+
+      with_first : (xs : List X) → xs ≡ given → sum_by f done ≡ sum_by f given
+      with_first [] none = ap (sum_by f) (no_more done (omega (arith, at.count, few))) ∙ ap (sum_by f) none
+        where
+          no_places : (ps : List ℕ) → ((i p : ℕ) → slice_get ps i ≡ Some p → p < 0) → length ps ≡ 0
+          no_places [] within = refl
+          no_places (p ∷ ps) within = absurd (omega (arith, within zero p refl))
+
+          few : length places ≡ 0
+          few = no_places places (λ i p e. omega (arith, all.within i p e, ap (λ (l : List X). length l) none))
+
+          no_more : (ys : List X) → length ys ≡ 0 → ys ≡ []
+          no_more [] e = refl
+          no_more (y ∷ ys) e = absurd (omega (arith, e))
+      with_first (d ∷ xs) is = images d done places at all.within ∙ (sum_once (λ p. f (get_or given p d)) (length given) places places_times ∙ sum_all f d given)
+
+-- another place than the one that changes
+other_place : {X : Type 0} (xs : List X) (i j : ℕ) (v : X) → j ≢ i → slice_get (slice_set xs i v) j ≡ slice_get xs j
+other_place [] i j v off = refl
+other_place (x ∷ xs) zero zero v off = absurd (off refl)
+other_place (x ∷ xs) zero (suc j) v off = refl
+other_place (x ∷ xs) (suc i) zero v off = refl
+other_place (x ∷ xs) (suc i) (suc j) v off = other_place xs i j v (λ e. off (ap suc e))
+
+-- what stood at the first places is arranged, and all else still stands
+pub record IsArranging {X : Type 0} (given : List X) (places : List ℕ) (k : ℕ) (left : List (Option X)) (arranged : List X) : Type 0 where
+  pub long : length left ≡ length given
+  pub count : length arranged ≡ k
+  pub each : (i p : ℕ) → i < k → slice_get places i ≡ Some p → slice_get arranged i ≡ slice_get given p
+  pub still : (p : ℕ) (x : X) → slice_get given p ≡ Some x → ((i : ℕ) → i < k → slice_get places i ≡ Some p → ⊥) → slice_get left p ≡ Some (Some x)
+
+pub arranged_none : {X : Type 0} (given : List X) (places : List ℕ) (left : List (Option X)) → left ≡ map Some given → IsArranging given places 0 left []
+arranged_none given places left is = record {
+  long = ap (λ l. length l) is ∙ length-map given Some;
+  count = refl;
+  each = λ i p lt e. absurd (omega arith);
+  still = λ p x e none. ap (λ l. slice_get l p) is ∙ at_map Some given p x e;
+}
+
+pub arranged_all : {X : Type 0} (given : List X) (places : List ℕ) (left : List (Option X)) (arranged : List X)
+    → IsArranging given places (length places) left arranged → AreAt given places arranged
+arranged_all given places left arranged a = record {
+  count = a.count;
+  each = λ i p e. a.each i p (slice_get_within places i p e) e;
+}
+
+module _ {X : Type 0} (given : List X) (places : List ℕ) (k : ℕ) (left : List (Option X)) (arranged : List X)
+    (within : (i p : ℕ) → slice_get places i ≡ Some p → p < length given)
+    (once : (i j p : ℕ) → slice_get places i ≡ Some p → slice_get places j ≡ Some p → i ≡ j)
+    (a : IsArranging given places k left arranged) (lt : k < length places) where
+  place_k : slice_get places k ≡ Some (get_or places k 0)
+  place_k = slice_get-get_or places k 0 lt
+
+  some_of : (xs : List X) (p : ℕ) → p < length xs → (x : X) × (slice_get xs p ≡ Some x)
+  some_of [] p less = absurd (omega arith)
+  some_of (x ∷ xs) p less = (get_or (x ∷ xs) p x, slice_get-get_or (x ∷ xs) p x less)
+
+  -- what stands at the next place still stands
+  pub at_hand : (x : X) × (slice_get given (get_or places k 0) ≡ Some x) × (slice_get left (get_or places k 0) ≡ Some (Some x))
+  at_hand =
+      let t = some_of given (get_or places k 0) (within k (get_or places k 0) place_k) in
+      (t.0, t.1, a.still (get_or places k 0) t.0 t.1 (λ i less e. absurd (omega (arith, once i k (get_or places k 0) e place_k, less))))
+
+  pub one_arranged : (x : X) (after : List X) (d : Option X) → get_or left (get_or places k 0) d ≡ Some x → after ≡ arranged ++ x ∷ []
+      → IsArranging given places (k + 1) (slice_set left (get_or places k 0) None) after
+  one_arranged x after d found is =
+      let p : ℕ = get_or places k 0 in
+      let hand = at_hand in
+      let there : Some hand.0 ≡ Some x = sym (get_or_from_slice_get left p (Some hand.0) d hand.2) ∙ found in
+      record {
+        long = length-set left p None ∙ a.long;
+        count = omega (arith, ap (λ l. length l) is, length-append arranged (x ∷ []), a.count);
+        each = λ i q less e. dite (dec_lt i k)
+            (λ early. ap (λ l. slice_get l i) is ∙ (get_first arranged (x ∷ []) i (omega (arith, early, a.count)) ∙ a.each i q early e))
+            (λ late.
+            let here : i ≡ k = omega (arith, less, late) in
+            let same : q ≡ p = same_place q p (sym e ∙ (ap (λ n. slice_get places n) here ∙ place_k)) in
+            ap (λ l. slice_get l i) is ∙ (ap (λ n. slice_get (arranged ++ x ∷ []) n) (here ∙ sym a.count)
+            ∙ (get_last arranged x ∙ (sym there ∙ (sym hand.1 ∙ ap (λ n. slice_get given n) (sym same))))));
+        still = λ q y e none.
+            other_place left p q None (λ same. none k (omega arith) (place_k ∙ ap Some (sym same)))
+            ∙ a.still q y e (λ i less f. none i (omega (arith, less)) f);
+      }
+    where
+      same_place : (u v : ℕ) → Some u ≡ Some v → u ≡ v
+      same_place u v e = cc
