@@ -1,0 +1,43 @@
+-- Laws of the language of orders.
+use Rattle.std.specs.Prelude.{◌≡◌, ◌≢◌, ℕ, ◌<◌, List}
+use Rattle.order_text.specs.declared.order.Resting.{Resting}
+use Rattle.order_text.specs.declared.script.OrderOp.{OrderOp}
+use Rattle.order_text.specs.declared.reply.OrderValue.{OrderValue}
+use Rattle.order_text.specs.declared.reply.OrderReply.TheVariants as reply
+use Rattle.order_text.specs.Orders.{OrderBook, best_buy, best_sell, empty_book}
+use Rattle.order_text.specs.Interpreter.{Gives, order_outcome_of, step_of}
+use Rattle.order_text.specs.Ranges.{IsBlockCount, IsBookOf, IsInstrumentCount, IsOrderOp, IsOrderScript}
+
+-- a script that is not done leaves the book
+abbrev pub RefusedChangesNothing : Type 0
+RefusedChangesNothing = (script : List OrderOp) (book : OrderBook)
+    → ((values : List OrderValue) → (order_outcome_of script book).0 ≢ reply.Done values)
+    → (order_outcome_of script book).1 ≡ book
+
+-- each instrument's best buy price is below its best sell price, where both are there
+abbrev pub BestPricesApart : List Resting → Type 0
+BestPricesApart orders = (instrument : ℕ) → best_buy instrument orders ≢ 0 → best_sell instrument orders ≢ 0
+    → best_buy instrument orders < best_sell instrument orders
+
+-- the empty book is a book, in which they are so
+abbrev pub EmptyIsApart : Type 0
+EmptyIsApart = (blocks instruments : ℕ) → IsBlockCount blocks → IsInstrumentCount instruments
+    → IsBookOf instruments (empty_book blocks) × BestPricesApart (empty_book blocks).orders
+
+-- after each operation it still is a book
+abbrev pub OperationsKeepBooks : Type 0
+OperationsKeepBooks = (instruments : ℕ) (op : OrderOp) (book next : OrderBook) (value : OrderValue)
+    → IsBookOf instruments book → IsOrderOp instruments op → step_of op book ≡ Gives value next
+    → IsBookOf instruments next
+
+-- and they still are so
+abbrev pub OperationsKeepApart : Type 0
+OperationsKeepApart = (instruments : ℕ) (op : OrderOp) (book next : OrderBook) (value : OrderValue)
+    → IsBookOf instruments book → IsOrderOp instruments op → step_of op book ≡ Gives value next
+    → BestPricesApart book.orders → BestPricesApart next.orders
+
+-- and both after every script
+abbrev pub ScriptsKeepApart : Type 0
+ScriptsKeepApart = (instruments : ℕ) (script : List OrderOp) (book : OrderBook)
+    → IsBookOf instruments book → IsOrderScript instruments script → BestPricesApart book.orders
+    → IsBookOf instruments (order_outcome_of script book).1 × BestPricesApart (order_outcome_of script book).1.orders

@@ -1,0 +1,6 @@
+pub mod Orders
+pub mod Matching
+pub mod Interpreter
+pub mod Ranges
+pub mod Laws
+pub mod Inner
