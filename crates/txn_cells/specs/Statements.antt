@@ -4,7 +4,7 @@ use Rattle.history_model.specs.declared.shape.Shape.{Ghosts as Shapes}
 use Rattle.history_model.specs.Traces.{Trace, after}
 use Rattle.history_model.specs.Fitting.{Fits}
 use Rattle.txn_cells.specs.declared.coded.Coded.{Ghosts as Codes}
-use Rattle.txn_cells.specs.declared.limits.TheConstants.{MOST_WORDS, MOST_WORDS_OF_A_CELL}
+use Rattle.txn_cells.specs.declared.limits.TheConstants.{CELLS, MOST_ROUNDS, MOST_WORDS, MOST_WORDS_OF_A_CELL}
 use Rattle.txn_cells.specs.Cells.{AreCellValues}
 use Rattle.txn_cells.specs.Typed.{TypedTrace, IsLegalTyped, after_typed, AreCalls, trace_after, typed_of}
 
@@ -12,6 +12,8 @@ use Rattle.txn_cells.specs.Typed.{TypedTrace, IsLegalTyped, after_typed, AreCall
 pub record LimitsInDigits : Type 0 where
   pub words : MOST_WORDS ≡ 1048576
   pub of_a_cell : MOST_WORDS_OF_A_CELL ≡ 8
+  pub cells : CELLS ≡ 8
+  pub rounds : MOST_ROUNDS ≡ 10000
 
 module _ {T S : Type 0} (code : Codes T) (shapes : Shapes S) where
   -- words have one list of values at most

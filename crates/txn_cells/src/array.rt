@@ -71,11 +71,11 @@ impl<T: Coded> CellsShape<T> {
 }
 
 impl<T: Coded> CellArray<T> {
-    ghost use Rattle.std.specs.Prelude.{[], ◌∷◌, ◌<◌, ◌+◌, ◌*◌, ◌⊎◌, length, IfOk, OnOk};
+    ghost use Rattle.std.specs.Prelude.{[], ◌∷◌, ◌<◌, ◌≤◌, ◌+◌, ◌*◌, ◌⊎◌, List, Some, length, slice_get, IfOk, OnOk};
     ghost use Rattle.txn_words.specs.Calls.{IsReady, GoesOn, WritesOnly, ReadsOnly, InEachState, LeadsTo};
     ghost use Rattle.txn_words.specs.Looks.{Looks};
     ghost use Rattle.txn_cells.specs.declared.typed.TypedEvent.TheVariants.{Get, Set};
-    ghost use Rattle.txn_cells.specs.Cells.{AreCells, IsOfCell, cell_words};
+    ghost use Rattle.txn_cells.specs.Cells.{AreCellValues, AreCells, IsOfCell, cell_words};
     ghost use Rattle.txn_cells.specs.Typed.{DoesTyped};
     ghost use Rattle.txn_cells.specs.Inner.Puts.{PutsWords};
 
@@ -166,6 +166,29 @@ impl<T: Coded> CellArray<T> {
         self.write_cell(w, i, &second[..T::WORDS as usize])?;
         self.write_cell(w, j, &first[..T::WORDS as usize])
     }
+
+    /// The value that the cell at place `i` has in these words, as those that a closed table left.
+    pub fn value_in(&self, words: &[u64], i: u32) -> T
+        requires place { i < self.now.len }
+        requires cells { AreCells T.Coded self.now.at self.now.len words.now }
+        ensures { (values : List T)
+            → AreCellValues T.Coded self.now.at self.now.len words.now values
+            → slice_get values i ≡ Some result }
+    {
+        self.lies_within(words, i);
+        let first = self.first_word(i) as usize;
+        match T::of(&words[first..first + T::WORDS as usize]) {
+            Some(x) => x,
+            None => unreachable!(),
+        }
+    }
+
+    // The cell at place `i` lies within these words. It does nothing.
+    fn lies_within(&self, words: &[u64], i: u32)
+        requires place { i < self.now.len }
+        requires cells { AreCells T.Coded self.now.at self.now.len words.now }
+        ensures { self.now.at + i * T.WORDS + T.WORDS ≤ length words.now }
+    {}
 
     // The first word of the cell at place `i`.
     fn first_word(&self, i: u32) -> u64

@@ -7,17 +7,24 @@
 //! values what their typed events say.
 #![tactic(auto)]
 
+pub(crate) mod adding;
 pub mod array;
 pub mod coded;
 pub mod laws;
 pub mod limits;
 pub mod numbers;
 pub mod pair;
+pub(crate) mod rounds;
+pub mod run;
+#[cfg(test)]
+mod run_tests;
 #[cfg(test)]
 mod tests;
 pub mod typed;
 
 pub use array::{CellArray, CellsShape};
 pub use coded::Coded;
+pub use limits::{CELLS, MOST_ROUNDS};
 pub use pair::Pair;
+pub use run::run_cells;
 pub use typed::TypedEvent;

@@ -1,0 +1,50 @@
+-- A closed table whose callers have made their rounds.
+use Rattle.std.proofs.Common.{◌≡◌, ℕ, ◌*◌, ◌<◌, ◌≤◌, List, replicate, sym, subst}
+use Rattle.history_model.specs.declared.entry.Entry.{Entry}
+use Rattle.history_model.specs.Legal.{IsIn}
+use Rattle.word_table.specs.Closing.{ClosedView, AreRecords, AreSeenBy, IsCoherent, IsLegalInEachOrder}
+use Rattle.word_table.specs.Copies.{PassView}
+use Rattle.word_table.specs.Desks.{DeskView}
+use Rattle.txn_cells.specs.contracts.numbers.U128Coded.TheImpl.{ghosts as numbers}
+use Rattle.txn_cells.specs.declared.limits.TheConstants.{CELLS}
+use Rattle.txn_cells.specs.Adding.{AreAllCells, sums_of}
+use Rattle.txn_cells.specs.Cells.{AreCellValues}
+use Rattle.txn_cells.specs.Rounds.{AreSoMany, HaveRounds, IsRound}
+use Rattle.txn_cells.proofs.AddingUp.{all_kept, are_sums, so_many}
+use Rattle.txn_cells.proofs.Beginning.{zero_cells}
+use Rattle.txn_cells.proofs.Gathering.{HaveMade, each_made, none_besides}
+
+-- what is known of a table when it is closed
+pub record HasClosed {S : Type 0} (workers rounds : ℕ) (closed : ClosedView S) : Type 0 where
+  pub began : closed.base ≡ replicate (CELLS * 2) 0
+  pub coherent : IsCoherent (AreAllCells numbers) closed
+  pub legal : IsLegalInEachOrder (AreAllCells numbers) closed
+  pub records : AreRecords closed
+  pub desk : DeskView S
+  pub seats : desk.seats ≡ workers
+  pub passes : List PassView
+  pub made : HaveMade desk rounds passes
+  pub seen : AreSeenBy passes closed.records
+
+module _ {S : Type 0} (workers rounds : ℕ) (closed : ClosedView S) (h : HasClosed workers rounds closed) where
+  each : (c r : ℕ) → c < workers → r < rounds → IsRound numbers closed.records c r
+  each c r lt less = each_made h.desk rounds h.passes h.made closed h.seen c r (subst (λ n. c < n) (sym h.seats) lt) less
+
+  near : (e : Entry) → IsIn e closed.records → (e.who < workers) × (1 ≤ e.call) × (e.call ≤ rounds)
+  near e is =
+      let t = none_besides h.desk rounds h.passes h.made closed h.seen e is in
+      (subst (λ n. e.who < n) h.seats t.0, t.1, t.2)
+
+  pub have_rounds : HaveRounds numbers workers rounds closed.records
+  have_rounds = record {
+    each = each;
+    kept = all_kept numbers workers rounds closed h.coherent h.legal h.records each near;
+    no_more = near;
+  }
+
+  pub counted : AreSoMany workers rounds closed.records
+  counted = so_many numbers workers rounds closed h.coherent h.legal h.records each near
+
+  pub summed_up : AreCellValues numbers 0 CELLS closed.words (sums_of workers rounds)
+  summed_up = are_sums numbers workers rounds closed h.coherent h.legal h.records each near (λ x is. is)
+      (subst (λ s. AreCellValues numbers 0 CELLS s (replicate CELLS 0)) (sym h.began) zero_cells)

@@ -1,0 +1,115 @@
+//! Workers on threads, who add to the same cells.
+
+ghost use Rattle.std.specs.Prelude.{◌≡◌, ◌≤◌, ◌<◌, ◌*◌, ℕ, Ok, All, IfOk, length, map, replicate, slice_index_or};
+ghost use Rattle.word_table.specs.Closing.{AreRecords, IsCoherent, IsLegalInEachOrder};
+ghost use Rattle.word_table.specs.declared.limits.TheConstants.{MOST_PASSES};
+ghost use Rattle.txn_threads.specs.Passes.{IsFresh};
+ghost use Rattle.txn_cells.specs.declared.limits.TheConstants.{CELLS, MOST_ROUNDS};
+ghost use Rattle.txn_cells.specs.Adding.{AreAllCells, sums_of};
+ghost use Rattle.txn_cells.specs.Cells.{AreCellValues};
+ghost use Rattle.txn_cells.specs.Inner.Making.{MadeRounds};
+ghost use Rattle.txn_cells.specs.Rounds.{AreSoMany, HaveRounds};
+
+use crate::array::CellsShape;
+use crate::coded::Coded;
+use crate::limits::CELLS;
+use crate::rounds::make_rounds;
+use io_ends::OutOfMemory;
+use std::alloc::Global;
+use std::sync::Wait;
+use std::thread;
+use std::thread::Threads;
+use word_table::{Closed, Desk, Pass};
+use worker_gate::Gate;
+
+// A pass that has made its rounds, unless no memory was found.
+type Made = Result<Pass<CellsShape<u128>>, OutOfMemory>;
+
+// The rounds with each pass, on a thread of its own.
+fn work_all<G: Gate, R: Threads + Wait + Sync>(
+    rt: &R,
+    alloc: Global,
+    desk: &Desk<CellsShape<u128>>,
+    passes: Vec<Pass<CellsShape<u128>>>,
+    shape: CellsShape<u128>,
+    rounds: u32,
+    gate: &G,
+) -> Result<Vec<Made>, OutOfMemory>
+    requires whole { (shape.at ≡ 0) × (shape.len ≡ CELLS) }
+    requires few { rounds ≤ MOST_ROUNDS }
+    requires shape { desk.now.shape ≡ shape }
+    requires fresh { All (IsFresh desk.now) passes.items }
+    ensures count { IfOk result (λ made. length made.items ≡ length passes.items) }
+    ensures each { IfOk result (λ made. (k : ℕ) (p m : _) → k < length passes.items
+        → IfOk (slice_index_or made.items k m)
+        (MadeRounds rounds (slice_index_or passes.items k p))) }
+{
+    Ok(thread::map_vec(
+        rt,
+        passes,
+        &|pass: Pass<CellsShape<u128>>| -> Made
+            requires whole { (shape.at ≡ 0) × (shape.len ≡ CELLS) }
+            requires few { rounds ≤ MOST_ROUNDS }
+            requires shape { desk.now.shape ≡ shape }
+            requires fresh { IsFresh desk.now pass }
+            ensures { IfOk result (MadeRounds rounds pass) }
+        { make_rounds(rt, alloc, desk, pass, shape, rounds, gate) },
+    )?)
+}
+
+// The passes, unless one of them found no memory.
+fn all_made(alloc: Global, made: Vec<Made>) -> Result<Vec<Pass<CellsShape<u128>>>, OutOfMemory>
+    ensures { IfOk result (λ passes. map Ok passes.items ≡ made.items) }
+{
+    let mut passes = Vec::new(alloc);
+    for pass in made {
+        passes.push(pass?)?;
+    }
+    Ok(passes)
+}
+
+/// Has workers add, each on a thread of its own, to the same cells of 128 bits, which have 0 at first: in each round,
+/// by one transaction, `u64::MAX` to one cell and 1 to the next. A worker begins at the cell with its number, and goes
+/// one cell further in each round.
+///
+/// The gate is told of each point that a transaction comes to; its tag is the worker times 65,536, and the round, both
+/// from 0. Which transaction comes first depends on the threads; what the cells come to does not. It may wait for other
+/// threads: that a wait ends, no clause says.
+pub fn run_cells<G: Gate, R: Threads + Wait + Sync>(
+    rt: &R,
+    alloc: Global,
+    workers: u32,
+    rounds: u32,
+    gate: &G,
+) -> Result<Closed<CellsShape<u128>>, OutOfMemory>
+    requires workers { (1 ≤ workers) × (workers ≤ MOST_PASSES) }
+    requires rounds { (1 ≤ rounds) × (rounds ≤ MOST_ROUNDS) }
+    // The table began with 0 in each word of the cells, and had a pass for each worker.
+    ensures began { IfOk result (λ closed. closed.base ≡ replicate (CELLS * 2) 0) }
+    ensures seats { IfOk result (λ closed. closed.seats ≡ workers) }
+    ensures shape { IfOk result (λ closed. (closed.shape.at ≡ 0) × (closed.shape.len ≡ CELLS)) }
+    // What was committed, with the attempts that gave way, has an arrangement; in every arrangement each item stands at
+    // a legal place, and the words are what it leaves.
+    ensures coherent { IfOk result (λ closed.
+        IsCoherent (AreAllCells ⟦<u128 as Coded>⟧) closed) }
+    ensures legal { IfOk result (λ closed.
+        IsLegalInEachOrder (AreAllCells ⟦<u128 as Coded>⟧) closed) }
+    ensures records { IfOk result (λ closed. AreRecords closed) }
+    // Each worker made its rounds, each by one record, and no more.
+    ensures count { IfOk result (λ closed. AreSoMany workers rounds closed.records) }
+    ensures rounds { IfOk result (λ closed.
+        HaveRounds ⟦<u128 as Coded>⟧ workers rounds closed.records) }
+    // Each cell has the sum of what all of them added to it.
+    ensures sums { IfOk result (λ closed.
+        AreCellValues ⟦<u128 as Coded>⟧ 0 CELLS closed.words (sums_of workers rounds)) }
+{
+    let shape = CellsShape::<u128>::new(0, CELLS);
+    let words = vec![in alloc; 0; CELLS as usize * u128::WORDS as usize]?;
+    let (desk, passes) = Desk::new(alloc, shape, words, workers)?;
+    let made = work_all(rt, alloc, &desk, passes, shape, rounds, gate)?;
+    let passes = all_made(alloc, made)?;
+    match desk.close(alloc, passes) {
+        Ok(closed) => Ok(closed),
+        Err(_) => Err(OutOfMemory),
+    }
+}
