@@ -7,7 +7,8 @@ use Rattle.script_reader.specs.declared.limits.TheConstants.{MOST_WORKERS}
 use Rattle.script_reader.specs.Number.{IsNumber}
 use Rattle.script_reader.specs.Text.{number}
 use Rattle.script_reader.proofs.Tokens.Numerals.{read_is, greatest_u64}
-use Rattle.twoplsf.specs.Command.{IsRunCommand, IsMakeCommand, IsDrillCommand}
+use Rattle.txn_cells.specs.declared.limits.TheConstants.{MOST_ROUNDS}
+use Rattle.twoplsf.specs.Command.{IsRunCommand, IsMakeCommand, IsDrillCommand, IsCellsCommand}
 use Rattle.twoplsf.specs.Commands.{ArePlanned}
 
 -- a list of a known length is its elements
@@ -20,7 +21,7 @@ pub two_of : {A : Type 0} (f : A → List ℕ) (xs : List A) (x y : A) → lengt
 two_of f [] x y two first second = absurd (omega arith)
 two_of f (a ∷ xs) x y two first second = rw (sym first) (ap (λ ws. f x ∷ ws) (one_of f xs y (omega arith) second))
 
-three_of : {A : Type 0} (f : A → List ℕ) (xs : List A) (x y z : A) → length xs ≡ 3 → x ≡ get_or xs 0 x
+pub three_of : {A : Type 0} (f : A → List ℕ) (xs : List A) (x y z : A) → length xs ≡ 3 → x ≡ get_or xs 0 x
     → y ≡ get_or xs 1 y → z ≡ get_or xs 2 z → map f xs ≡ f x ∷ f y ∷ f z ∷ []
 three_of f [] x y z three first second third = absurd (omega arith)
 three_of f (a ∷ xs) x y z three first second third = rw (sym first) (ap (λ ws. f x ∷ ws) (two_of f xs y z (omega arith) second third))
@@ -82,6 +83,16 @@ module _ (words : List (List ℕ)) (seed callers scripts : List ℕ) where
         let same : codes "drill" ∷ workers ∷ seed ∷ callers ∷ scripts ∷ [] ≡ codes "drill" ∷ number w ∷ number s
         ∷ number c ∷ number n ∷ [] = sym are ∙ is.words_are in
         record { seed_is = cc; callers_is = cc; scripts_is = cc; range = is.range }
+
+module _ (words : List (List ℕ)) (workers rounds : List ℕ) (are : words ≡ codes "cells" ∷ workers ∷ rounds ∷ []) where
+  pub cells_command : (w r : ℕ) → (workers ≡ number w) × IsWithin 1 MOST_WORKERS w → (rounds ≡ number r) × IsWithin 1 MOST_ROUNDS r → IsCellsCommand words w r
+  cells_command w r h k = record { words_are = are ∙ (λ i. codes "cells" ∷ h.0 i ∷ k.0 i ∷ []); workers_range = h.1; rounds_range = k.1 }
+
+  pub cells_workers : (w r : ℕ) → IsCellsCommand words w r → workers ≡ number w
+  cells_workers w r is = let same : codes "cells" ∷ workers ∷ rounds ∷ [] ≡ codes "cells" ∷ number w ∷ number r ∷ [] = sym are ∙ is.words_are in cc
+
+  pub cells_rounds : (w r : ℕ) → IsCellsCommand words w r → rounds ≡ number r
+  cells_rounds w r is = let same : codes "cells" ∷ workers ∷ rounds ∷ [] ≡ codes "cells" ∷ number w ∷ number r ∷ [] = sym are ∙ is.words_are in cc
 
 -- what follows where there is no value
 pub if_none : {X : Type 0} (r : Option X) (P Q : Type 0) → (P → Q) → IfNone r P → IfNone r Q

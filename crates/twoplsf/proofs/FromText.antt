@@ -47,7 +47,8 @@ above_most (Some bytes) (Some rest) taken above = omega arith
 -- the words of a command whose text is made
 made_text_is : (words : List (List ℕ)) (text : List ℕ) → IsMadeText words text → IsMaking words
 made_text_is words text (inl input) = inl (input.seed, input.callers, input.scripts, input.command)
-made_text_is words text (inr sums) = inr (sums.workers, sums.seed, sums.callers, sums.scripts, sums.command)
+made_text_is words text (inr (inl sums)) = inr (inl (sums.workers, sums.seed, sums.callers, sums.scripts, sums.command))
+made_text_is words text (inr (inr cells)) = inr (inr (cells.workers, cells.rounds, cells.command))
 
 -- a command that reads ends in one of these ways
 ends : (result : Status) (words : List (List ℕ)) (left now before after : Option (List ℕ))
@@ -111,7 +112,7 @@ module _ (result : Status) (words : List (List ℕ)) (bytes : List ℕ) where
   on_run only run (inr (inl is)) = absurd (run_not_check words run (only is))
   on_run only run (inr (inr memory)) = inr memory
 
--- a command that makes its input ends so where no fault came
+-- a command that reads nothing ends so where no fault came
 makes : (result : Status) (words : List (List ℕ)) (left now before after : Option (List ℕ))
     → TookText result words left now before after → (result ≡ status.ReadFault → IsReading words) → result ≢ status.WriteFault → IsMaking words
     → (result ≡ status.Done) ⊎ (result ≡ status.OutOfMemory)
@@ -152,7 +153,7 @@ module _ {result : Status} {words : List (List ℕ)} {left now before after : Op
           }
       by (text, inr made, printed) = absurd (read_not_made words (inl run) (made_text_is words text made))
 
-  -- and by a command that makes its input
+  -- and by a command that reads nothing
   pub made : IsMaking words → result ≡ status.Done → PrintsMade words before after
   made making is = by (text_of status.Done is)
     where

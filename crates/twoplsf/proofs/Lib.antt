@@ -6,7 +6,9 @@ pub mod Commands
 pub mod Summing
 -- what a drill says of the closing books
 pub mod Drills
--- the answers of commands that make their input
+-- the lines of cells, one after another
+pub mod CellLines
+-- the answers of commands that read nothing
 pub mod Makings
 -- what was printed, put together
 pub mod Served

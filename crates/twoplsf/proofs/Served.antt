@@ -45,12 +45,19 @@ of_left {P = P} (Some all) read h = h all (subst P (sym read.told) read.holds)
 pub run_not_check : (words : List (List ℕ)) → IsAnyRunCommand words → IsCheck words → ⊥
 run_not_check words run check = omega (arith, ap length run.1.words_are, ap length check)
 
--- the words of a command that reads are not those of one that makes its input
+-- a command that reads has two words at most, and one that reads nothing has more
+reading_short : (words : List (List ℕ)) → IsReading words → length words ≤ 2
+reading_short words (inl run) = omega (arith, ap length run.1.words_are)
+reading_short words (inr check) = omega (arith, ap length check)
+
+making_long : (words : List (List ℕ)) → IsMaking words → 3 ≤ length words
+making_long words (inl make) = omega (arith, ap length make.3.words_are)
+making_long words (inr (inl drill)) = omega (arith, ap length drill.4.words_are)
+making_long words (inr (inr cells)) = omega (arith, ap length cells.2.words_are)
+
+-- the words of a command that reads are not those of one that reads nothing
 pub read_not_made : (words : List (List ℕ)) → IsReading words → IsMaking words → ⊥
-read_not_made words (inl run) (inl make) = omega (arith, ap length run.1.words_are, ap length make.3.words_are)
-read_not_made words (inl run) (inr drill) = omega (arith, ap length run.1.words_are, ap length drill.4.words_are)
-read_not_made words (inr check) (inl make) = omega (arith, ap length check, ap length make.3.words_are)
-read_not_made words (inr check) (inr drill) = omega (arith, ap length check, ap length drill.4.words_are)
+read_not_made words reading making = omega (arith, reading_short words reading, making_long words making)
 
 -- the words of a command that reads
 pub reading_is : (words : List (List ℕ)) (r : Reading) → IsReadingBy words r → IsReading words
@@ -116,26 +123,26 @@ agrees_runs_not : (words : List (List ℕ)) (r : Reading) (bytes : List ℕ) (te
     → IsAnswerBy r bytes (Agrees text) → IsAnyRunCommand words ⊎ IsDrill words → ⊥
 agrees_runs_not words (reading.Run w) bytes text is answer runs = absurd answer
 agrees_runs_not words reading.Check bytes text is answer (inl run) = run_not_check words run is
-agrees_runs_not words reading.Check bytes text is answer (inr drill) = read_not_made words (inr is) (inr drill)
+agrees_runs_not words reading.Check bytes text is answer (inr drill) = read_not_made words (inr is) (inr (inl drill))
 
-pub none_there : IsSome {T = DayEnd} None → ⊥
-none_there h = true≢false (sym h)
+pub none_there : {T : Type 0} (told : Option T) → told ≡ None → IsSome told → ⊥
+none_there told none some = true≢false (sym (subst IsSome none some))
 
--- after a text was written or not, the day is there only where it was
-pub day_kept : (result : Status) (day kept : Option DayEnd) (W R F : Type 0) (P : DayEnd → Type 0)
+-- after a text was written or not, what is told beside it is there only where it was
+pub told_kept : {T : Type 0} (result : Status) (day kept : Option T) (W R F : Type 0) (P : T → Type 0)
     → (result ≡ status.Done → kept ≡ day) → (result ≢ status.Done → kept ≡ None)
     → (result ≡ status.Done × W) ⊎ (result ≡ status.WriteFault × R × F) → (result ≡ status.Done → IfSome day P) → IfSome kept P
-day_kept result day kept W R F P done other (inl h) holds = subst (λ (d : Option DayEnd). IfSome d P) (sym (done h.0)) (holds h.0)
-day_kept result day kept W R F P done other (inr h) holds =
-    subst (λ (d : Option DayEnd). IfSome d P) (sym (other (λ e. let same : status.WriteFault ≡ status.Done = sym h.0 ∙ e in cc))) tt
+told_kept {T} result day kept W R F P done other (inl h) holds = subst (λ (d : Option T). IfSome d P) (sym (done h.0)) (holds h.0)
+told_kept {T} result day kept W R F P done other (inr h) holds =
+    subst (λ (d : Option T). IfSome d P) (sym (other (λ e. let same : status.WriteFault ≡ status.Done = sym h.0 ∙ e in cc))) tt
 
-pub day_there : (result : Status) (day kept : Option DayEnd) (W R F run : Type 0) → (result ≡ status.Done → kept ≡ day) → (result ≢ status.Done → kept ≡ None)
+pub told_there : {T : Type 0} (result : Status) (day kept : Option T) (W R F run : Type 0)
+    → (result ≡ status.Done → kept ≡ day) → (result ≢ status.Done → kept ≡ None)
     → (result ≡ status.Done × W) ⊎ (result ≡ status.WriteFault × R × F) → IsSome day ↔ run → IsSome kept ↔ (run × (result ≡ status.Done))
-day_there result day kept W R F run done other (inl h) has =
+told_there result day kept W R F run done other (inl h) has =
     (λ some. (has.0 (subst IsSome (done h.0) some), h.0), λ both. subst IsSome (sym (done both.1)) (has.1 both.0))
-day_there result day kept W R F run done other (inr h) has = (
-  λ some. absurd (none_there (subst IsSome (other (λ e. let same : status.WriteFault ≡ status.Done = sym h.0 ∙ e in
-      cc)) some)),
+told_there result day kept W R F run done other (inr h) has = (
+  λ some. absurd (none_there kept (other (λ e. let same : status.WriteFault ≡ status.Done = sym h.0 ∙ e in cc)) some),
   λ both. subst IsSome (sym (done both.1)) (has.1 both.0),
 )
 
@@ -319,7 +326,7 @@ printed_has_day words r left now bytes answer result kept before after R h p = b
     Runs = (IsAnyRunCommand words ⊎ IsDrill words) × (result ≡ status.Done)
 
     never : kept ≡ None → ¬ Runs → IsSome kept ↔ Runs
-    never none not = (λ some. absurd (none_there (subst IsSome none some)), λ runs. absurd (not runs))
+    never none not = (λ some. absurd (none_there kept none some), λ runs. absurd (not runs))
 
     unlike : (is : Status) → result ≡ is → is ≢ status.Done → (result ≢ status.Done → kept ≡ None) → IsSome kept ↔ Runs
     unlike is same differs other = never (none_kept result is kept same differs other) (λ runs. differs (sym same ∙ runs.1))

@@ -4,6 +4,7 @@ use Rattle.books_model.specs.Ranges.{IsWithin}
 use Rattle.script_reader.specs.declared.limits.TheConstants.{MOST_WORKERS}
 use Rattle.script_reader.specs.Text.{number}
 use Rattle.input_maker.specs.Statements.{AreForMake}
+use Rattle.txn_cells.specs.declared.limits.TheConstants.{MOST_ROUNDS}
 
 -- `run W`, with a number of workers
 pub record IsRunCommand (words : List (List ℕ)) (workers : ℕ) : Type 0 where
@@ -21,6 +22,12 @@ pub record IsDrillCommand (words : List (List ℕ)) (workers seed callers script
   pub workers_range : IsWithin 1 MOST_WORKERS workers
   pub range : AreForMake seed callers scripts
 
+-- `cells W ROUNDS`
+pub record IsCellsCommand (words : List (List ℕ)) (workers rounds : ℕ) : Type 0 where
+  pub words_are : words ≡ codes "cells" ∷ number workers ∷ number rounds ∷ []
+  pub workers_range : IsWithin 1 MOST_WORKERS workers
+  pub rounds_range : IsWithin 1 MOST_ROUNDS rounds
+
 -- `run W`, for some number of workers
 abbrev pub IsAnyRunCommand : List (List ℕ) → Type 0
 IsAnyRunCommand words = (workers : ℕ) × IsRunCommand words workers
@@ -37,13 +44,17 @@ IsMake words = (seed callers scripts : ℕ) × IsMakeCommand words seed callers 
 abbrev pub IsDrill : List (List ℕ) → Type 0
 IsDrill words = (workers seed callers scripts : ℕ) × IsDrillCommand words workers seed callers scripts
 
+-- `cells`, for some workers and rounds
+abbrev pub IsCells : List (List ℕ) → Type 0
+IsCells words = (workers rounds : ℕ) × IsCellsCommand words workers rounds
+
 -- a command that reads a text
 abbrev pub IsReading : List (List ℕ) → Type 0
 IsReading words = IsAnyRunCommand words ⊎ IsCheck words
 
--- a command that makes its input
+-- a command that reads nothing
 abbrev pub IsMaking : List (List ℕ) → Type 0
-IsMaking words = IsMake words ⊎ IsDrill words
+IsMaking words = IsMake words ⊎ IsDrill words ⊎ IsCells words
 
 -- the words are those of a command
 abbrev pub IsValidCommand : List (List ℕ) → Type 0

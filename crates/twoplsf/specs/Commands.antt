@@ -2,7 +2,7 @@
 use Rattle.std.specs.Prelude.{◌≡◌, ℕ, List}
 use Rattle.script_reader.specs.Text.{number}
 use Rattle.input_maker.specs.Statements.{AreForMake}
-use Rattle.twoplsf.specs.Command.{IsRunCommand, IsMakeCommand, IsDrillCommand, IsCheck}
+use Rattle.twoplsf.specs.Command.{IsRunCommand, IsMakeCommand, IsDrillCommand, IsCellsCommand, IsCheck}
 use Rattle.twoplsf.specs.declared.command.Reading.{Reading}
 use Rattle.twoplsf.specs.declared.command.Reading.TheVariants as reading
 use Rattle.twoplsf.specs.declared.command.Making.{Making}
@@ -22,10 +22,11 @@ abbrev pub IsReadingBy : List (List ℕ) → Reading → Type 0
 IsReadingBy words (reading.Run workers) = IsRunCommand words workers
 IsReadingBy words reading.Check = IsCheck words
 
--- the words are those of this command that makes its input
+-- the words are those of this command that reads nothing
 abbrev pub IsMakingBy : List (List ℕ) → Making → Type 0
 IsMakingBy words (making.Input plan) = IsMakeCommand words plan.seed plan.callers plan.scripts
 IsMakingBy words (making.Drill workers plan) = IsDrillCommand words workers plan.seed plan.callers plan.scripts
+IsMakingBy words (making.Cells workers rounds) = IsCellsCommand words workers rounds
 
 -- the words are those of this command
 abbrev pub IsCommand : List (List ℕ) → Command → Type 0

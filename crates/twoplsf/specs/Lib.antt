@@ -2,6 +2,7 @@ pub mod Command
 pub mod Commands
 pub mod Day
 pub mod Check
+pub mod Cells
 pub mod Made
 pub mod Making
 pub mod Answer

@@ -1,11 +1,13 @@
--- What is printed of an input that the program makes.
+-- What is printed where nothing is read: of an input that the program makes, and of cells.
 use Rattle.std.specs.Prelude.{◌≡◌, ◌⊎◌, ℕ, ◌+◌, ◌*◌, List, [], ◌∷◌, ◌++◌, Option, codes}
 use Rattle.std.specs.Io.KnownBytes.{Appends}
 use Rattle.script_reader.specs.Text.{line, number}
 use Rattle.input_maker.specs.Made.{made_input, made_input_text}
 use Rattle.input_maker.specs.Days.{all_deposits}
 use Rattle.worker_pool.specs.declared.done.DayEnd.{DayEnd}
-use Rattle.twoplsf.specs.Command.{IsMakeCommand, IsDrillCommand}
+use Rattle.txn_cells.specs.Adding.{sums_of}
+use Rattle.twoplsf.specs.Command.{IsMakeCommand, IsDrillCommand, IsCellsCommand}
+use Rattle.twoplsf.specs.Cells.{cells_text}
 use Rattle.twoplsf.specs.Check.{agrees_line}
 use Rattle.twoplsf.specs.Day.{IsDayOf}
 
@@ -39,9 +41,16 @@ pub record IsSummaryFor (words : List (List ℕ)) (text : List ℕ) : Type 0 whe
   pub command : IsDrillCommand words workers seed callers scripts
   pub text_is : text ≡ drill_text seed callers scripts
 
--- the text is that of a command that makes its input
+-- the words are `cells` with workers and rounds, and the text has the sums of what they add to the cells
+pub record AreSumsFor (words : List (List ℕ)) (text : List ℕ) : Type 0 where
+  pub workers : ℕ
+  pub rounds : ℕ
+  pub command : IsCellsCommand words workers rounds
+  pub text_is : text ≡ cells_text (sums_of workers rounds)
+
+-- the text is that of a command that reads nothing
 abbrev pub IsMadeText : List (List ℕ) → List ℕ → Type 0
-IsMadeText words text = IsMadeInputFor words text ⊎ IsSummaryFor words text
+IsMadeText words text = IsMadeInputFor words text ⊎ IsSummaryFor words text ⊎ AreSumsFor words text
 
 -- one whole text was printed, the one for the words
 pub record PrintsMade (words : List (List ℕ)) (before now : Option (List ℕ)) : Type 0 where

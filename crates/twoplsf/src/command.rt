@@ -4,12 +4,13 @@ ghost use Rattle.std.specs.Prelude.{◌≡◌, ℕ, map, IfSome, IfNone};
 ghost use Rattle.std.specs.String.{string_bytes};
 ghost use Rattle.books_model.specs.Ranges.{IsWithin};
 ghost use Rattle.script_reader.specs.Text.{number};
-ghost use Rattle.twoplsf.specs.Command.{IsDrill, IsDrillCommand, IsMake, IsMakeCommand, IsMaking, IsReading, IsAnyRunCommand, IsRunCommand, IsValidCommand};
+ghost use Rattle.twoplsf.specs.Command.{IsCells, IsCellsCommand, IsDrill, IsDrillCommand, IsMake, IsMakeCommand, IsMaking, IsReading, IsAnyRunCommand, IsRunCommand, IsValidCommand};
 ghost use Rattle.twoplsf.specs.Commands.{ArePlanned, IsCommand, IsMakingBy, IsReadingBy};
 
 use input_maker::limits::GREATEST_SEED;
 use script_reader::limits::{MOST_CALLERS, MOST_SCRIPTS, MOST_WORKERS};
 use script_reader::numeral;
+use txn_cells::MOST_ROUNDS;
 
 /// What is asked of an input that the program makes.
 #[derive(Clone, Copy, Debug, PartialEq, Eq)]
@@ -31,13 +32,15 @@ pub enum Reading {
     Check,
 }
 
-/// What is to be done with an input that the program makes.
+/// What is to be done where nothing is read.
 #[derive(Clone, Copy, Debug, PartialEq, Eq)]
 pub enum Making {
-    /// It is printed.
+    /// An input is made and printed.
     Input(Plan),
-    /// It is run by so many workers, and its output is checked.
+    /// An input is made and run by so many workers, and its output is checked.
     Drill { workers: u32, plan: Plan },
+    /// So many workers add to cells, in so many rounds each.
+    Cells { workers: u32, rounds: u32 },
 }
 
 /// What the words ask for.
@@ -45,7 +48,7 @@ pub enum Making {
 pub enum Command {
     /// A text is read.
     Read(Reading),
-    /// An input is made, and nothing is read.
+    /// Nothing is read.
     Make(Making),
 }
 
@@ -75,7 +78,7 @@ pub fn reading_of(words: &[String]) -> Option<Reading>
     }
 }
 
-/// The words as a command that makes its input. It takes no memory.
+/// The words as a command that reads nothing. It takes no memory.
 pub fn making_of(words: &[String]) -> Option<Making>
     ensures some { IfSome result (IsMakingBy (map string_bytes words.now)) }
     ensures none { IfNone result (¬ IsMaking (map string_bytes words.now)) }
@@ -83,8 +86,11 @@ pub fn making_of(words: &[String]) -> Option<Making>
     if let Some(plan) = printed_plan_of(words) {
         return Some(Making::Input(plan));
     }
-    let (workers, plan) = drill_of(words)?;
-    Some(Making::Drill { workers, plan })
+    if let Some((workers, plan)) = drill_of(words) {
+        return Some(Making::Drill { workers, plan });
+    }
+    let (workers, rounds) = cells_of(words)?;
+    Some(Making::Cells { workers, rounds })
 }
 
 /// The number of workers of a `run` command. It takes no memory.
@@ -131,6 +137,22 @@ pub fn drill_of(words: &[String]) -> Option<(u32, Plan)>
     let workers = number_within(workers.as_bytes(), 1, MOST_WORKERS)?;
     let plan = plan_of(seed.as_bytes(), callers.as_bytes(), scripts.as_bytes())?;
     Some((workers, plan))
+}
+
+/// The number of workers and of rounds of a `cells` command. It takes no memory.
+pub fn cells_of(words: &[String]) -> Option<(u32, u32)>
+    ensures some { IfSome result (λ n. IsCellsCommand (map string_bytes words.now) n.0 n.1) }
+    ensures none { IfNone result (¬ IsCells (map string_bytes words.now)) }
+{
+    let [cells, workers, rounds] = words else {
+        return None;
+    };
+    if cells.as_str() != "cells" {
+        return None;
+    }
+    let workers = number_within(workers.as_bytes(), 1, MOST_WORKERS)?;
+    let rounds = number_within(rounds.as_bytes(), 1, MOST_ROUNDS)?;
+    Some((workers, rounds))
 }
 
 // The plan that three words are. It takes no memory.

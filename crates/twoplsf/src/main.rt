@@ -3,6 +3,7 @@
 
 pub mod agreement;
 pub mod answer;
+pub mod cells;
 pub mod check;
 pub mod command;
 pub mod day;
@@ -45,6 +46,8 @@ fn main(rt: HostRuntime) -> ExitCode {
     ))
 }
 
+#[cfg(test)]
+mod cells_tests;
 #[cfg(test)]
 mod faults_tests;
 #[cfg(test)]

@@ -9,13 +9,14 @@ ghost use Rattle.script_reader.specs.Grammar.{AreTwoTexts, BeginWithInput, IsVal
 ghost use Rattle.script_reader.specs.declared.fault.Fault.{Fault};
 ghost use Rattle.script_reader.specs.Faults.{IsFirstFault, IsFrontFault};
 ghost use Rattle.script_reader.specs.Input.{ClearingInput};
-ghost use Rattle.twoplsf.specs.Command.{IsAnyRunCommand, IsCheck, IsDrill, IsMaking, IsReading, IsValidCommand};
+ghost use Rattle.twoplsf.specs.Command.{IsAnyRunCommand, IsCells, IsCheck, IsDrill, IsMaking, IsReading, IsValidCommand};
 ghost use Rattle.books_report.specs.Output.{IsOutput};
 ghost use Rattle.books_report.specs.Checking.{IsFirstWrongLine};
 ghost use Rattle.twoplsf.specs.Commands.{IsMakingBy, IsReadingBy};
+ghost use Rattle.twoplsf.specs.Cells.{IsCellsRunFor};
 ghost use Rattle.twoplsf.specs.Check.{differs_line};
 ghost use Rattle.twoplsf.specs.Made.{IsDrillDay, PrintsMade};
-ghost use Rattle.twoplsf.specs.Making.{IsMakingDay, RunsScripts, making_text};
+ghost use Rattle.twoplsf.specs.Making.{AddsToCells, IsMakingDay, IsMakingRun, RunsScripts, making_text};
 ghost use Rattle.twoplsf.specs.Answer.{HaveInputFor, OfBytesRead, IsAnswerBy, IsDayFor, PrintsOutput, TookText, day_of, refused_line, status_of, text_of_answer};
 
 use crate::answer::{Answer, answer_to};
@@ -29,6 +30,8 @@ use script_reader::limits::MOST_INPUT_BYTES;
 use std::alloc::Global;
 use std::sync::Wait;
 use std::thread::Threads;
+use txn_cells::{CellsShape, Coded};
+use word_table::Closed;
 use worker_gate::Gate;
 use worker_pool::DayEnd;
 
@@ -38,15 +41,22 @@ pub struct Served {
     pub status: Status,
     /// What the workers did, where scripts were run and their output was written whole.
     pub day: Option<DayEnd>,
+    /// The closed table of a run over cells, where their values were written whole.
+    pub cells: Option<Closed<CellsShape<u128>>>,
 }
 
 impl Served {
-    // What serving came to where no day is told.
+    // What serving came to where neither a day nor a run over cells is told.
     fn without_day(status: Status) -> Served
         ensures status { result.status ≡ status }
         ensures day { result.day ≡ None }
+        ensures cells { result.cells ≡ None }
     {
-        Served { status, day: None }
+        Served {
+            status,
+            day: None,
+            cells: None,
+        }
     }
 }
 
@@ -62,12 +72,12 @@ fn finish<K: Sink>(sink: &mut K, text: &[u8], status: Status) -> Status
     }
 }
 
-// The day, where its output was written whole.
-fn day_after(status: Status, day: Option<DayEnd>) -> Option<DayEnd>
-    ensures done { status ≡ Status.Done → result ≡ day }
+// What is told beside a text, where the text was written whole.
+fn told_after<T: Drop>(status: Status, told: Option<T>) -> Option<T>
+    ensures done { status ≡ Status.Done → result ≡ told }
     ensures other { status ≢ Status.Done → result ≡ None }
 {
-    if status == Status::Done { day } else { None }
+    if status == Status::Done { told } else { None }
 }
 
 // Writes the text of an answer.
@@ -78,11 +88,16 @@ fn print_answer<K: Sink>(sink: &mut K, answer: Answer) -> Served
         × AppendsPrefix (K.taken sink.old) (K.taken sink.new) (text_of_answer answer)) }
     ensures done { result.status ≡ Status.Done → result.day ≡ day_of answer }
     ensures other { result.status ≢ Status.Done → result.day ≡ None }
+    ensures cells { result.cells ≡ None }
 {
     let (status, text, day) = answer.into_parts();
     let status = finish(sink, &text, status);
-    let day = day_after(status, day);
-    Served { status, day }
+    let day = told_after(status, day);
+    Served {
+        status,
+        day,
+        cells: None,
+    }
 }
 
 // What a command has to say of the bytes that were read.
@@ -102,7 +117,7 @@ fn answer_by<R: Threads + Wait + Sync, G: Gate>(
     }
 }
 
-// Does what a command that makes its input asks for: prints the text, which is all made before the first write.
+// Does what a command that reads nothing asks for: prints the text, which is all made before the first write.
 fn serve_making<R: Threads + Wait + Sync, K: Sink, G: Gate>(
     rt: &R,
     alloc: Global,
@@ -118,12 +133,16 @@ fn serve_making<R: Threads + Wait + Sync, K: Sink, G: Gate>(
         ⊎ ((result.status ≡ Status.OutOfMemory) × (sink.new ≡ sink.old)) }
     ensures day { IfSome result.day (IsMakingDay making) }
     ensures has_day { IsSome result.day ↔ (RunsScripts making × (result.status ≡ Status.Done)) }
+    ensures cells { IfSome result.cells (IsMakingRun ⟦<u128 as Coded>⟧ making) }
+    ensures has_cells { IsSome result.cells
+        ↔ (AddsToCells making × (result.status ≡ Status.Done)) }
 {
     match made_answer(rt, alloc, making, gate) {
         Ok(made) => {
             let status = finish(sink, &made.text, Status::Done);
-            let day = day_after(status, made.day);
-            Served { status, day }
+            let day = told_after(status, made.day);
+            let cells = told_after(status, made.cells);
+            Served { status, day, cells }
         }
         Err(_) => Served::without_day(Status::OutOfMemory),
     }
@@ -152,6 +171,10 @@ fn serve_words<R: Threads + Wait + Sync, S: Source, K: Sink, G: Gate>(
     ensures has_day { IsSome result.day
         ↔ ((IsAnyRunCommand (map string_bytes words.now) ⊎ IsDrill (map string_bytes words.now))
         × (result.status ≡ Status.Done)) }
+    ensures cells { IfSome result.cells (IsCellsRunFor ⟦<u128 as Coded>⟧
+        (map string_bytes words.now) (K.taken sink.old) (K.taken sink.new)) }
+    ensures has_cells { IsSome result.cells
+        ↔ (IsCells (map string_bytes words.now) × (result.status ≡ Status.Done)) }
 
     // What is read, and when nothing is.
     ensures unread { (¬ IsReading (map string_bytes words.now)) → source.new ≡ source.old }
@@ -196,10 +219,11 @@ fn serve_words<R: Threads + Wait + Sync, S: Source, K: Sink, G: Gate>(
 
 /// Does what the words say: `run W` reads an input from the source, runs each of its scripts as one transaction on one
 /// of W threads, and writes the journal and the closing books to the sink; `check` reads an input and a text behind it,
-/// and writes whether that is an output of the input, or its first wrong line. `make` and `drill` read nothing: the one
-/// writes the input that a seed gives, the other runs it, checks the output, and writes what the closing books come to.
-/// `run` and `drill` may wait: that a wait ends, no clause says. Every text is made before the first write. Faults are
-/// looked for in the order words, read, size, input; out of memory may come before any of them but words.
+/// and writes whether that is an output of the input, or its first wrong line. `make`, `drill` and `cells` read
+/// nothing: the first writes the input that a seed gives, the second runs it, checks the output, and writes what the
+/// closing books come to, and the third has threads add to cells of 128 bits, and writes what these come to. `run`,
+/// `drill` and `cells` may wait: that a wait ends, no clause says. Every text is made before the first write. Faults
+/// are looked for in the order words, read, size, input; out of memory may come before any of them but words.
 pub fn serve<R: Threads + Wait + Sync, S: Source, K: Sink, G: Gate>(
     rt: &R,
     alloc: Global,
@@ -228,8 +252,15 @@ pub fn serve<R: Threads + Wait + Sync, S: Source, K: Sink, G: Gate>(
         ↔ ((IsAnyRunCommand (map string_bytes words.now) ⊎ IsDrill (map string_bytes words.now))
         × (result.status ≡ Status.Done)) }
 
-    // A command that makes its input reads nothing, and prints its one text: the input, or what became of it in a
-    // drill. (`made` follows from `text`.)
+    // The closed table is there exactly where workers added to cells and what they came to was printed: then it is that
+    // of a run by as many workers and rounds as the words say, and the values that were printed are those of its words.
+    ensures cells { IfSome result.cells (IsCellsRunFor ⟦<u128 as Coded>⟧
+        (map string_bytes words.now) (K.taken sink.old) (K.taken sink.new)) }
+    ensures has_cells { IsSome result.cells
+        ↔ (IsCells (map string_bytes words.now) × (result.status ≡ Status.Done)) }
+
+    // These commands read nothing, and print their one text: the input that is made, what became of it in a drill, or
+    // what the cells come to. (`made` follows from `text`.)
     ensures unread { IsMaking (map string_bytes words.now) → source.new ≡ source.old }
     ensures made { IsMaking (map string_bytes words.now) → result.status ≡ Status.Done
         → PrintsMade (map string_bytes words.now) (K.taken sink.old) (K.taken sink.new) }

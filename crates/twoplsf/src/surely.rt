@@ -6,7 +6,8 @@ ghost use Rattle.std.specs.String.{string_bytes};
 ghost use Rattle.script_reader.specs.Grammar.{AreTwoTexts, BeginWithInput, IsValidInput};
 ghost use Rattle.script_reader.specs.Input.{ClearingInput};
 ghost use Rattle.books_report.specs.Output.{IsOutput};
-ghost use Rattle.twoplsf.specs.Command.{IsAnyRunCommand, IsCheck, IsDrill, IsMaking, IsReading, IsValidCommand};
+ghost use Rattle.twoplsf.specs.Command.{IsAnyRunCommand, IsCells, IsCheck, IsDrill, IsMaking, IsReading, IsValidCommand};
+ghost use Rattle.twoplsf.specs.Cells.{IsCellsRunFor};
 ghost use Rattle.twoplsf.specs.Made.{IsDrillDay};
 ghost use Rattle.twoplsf.specs.Answer.{HaveInputFor, IsDayFor};
 
@@ -18,6 +19,7 @@ use script_reader::limits::MOST_INPUT_BYTES;
 use std::alloc::Global;
 use std::sync::Wait;
 use std::thread::Threads;
+use txn_cells::Coded;
 use worker_gate::Gate;
 
 /// Serves a command whose source gives exactly these bytes, and whose sink takes all that it is given. Neither can fail.
@@ -66,6 +68,10 @@ pub fn serve_surely<R: Threads + Wait + Sync, G: Gate>(
     ensures has_day { IsSome result.day
         ↔ ((IsAnyRunCommand (map string_bytes words.now) ⊎ IsDrill (map string_bytes words.now))
         × (result.status ≡ Status.Done)) }
+    ensures cells { IfSome result.cells
+        (IsCellsRunFor ⟦<u128 as Coded>⟧ (map string_bytes words.now) None None) }
+    ensures has_cells { IsSome result.cells
+        ↔ (IsCells (map string_bytes words.now) × (result.status ≡ Status.Done)) }
 {
     let mut source = SureSource::new(bytes);
     let mut sink = SureSink::new();

@@ -405,6 +405,14 @@ fn command_words_out_of_form_are_refused(rt: HostRuntime) -> Result<(), Fail> {
         "drill 17 0 1 1",
         "drill 0 0 1 1",
         "drill 1 0 1 1 1",
+        "cells",
+        "cells 1",
+        "cells 0 1",
+        "cells 33 1",
+        "cells 1 0",
+        "cells 1 10001",
+        "cells 1 01",
+        "cells 1 1 1",
     ] {
         let output = ["refused words\n"];
         look(

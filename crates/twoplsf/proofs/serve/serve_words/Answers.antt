@@ -1,14 +1,21 @@
-use Rattle.std.proofs.Common.{map, rules, ◌≡◌, ◌+◌, inl, inr, IfSome, refl, arith}
+use Rattle.std.proofs.Common.{map, rules, ◌≡◌, ◌+◌, inl, inr, IfSome, IsSome, refl, subst, arith}
 use Rattle.std.proofs.lemmas.Option.{IfSome_then}
 use Rattle.std.specs.String.{string_bytes}
 use Rattle.io_ends.specs.Taken.{count_taken}
 use Rattle.io_ends.specs.Counts.{Rose}
+use Rattle.txn_cells.specs.contracts.numbers.U128Coded.TheImpl.{ghosts as numbers}
+use Rattle.txn_cells.specs.declared.limits.TheConstants.{CELLS}
+use Rattle.txn_cells.specs.Spelling.{one_of_halves}
+use Rattle.txn_cells.proofs.Values.{one_values}
+use Rattle.twoplsf.specs.Cells.{IsCellsRunFor}
 use Rattle.twoplsf.specs.Command.{IsValidCommand}
+use Rattle.twoplsf.specs.Making.{IsMakingRun}
 use Rattle.script_reader.specs.declared.limits.TheConstants.{MOST_INPUT_BYTES}
 use Rattle.twoplsf.specs.declared.status.Status.TheVariants as status
 use Rattle.twoplsf.specs.Answer.{refused_words, refused_size}
-use Rattle.twoplsf.proofs.Served.{read_by, read_is, took_text, HasAnswered, HasPrinted, printed_text, printed_day, printed_has_day}
-use Rattle.twoplsf.proofs.Makings.{made_by, made_is, not_read, runs_of, day_of_making, took_making, none_of_making, no_other_end}
+use Rattle.twoplsf.proofs.Served.{none_there, not_made, read_by, read_is, took_text, HasAnswered, HasPrinted, printed_text, printed_day, printed_has_day}
+use Rattle.twoplsf.proofs.Makings.{made_by, made_is, not_read, runs_of, adds_of, day_of_making, run_of_making, took_making}
+use Rattle.twoplsf.proofs.Makings.{done_written, none_of_making, no_other_end, told_done}
 use Rattle.twoplsf.proofs.serve.serve_words.Given.{Over}
 use Rattle.twoplsf.proofs.serve.serve_words.Goals as goal
 
@@ -64,6 +71,23 @@ returns-in-Make-clause-has_day g c =
     let runs = runs_of (map string_bytes c.args.words.now) c.in-Make.making (made_by (map string_bytes c.args.words.now) c.in-Make.is c.in-Some.ensures.some) in
     let has = c.serve_making.ensures.has_day in
     (λ some. (runs.0 (has.0 some).0, (has.0 some).1), λ both. has.1 (runs.1 both.0, both.1))
+
+pub returns-in-Make-clause-cells : goal.returns-in-Make-clause-cells
+returns-in-Make-clause-cells g c =
+    let words = map string_bytes c.args.words.now in
+    let made = c.serve_making.ensures in
+    told_done c.serve_making.result.cells _ _ (IsMakingRun numbers c.in-Make.making)
+    (IsCellsRunFor numbers words (g.K.Sink.taken c.args.sink.now) (g.K.Sink.taken c.serve_making.new.sink)) made.has_cells
+    (λ closed done run. run_of_making numbers (one_values numbers (λ x _. refl) one_of_halves 0 CELLS) words c.in-Make.making closed
+    (g.K.Sink.taken c.args.sink.now) (g.K.Sink.taken c.serve_making.new.sink)
+    (made_by words c.in-Make.is c.in-Some.ensures.some) (done_written c.serve_making.result.status _ _ _ _ made.text done) run)
+    made.cells
+
+pub returns-in-Make-clause-has_cells : goal.returns-in-Make-clause-has_cells
+returns-in-Make-clause-has_cells g c =
+    let adds = adds_of (map string_bytes c.args.words.now) c.in-Make.making (made_by (map string_bytes c.args.words.now) c.in-Make.is c.in-Some.ensures.some) in
+    let has = c.serve_making.ensures.has_cells in
+    (λ some. (adds.0 (has.0 some).0, (has.0 some).1), λ both. has.1 (adds.1 both.0, both.1))
 
 pub returns-in-Make-clause-unwritten : goal.returns-in-Make-clause-unwritten
 returns-in-Make-clause-unwritten g c = none_of_making c.serve_making.result.status _ _ _ _ c.serve_making.ensures.text
@@ -126,3 +150,9 @@ returns-in-Ok-answer_by-clause-unread g c none = absurd (none (read_is (map stri
 
 pub returns-in-Ok-answer_by-clause-words_first : goal.returns-in-Ok-answer_by-clause-words_first
 returns-in-Ok-answer_by-clause-words_first g c none = absurd (none (inl (read_is (map string_bytes c.args.words.now) c.in-Read.is c.in-Some.ensures.some)))
+
+pub returns-in-Ok-answer_by-clause-has_cells : goal.returns-in-Ok-answer_by-clause-has_cells
+returns-in-Ok-answer_by-clause-has_cells g c = (
+  λ some. absurd (none_there c.print_answer.result.cells c.print_answer.ensures.cells some),
+  λ both. absurd (not_made (map string_bytes c.args.words.now) c.in-Read.is c.in-Some.ensures.some (inr (inr both.0))),
+)
