@@ -13,12 +13,12 @@ use Rattle.order_text.specs.declared.reply.Trade.{Trade}
 use Rattle.order_text.specs.Interpreter.{Ends, Gives, LacksOrder, LacksRoom, Run, Step, Stops, after_step, after_value, enter_next, entered, has_no_room, incoming, order_outcome_of, outcome_from, run_from, step_of, with_order}
 use Rattle.order_text.specs.Laws.{BestPricesApart}
 use Rattle.order_text.specs.Matching.{allows, after_trades, has_quantity, match_of, may_trade, orders_after, partners, rest_of, trades_down, volume}
-use Rattle.order_text.specs.Orders.{OrderBook, all_but, blocks_of, order_at}
-use Rattle.order_text.specs.Ranges.{HasRoom, IsBookOf, IsLimitOrder, IsOrderOp, IsOrderScript, IsRestingOrder}
+use Rattle.order_text.specs.Orders.{OrderBook, all_but, blocks_of, empty_book, order_at}
+use Rattle.order_text.specs.Ranges.{HasRoom, IsBlockCount, IsBookOf, IsInstrumentCount, IsLimitOrder, IsOrderOp, IsOrderScript, IsRestingOrder}
 use Rattle.order_text.proofs.Entering.{IsRest, Stayed, entered_has, no_partner_left}
 use Rattle.order_text.proofs.Members.{Has, has_filtered, of_each, of_every}
 use Rattle.order_text.proofs.Prices.{AreApart, all_apart, best_apart, is_on_true}
-use Rattle.order_text.proofs.Rooms.{entered_has_room, fewer_have_room}
+use Rattle.order_text.proofs.Rooms.{empty_has_room, entered_has_room, fewer_have_room}
 
 -- a book of so many instruments, in which prices are apart
 record IsApartBook (instruments : ℕ) (book : OrderBook) : Type 0 where
@@ -135,6 +135,14 @@ module _ (instruments : ℕ) (book : OrderBook) (order : Resting) (is : IsBookOf
     where
       prices : (x y : Resting) (p q : ℕ) → x.price ≡ p → y.price ≡ q → p < q → x.price < y.price
       prices x y p q e f lt = omega arith
+
+-- the empty book is a book, in which they are so
+pub empty_is : (blocks instruments : ℕ) → IsBlockCount blocks → IsInstrumentCount instruments
+    → IsBookOf instruments (empty_book blocks) × BestPricesApart (empty_book blocks).orders
+empty_is blocks instruments range count = (
+  record { room = empty_has_room blocks range; instruments_are = count; each = λ k d lt. absurd (omega arith) },
+  λ instrument some_buy some_sell. absurd (some_buy refl),
+)
 
 -- what a step that gives a book says of it
 abbrev StepKeeps : ℕ → OrderBook → Step → Type 0

@@ -16,3 +16,11 @@ pub mod Prices
 pub mod Entering
 -- best prices are apart after each operation and each script
 pub mod Apart
+-- the ranges of operations are those of their lines, and what a text gives is an input
+pub mod Inputs
+-- a fault of a text has one of five reasons
+pub mod Reasons
+-- the text of replies and of journal lines, one piece after another
+pub mod Printing
+-- orders are printed by their numbers
+pub mod Closings

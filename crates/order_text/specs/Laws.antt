@@ -1,11 +1,18 @@
 -- Laws of the language of orders.
-use Rattle.std.specs.Prelude.{◌≡◌, ◌≢◌, ℕ, ◌<◌, List}
+use Rattle.std.specs.Prelude.{◌≡◌, ◌≢◌, ◌↔◌, ℕ, ◌<◌, List, [], ◌∷◌, All}
 use Rattle.order_text.specs.declared.order.Resting.{Resting}
 use Rattle.order_text.specs.declared.script.OrderOp.{OrderOp}
 use Rattle.order_text.specs.declared.reply.OrderValue.{OrderValue}
 use Rattle.order_text.specs.declared.reply.OrderReply.TheVariants as reply
 use Rattle.order_text.specs.Orders.{OrderBook, best_buy, best_sell, empty_book}
 use Rattle.order_text.specs.Interpreter.{Gives, order_outcome_of, step_of}
+use Rattle.order_text.specs.Language.{order_language}
+use Rattle.order_text.specs.Input.{BookInput, IsBookInput}
+use Rattle.order_text.specs.Journal.{IsOrderPlace}
+use Rattle.order_text.specs.Grammar.{IsOrderFault, IsOrderReason}
+use Rattle.order_text.specs.Output.{AreByNumber, OrderRan, closing_of, places_run}
+use Rattle.script_reader.specs.declared.fault.Fault.{Fault}
+use Rattle.script_reader.specs.ListLanguage.{IsOperationIn}
 use Rattle.order_text.specs.Ranges.{IsBlockCount, IsBookOf, IsInstrumentCount, IsOrderOp, IsOrderScript}
 
 -- a script that is not done leaves the book
@@ -41,3 +48,17 @@ abbrev pub ScriptsKeepApart : Type 0
 ScriptsKeepApart = (instruments : ℕ) (script : List OrderOp) (book : OrderBook)
     → IsBookOf instruments book → IsOrderScript instruments script → BestPricesApart book.orders
     → IsBookOf instruments (order_outcome_of script book).1 × BestPricesApart (order_outcome_of script book).1.orders
+
+-- the ranges of an operation's numbers are those of its line, in every text
+abbrev pub RangesAreThoseOfLines : Type 0
+RangesAreThoseOfLines = (blocks instruments : ℕ) (o : OrderOp) → IsInstrumentCount instruments
+    → IsOrderOp instruments o ↔ IsOperationIn order_language (blocks ∷ instruments ∷ []) o
+
+-- a fault of a text has one of five reasons
+abbrev pub FiveReasons : Type 0
+FiveReasons = (text : List ℕ) (number : ℕ) (why : Fault) → IsOrderFault text number why → IsOrderReason why
+
+-- the orders that rest after scripts of an input are printed by rising number
+abbrev pub PrintedByNumber : Type 0
+PrintedByNumber = (input : BookInput) (scripts : List OrderRan) → IsBookInput input → All (IsOrderPlace input) (places_run scripts)
+    → AreByNumber (closing_of input scripts)

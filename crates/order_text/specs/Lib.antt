@@ -2,5 +2,12 @@ pub mod Orders
 pub mod Matching
 pub mod Interpreter
 pub mod Ranges
+pub mod Language
+pub mod Input
+pub mod Grammar
+pub mod Words
+pub mod Journal
+pub mod Output
+pub mod Lines
 pub mod Laws
 pub mod Inner

@@ -1,0 +1,42 @@
+-- The orders that an output prints are those of a book, so their numbers rise.
+use Rattle.std.proofs.Common.{◌≡◌, ◌<◌, List, [], ◌∷◌, All, sym, arith}
+use Rattle.std.specs.List.Sorted.{IsStrictlySortedBy}
+use Rattle.std.specs.declared.cmp.Ordering.TheVariants.{Less}
+use Rattle.std.proofs.lemmas.Cmp.{ranked}
+use Rattle.std.proofs.lemmas.List.Elements.{All-tail}
+use Rattle.std.proofs.lemmas.List.Kept.{AllPairs-cons}
+use Rattle.script_reader.specs.Journal.{Place}
+use Rattle.order_text.specs.declared.order.Resting.{Resting}
+use Rattle.order_text.specs.Input.{BookInput, IsBookInput, order_script_at}
+use Rattle.order_text.specs.Journal.{IsOrderPlace}
+use Rattle.order_text.specs.Laws.{BestPricesApart}
+use Rattle.order_text.specs.Orders.{OrderBook, by_number, empty_book}
+use Rattle.order_text.specs.Output.{AreByNumber, IsBefore, OrderRan, book_after, closing_of, outcome_at, places_run}
+use Rattle.order_text.specs.Ranges.{IsBookOf, IsOrderScript}
+use Rattle.order_text.proofs.Apart.{empty_is, scripts_keep}
+use Rattle.order_text.proofs.Members.{of_each, of_one}
+
+-- numbers that rise from each to the next rise from each to all later ones
+pairs_rise : (orders : List Resting) → IsStrictlySortedBy by_number orders → AreByNumber orders
+unfolding IsStrictlySortedBy
+pairs_rise [] rising = λ i j d before within. absurd (omega arith)
+pairs_rise (r ∷ rs) rising = AllPairs-cons IsBefore r rs
+    (of_each (IsBefore r) rs (λ z t. ranked r.number z.number Less (sym (of_one (λ w. by_number r w ≡ Less) rs z rising.0 t)))) (pairs_rise rs rising.1)
+
+module _ (input : BookInput) (is : IsBookInput input) where
+  -- the script at a place is one for the book
+  script_at : (place : Place) → IsOrderPlace input place → IsOrderScript input.instruments (order_script_at input place.caller place.index)
+  script_at place there = is.callers.scripts place.caller (record { name = []; scripts = [] }) there.0 place.index [] there.1
+
+  kept_after : (places : List Place) (book : OrderBook) → All (IsOrderPlace input) places → IsBookOf input.instruments book → BestPricesApart book.orders
+      → IsBookOf input.instruments (book_after input book places)
+  kept_after [] book there kept apart = kept
+  kept_after (place ∷ places) book there kept apart =
+      let next = scripts_keep input.instruments (order_script_at input place.caller place.index) book kept (script_at place (there 0 place (omega arith))) apart in
+      kept_after places (outcome_at input book place).1 (All-tail (IsOrderPlace input) place places there) next.0 next.1
+
+pub printed_by_number : (input : BookInput) (scripts : List OrderRan) → IsBookInput input → All (IsOrderPlace input) (places_run scripts)
+    → AreByNumber (closing_of input scripts)
+printed_by_number input scripts is there =
+    let begun = empty_is input.blocks input.instruments is.blocks is.instruments in
+    pairs_rise (closing_of input scripts) (kept_after input is (places_run scripts) (empty_book input.blocks) there begun.0 begun.1).room.rising

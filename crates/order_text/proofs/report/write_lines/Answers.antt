@@ -1,0 +1,29 @@
+use Rattle.std.proofs.Common.{◌≡◌, ◌∷◌, length, List, All, ap, subst, arith}
+use Rattle.std.specs.Iterator.Adapters.{zip_first, zip_second}
+use Rattle.std.specs.Slice.Iter.{iter_rest}
+use Rattle.std.specs.String.{string_bytes}
+use Rattle.std.proofs.lemmas.List.Elements.{All-drop}
+use Rattle.books_report.specs.declared.line.Line.{Line}
+use Rattle.books_report.specs.Lines.{place_of_line}
+use Rattle.order_text.specs.declared.reply.OrderReply.{OrderReply}
+use Rattle.order_text.specs.Journal.{IsOrderPlace}
+use Rattle.order_text.proofs.Printing.{line_next}
+use Rattle.order_text.proofs.report.write_lines.Goals as goal
+
+pub loop-line-preserved : goal.loop-line-preserved
+loop-line-preserved c =
+    let lines = iter_rest (zip_first c.loop-line.line-iterator) in
+    let left = iter_rest (zip_first c.next.new.self) in
+    let replies = iter_rest (zip_second c.loop-line.line-iterator) in
+    let others = iter_rest (zip_second c.next.new.self) in
+    let next : lines ≡ c.in-Some.line.now ∷ left = c.in-Some.ensures.steps.0 in
+    let answered : replies ≡ c.in-Some.reply.now ∷ others = c.in-Some.ensures.steps.1 in
+    record {
+      left = omega (arith, c.loop-line.invariant.left, ap (λ (ls : List Line). length ls) next);
+      beside = omega (arith, c.loop-line.invariant.beside, ap (λ (ls : List Line). length ls) next, ap (λ (rs : List OrderReply). length rs) answered);
+      places = All-drop (λ l. IsOrderPlace c.args.input.now (place_of_line l)) 1 (c.in-Some.line.now ∷ left)
+          (subst (λ ls. All (λ l. IsOrderPlace c.args.input.now (place_of_line l)) ls) next c.loop-line.invariant.places);
+      text = line_next c.args.input.now _ (string_bytes c.loop-line.text) _ c.name-name.result.now c.loop-line.serial
+          lines left replies others c.in-Some.line.now c.in-Some.reply.now c.loop-line.invariant.text next answered
+          c.name-name.ensures c.in_ok-write_line.ensures;
+    }

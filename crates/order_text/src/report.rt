@@ -1,0 +1,127 @@
+//! The text of a journal and of closing orders.
+
+ghost use Rattle.std.specs.Prelude.{◌≡◌, ℕ, ◌∷◌, ◌++◌, length, All, IfOk, OnOk};
+ghost use Rattle.std.specs.String.{string_bytes};
+ghost use Rattle.std.specs.List.{flat_map};
+ghost use Rattle.books_report.specs.Lines.{place_of_line};
+ghost use Rattle.script_reader.specs.declared.words.TheConstants.{SPACE};
+ghost use Rattle.order_text.specs.Journal.{IsOrderPlace};
+ghost use Rattle.order_text.specs.Lines.{ran_of_line, scripts_of};
+ghost use Rattle.order_text.specs.Output.{AreByNumber, AreRun, IsOrderOutput, closing_of, header_line, journal_line, journal_lines, order_line, side_word, text_of};
+
+use crate::input::OrderInput;
+use crate::order::Resting;
+use crate::reply::OrderReply;
+use crate::words::write_reply;
+use books_report::Line;
+use books_report::books::write_size;
+use books_report::decimal::push_next;
+use books_report::journal::write_place;
+use io_ends::OutOfMemory;
+use std::alloc::{AllocError, Global};
+
+fn write_line(
+    text: &mut String,
+    serial: u64,
+    name: &str,
+    line: Line,
+    reply: &OrderReply,
+) -> Result<(), AllocError>
+    ensures { OnOk result
+        (string_bytes text.new
+        ≡ string_bytes text.old ++ journal_line serial name.now (ran_of_line line reply.now)) }
+{
+    write_place(text, serial, name, line)?;
+    write_reply(text, reply)?;
+    text.push('\n')
+}
+
+fn write_lines(
+    text: &mut String,
+    input: &OrderInput,
+    lines: &[Line],
+    replies: &[OrderReply],
+) -> Result<(), AllocError>
+    requires beside { length lines.now ≡ length replies.now }
+    requires places { All (λ l. IsOrderPlace input.now (place_of_line l)) lines.now }
+    ensures { OnOk result (string_bytes text.new ≡ string_bytes text.old
+        ++ journal_lines input.now 1 (scripts_of lines.now replies.now)) }
+{
+    let mut serial = 1;
+    for (line, reply) in lines.iter().zip(replies) {
+        let name = input.name(line.caller);
+        write_line(text, serial, name, *line, reply)?;
+        serial += 1;
+    }
+    Ok(())
+}
+
+fn write_header(text: &mut String, input: &OrderInput) -> Result<(), AllocError>
+    ensures { OnOk result
+        (string_bytes text.new ≡ string_bytes text.old ++ header_line input.now) }
+{
+    text.push_str("orders 1")?;
+    write_size(text, "blocks", input.blocks())?;
+    write_size(text, "instruments", input.instruments())?;
+    text.push('\n')
+}
+
+fn write_side(text: &mut String, buys: bool) -> Result<(), AllocError>
+    ensures { OnOk result
+        (string_bytes text.new ≡ string_bytes text.old ++ SPACE ∷ side_word buys) }
+{
+    if buys {
+        text.push_str(" buy")
+    } else {
+        text.push_str(" sell")
+    }
+}
+
+fn write_order(text: &mut String, order: &Resting) -> Result<(), AllocError>
+    ensures { OnOk result
+        (string_bytes text.new ≡ string_bytes text.old ++ order_line order.now) }
+{
+    text.push_str("order")?;
+    push_next(text, u64::from(order.number))?;
+    push_next(text, u64::from(order.instrument))?;
+    write_side(text, order.buys)?;
+    push_next(text, order.price)?;
+    push_next(text, order.quantity)?;
+    text.push('\n')
+}
+
+fn write_orders(text: &mut String, closing: &[Resting]) -> Result<(), AllocError>
+    ensures { OnOk result
+        (string_bytes text.new ≡ string_bytes text.old ++ flat_map order_line closing.now) }
+{
+    for order in closing {
+        write_order(text, order)?;
+    }
+    Ok(())
+}
+
+/// The whole output: a journal line for each line and reply, in their order, the header, the closing orders, and `finish`.
+pub fn orders_text(
+    alloc: Global,
+    input: &OrderInput,
+    lines: &[Line],
+    replies: &[OrderReply],
+    closing: &[Resting],
+) -> Result<Vec<u8>, OutOfMemory>
+    requires beside { length lines.now ≡ length replies.now }
+    requires places { All (λ l. IsOrderPlace input.now (place_of_line l)) lines.now }
+    requires by_number { AreByNumber closing.now }
+    ensures text { IfOk result (λ text. text.items
+        ≡ text_of input.now (scripts_of lines.now replies.now) closing.now) }
+    ensures output { IfOk result (λ text. (limit : ℕ)
+        → AreRun input.now limit (scripts_of lines.now replies.now)
+        → closing.now ≡ closing_of input.now (scripts_of lines.now replies.now)
+        → IsOrderOutput input.now limit text.items) }
+{
+    let mut text = String::from_str(alloc, "journal\n")?;
+    write_lines(&mut text, input, lines, replies)?;
+    write_header(&mut text, input)?;
+    write_orders(&mut text, closing)?;
+    text.push_str("finish\n")?;
+    Ok(text.into_bytes())
+}
