@@ -1,5 +1,5 @@
-//! Tests of the public calls of io_ends, books_model, script_reader, books_report and record_text, in a crate of their own:
-//! they rest on what those promise, and do not prove them again.
+//! Tests of the public calls of io_ends, books_model, script_reader, books_report, record_text and order_text, in a crate
+//! of their own: they rest on what those promise, and do not prove them again.
 #![tactic(auto)]
 
 #[cfg(test)]
@@ -14,6 +14,8 @@ mod faults;
 mod languages;
 #[cfg(test)]
 mod model;
+#[cfg(test)]
+mod orders;
 #[cfg(test)]
 mod reader;
 #[cfg(test)]
