@@ -14,7 +14,7 @@ use std::alloc::{AllocError, Global};
 use std::test::Fail;
 use txn_alloc::Put;
 use txn_books::BooksShape;
-use txn_books::cash::{cash, cash_between, open_account, remove_account, set_cash};
+use txn_books::cash::{balance, cash, cash_between, open_account, remove_account, set_balance};
 use txn_books::layout::{position_key, price_key};
 use txn_books::price::{price, put_price};
 use txn_books::quantity::{holds_any, quantity, set_quantity, worth};
@@ -129,7 +129,11 @@ fn a_position_finds_no_block(rt: HostRuntime) -> Result<(), Fail> {
 fn an_account_is_given_cash(rt: HostRuntime) -> Result<(), Fail> {
     let mut plain = empty_books(rt.alloc())?;
     assert!(rt; is_opened(&mut plain, &SHAPE, 7)?);
-    set_cash(&mut plain, &SHAPE, 7, 40)?;
+    let found = balance(&mut plain, &SHAPE, 7)?;
+    assert_eq!(rt; found.map(|stored| stored.value), Some(0));
+    if let Some(stored) = found {
+        set_balance(&mut plain, &SHAPE, 7, stored.block, 40)?;
+    }
     assert_eq!(rt; cash_between(&mut plain, &SHAPE, 7, 9)?, 40);
     Ok(())
 }

@@ -133,7 +133,14 @@ script_short : (script : List Part) → IsMadeOnce script → length (script_lin
 script_short script (first, made) =
     let ops = operations_of script in
     let each = AllByRecursion-weaker (IsMade first) (λ o. length (line (operation_words o)) ≤ 26) (operation_short first) ops made.each in
-    omega (arith, made.few, lines_most (λ o. line (operation_words o)) 26 ops each, ap (λ parts. length (script_lines parts)) made.alone, ap length (lines_alone ops))
+    omega (
+      arith,
+      made.few,
+      lines_most (λ o. line (operation_words o)) 26 ops each,
+      ap (λ parts. length (script_lines parts)) made.alone,
+      ap length
+          (lines_alone ops),
+    )
 
 name_length : (c : ℕ) → length (caller_name c) ≡ 4
 unfolding caller_name
@@ -222,5 +229,6 @@ made_inputs_fit seed callers scripts range =
     let written : List ℕ = flat_map submission_lines (submissions_to seed callers n) in
     let begins : length scripts_line ≤ 8 = omega arith in
     let ends : length finish_line ≤ 7 = omega arith in
-    let all = row4 (books_lines One made_books) scripts_line written finish_line 40000 8 (n * 100) 7 books_short begins (submissions_short seed callers n) ends in
+    let all = row4 (books_lines One made_books) scripts_line written finish_line 40000 8 (n * 100) 7 books_short begins
+    (submissions_short seed callers n) ends in
     omega (arith, range.few, all)

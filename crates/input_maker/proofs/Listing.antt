@@ -110,6 +110,7 @@ lines_alone (o ∷ ops) = ap (λ l. line (operation_words o) ++ l) (lines_alone 
 
 -- the text of a made script
 pub script_written : (name : List ℕ) (x : ℕ)
-    → line (codes "script" ∷ name ∷ []) ++ operation_lines (script_operations x) ++ end_line ≡ submission_lines (record { caller = name; script = script_from x })
+    → line (codes "script" ∷ name ∷ []) ++ operation_lines (script_operations x) ++ end_line
+    ≡ submission_lines (record { caller = name; script = script_from x })
 unfolding script_from
 script_written name x = ap (λ l. line (codes "script" ∷ name ∷ []) ++ l ++ end_line) (sym (lines_alone (script_operations x)))

@@ -1,5 +1,6 @@
 -- The operations and scripts that are made, of the first kind and of the second, and that each script of a made input is one.
-use Rattle.std.proofs.Common.{sum_by, subst, ◌≡◌, ℕ, ◌+◌, ◌*◌, ◌<◌, ◌≤◌, ◌==◌, ◌&&◌, Bool, true, false, if◌then◌else◌, List, [], ◌∷◌, map, filter, length, refl, sym, ap}
+use Rattle.std.proofs.Common.{sum_by, subst, ◌≡◌, ℕ, ◌+◌, ◌*◌, ◌<◌, ◌≤◌, ◌==◌, ◌&&◌, Bool, true, false, if◌then◌else◌, List, [], ◌∷◌, map, filter}
+use Rattle.std.proofs.Common.{length, refl, sym, ap}
 use Rattle.std.proofs.Common.{◌∙◌, true≢false, arith}
 use Rattle.std.specs.List.{All, AllByRecursion, list_all, range_with_len}
 use Rattle.std.specs.Str.{bytes_eq}
@@ -16,7 +17,8 @@ use Rattle.books_model.specs.Ranges.{IsWithin, IsOperationFor}
 use Rattle.books_model.proofs.Maps.Entries.{AllByRecursion-weaker, sum_by-most}
 use Rattle.script_reader.specs.Input.{Submission, first_seen, scripts_by, callers_of}
 use Rattle.input_maker.specs.Generator.{drawn, state_after}
-use Rattle.input_maker.specs.Made.{made_books, first_kind, second_kind, operation_from, operations_from, script_from, script_operations, made_submission, submissions_to}
+use Rattle.input_maker.specs.Made.{made_books, first_kind, second_kind, operation_from, operations_from, script_from, script_operations}
+use Rattle.input_maker.specs.Made.{made_submission, submissions_to}
 use Rattle.input_maker.specs.Made.{state_of_script, state_after_operations}
 use Rattle.input_maker.specs.Days.{IsOfFirstKind, deposits_in, deposits_of, is_of_first_kind, paid_in_by}
 use Rattle.input_maker.proofs.Opening.{all_mapped}

@@ -119,8 +119,8 @@ fn a_table_is_closed_or_no_memory_is_found(rt: HostRuntime) {
     assert!(rt; closed);
 }
 
-// A desk of two words with sixteen passes, of which the last stands apart.
-fn open_sixteen(alloc: Global) -> Result<(Desk<Pair>, Vec<Pass<Pair>>, Pass<Pair>), OutOfMemory>
+// A desk of two words with thirty-two passes, of which the last stands apart.
+fn open_thirty_two(alloc: Global) -> Result<(Desk<Pair>, Vec<Pass<Pair>>, Pass<Pair>), OutOfMemory>
     ensures all { IfOk result
         (λ opened. AreAllPasses opened.0.table opened.0.seats (opened.1.items ++ opened.2 ∷ [])) }
     ensures last { IfOk result
@@ -128,16 +128,16 @@ fn open_sixteen(alloc: Global) -> Result<(Desk<Pair>, Vec<Pass<Pair>>, Pass<Pair
         × (length opened.2.view.base ≡ 2)) }
 {
     let base = vec![in alloc; 3u64, 4]?;
-    let (desk, mut passes) = Desk::new(alloc, Pair, base, 16)?;
+    let (desk, mut passes) = Desk::new(alloc, Pair, base, 32)?;
     let Some(last) = passes.pop() else {
         unreachable!()
     };
     Ok((desk, passes, last))
 }
 
-// Of sixteen passes the last adds one to word 0, and the others do nothing: the words that the desk leaves.
-fn one_of_sixteen(alloc: Global) -> Result<Option<Vec<u64>>, OutOfMemory> {
-    let (desk, mut passes, mut last) = open_sixteen(alloc)?;
+// Of thirty-two passes the last adds one to word 0, and the others do nothing: the words that the desk leaves.
+fn one_of_thirty_two(alloc: Global) -> Result<Option<Vec<u64>>, OutOfMemory> {
+    let (desk, mut passes, mut last) = open_thirty_two(alloc)?;
     let Some(_) = add(&desk, &mut last, 1) else {
         return Ok(None);
     };
@@ -146,8 +146,8 @@ fn one_of_sixteen(alloc: Global) -> Result<Option<Vec<u64>>, OutOfMemory> {
 }
 
 #[test]
-fn sixteen_passes_close(rt: HostRuntime) -> Result<(), Fail> {
-    let Some(words) = one_of_sixteen(rt.alloc())? else {
+fn thirty_two_passes_close(rt: HostRuntime) -> Result<(), Fail> {
+    let Some(words) = one_of_thirty_two(rt.alloc())? else {
         panic!(rt; "the last pass has its entry")
     };
     assert_eq!(rt; words.as_slice(), [4, 4].as_slice());

@@ -11,6 +11,8 @@ mod closing;
 #[cfg(test)]
 mod crossing;
 #[cfg(test)]
+mod lists;
+#[cfg(test)]
 mod locks;
 #[cfg(test)]
 mod marks;

@@ -1,5 +1,5 @@
 -- The orders that an output prints are those of a book, so their numbers rise.
-use Rattle.std.proofs.Common.{◌≡◌, ◌<◌, List, [], ◌∷◌, All, sym, arith}
+use Rattle.std.proofs.Common.{◌≡◌, List, [], ◌∷◌, All, sym, arith}
 use Rattle.std.specs.List.Sorted.{IsStrictlySortedBy}
 use Rattle.std.specs.declared.cmp.Ordering.TheVariants.{Less}
 use Rattle.std.proofs.lemmas.Cmp.{ranked}
@@ -32,7 +32,8 @@ module _ (input : BookInput) (is : IsBookInput input) where
       → IsBookOf input.instruments (book_after input book places)
   kept_after [] book there kept apart = kept
   kept_after (place ∷ places) book there kept apart =
-      let next = scripts_keep input.instruments (order_script_at input place.caller place.index) book kept (script_at place (there 0 place (omega arith))) apart in
+      let next = scripts_keep input.instruments (order_script_at input place.caller place.index) book kept
+      (script_at place (there 0 place (omega arith))) apart in
       kept_after places (outcome_at input book place).1 (All-tail (IsOrderPlace input) place places there) next.0 next.1
 
 pub printed_by_number : (input : BookInput) (scripts : List OrderRan) → IsBookInput input → All (IsOrderPlace input) (places_run scripts)

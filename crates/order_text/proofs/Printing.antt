@@ -37,7 +37,8 @@ header_of text titled first sized now input title blocks instruments feed =
     let front : List ℕ = codes "orders 1" ++ SPACE ∷ (codes "blocks" ++ SPACE ∷ number input.blocks) in
     let behind : List ℕ = SPACE ∷ (codes "instruments" ++ SPACE ∷ number input.instruments) in
     two_pieces text (front ++ behind) (LINE_FEED ∷ []) sized now
-    (two_pieces text front behind first sized (two_pieces text (codes "orders 1") (SPACE ∷ (codes "blocks" ++ SPACE ∷ number input.blocks)) titled first title blocks)
+    (two_pieces text front behind first sized
+    (two_pieces text (codes "orders 1") (SPACE ∷ (codes "blocks" ++ SPACE ∷ number input.blocks)) titled first title blocks)
     instruments) feed
 
 -- one more line is written, and the others are left

@@ -6,7 +6,8 @@ use Rattle.record_text.specs.declared.script.RecordOp.TheVariants as op
 use Rattle.record_text.specs.declared.reply.RecordValue.{RecordValue}
 use Rattle.record_text.specs.declared.reply.RecordValue.TheVariants as value
 use Rattle.record_text.specs.Records.{Records, blocks_of, is_full}
-use Rattle.record_text.specs.Interpreter.{Step, Gives, LacksRecord, LacksBlocks, Run, Ends, Stops, after_step, after_value, outcome_from, record_outcome_of, run_from, step_of, with_record}
+use Rattle.record_text.specs.Interpreter.{Step, Gives, LacksRecord, LacksBlocks, Run, Ends, Stops, after_step, after_value, outcome_from}
+use Rattle.record_text.specs.Interpreter.{record_outcome_of, run_from, step_of, with_record}
 use Rattle.record_text.proofs.Puts.{put_fits}
 use Rattle.record_text.proofs.Removals.{no_more}
 

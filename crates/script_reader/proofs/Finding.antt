@@ -121,4 +121,5 @@ price_low version b i v found some same first = or_false _ ∙ sym (low_found i 
 -- and so for a position
 pub position_low : {B : Type 0} (f : (ℕ × ℕ) × ℕ → B) (version : Version) (b : ClearingBooks) (a i v w : ℕ) (found : Option B) → 1 ≤ i → a ≡ v → i ≡ w
     → found ≡ option_map f (find (λ e. is_lt (position_cmp (a, i - 1) e.0)) (map.entries b.positions)) → is_low_in 2 (v, w) (printed version b) ≡ is_some found
-position_low f version b a i v w found some same also first = sym (low_position_found f a i v w (map.entries b.positions) some same also) ∙ sym (ap is_some first)
+position_low f version b a i v w found some same also first = sym (low_position_found f a i v w (map.entries b.positions) some same also)
+    ∙ sym (ap is_some first)

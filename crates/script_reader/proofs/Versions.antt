@@ -1,5 +1,6 @@
 -- The versions of texts: their words, and that their ranges are within those of the language.
-use Rattle.std.proofs.Common.{lit<, ◌≡◌, inl, inr, ℕ, ◌<◌, ◌≤◌, ◌+◌, ◌^◌, Bool, true, false, cond, ◌||◌, List, [], ◌∷◌, ◌++◌, length, length-append, sum_by, All, refl, sym, ap, subst, ◌∙◌, arith}
+use Rattle.std.proofs.Common.{lit<, ◌≡◌, inl, inr, ℕ, ◌<◌, ◌≤◌, ◌+◌, ◌^◌, Bool, true, false, cond, ◌||◌, List, [], ◌∷◌, ◌++◌, length, length-append}
+use Rattle.std.proofs.Common.{sum_by, All, refl, sym, ap, subst, ◌∙◌, arith}
 use Rattle.std.specs.Cmp.{nat_cmp_total}
 use Rattle.std.proofs.lemmas.Map.Lookups.{exact_unsigned}
 use Rattle.books_model.proofs.Maps.Trees.{found_after_insert}
@@ -20,7 +21,8 @@ use Rattle.script_reader.specs.declared.version.Version.TheVariants.{One, Two}
 use Rattle.script_reader.specs.declared.books.Row.{Row}
 use Rattle.script_reader.specs.declared.books.Row.TheVariants as row
 use Rattle.script_reader.specs.Input.{Caller, ClearingInput, IsInput, AreCallersFor}
-use Rattle.script_reader.specs.Versions.{version_word, is_version, version_of, most_blocks, greatest_cash, greatest_amount, amount_of, AreBooksWithin, IsScriptWithin, IsInputWithin}
+use Rattle.script_reader.specs.Versions.{version_word, is_version, version_of, most_blocks, greatest_cash, greatest_amount, amount_of, AreBooksWithin}
+use Rattle.script_reader.specs.Versions.{IsScriptWithin, IsInputWithin}
 use Rattle.script_reader.proofs.Tokens.Numerals.{greatest_u64}
 use Rattle.script_reader.specs.Inner.OfVersion.{IsOperationOf, IsScriptOf, AreCallersOf}
 use Rattle.script_reader.specs.Inner.BooksRows.{IsRowWithin, with_row}

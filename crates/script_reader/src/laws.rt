@@ -16,7 +16,7 @@ pub fn limits_are_those_of_the_language()
     ensures callers { MOST_CALLERS ≡ 1_024 }
     ensures scripts { MOST_SCRIPTS ≡ 65_536 }
     ensures name { LONGEST_NAME ≡ 16 }
-    ensures workers { MOST_WORKERS ≡ 16 }
+    ensures workers { MOST_WORKERS ≡ 32 }
     ensures blocks { MOST_BLOCKS_OF_ONE ≡ 16_384 }
     ensures cash { GREATEST_CASH_OF_ONE ≡ 1_000_000_000_000_000 }
     ensures amount { GREATEST_AMOUNT_OF_ONE ≡ 1_000_000_000_000_000 }

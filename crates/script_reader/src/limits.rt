@@ -22,4 +22,4 @@ pub const GREATEST_CASH_OF_ONE: u64 = 1_000_000_000_000_000;
 pub const GREATEST_AMOUNT_OF_ONE: u64 = 1_000_000_000_000_000;
 
 /// The most workers.
-pub const MOST_WORKERS: u32 = 16;
+pub const MOST_WORKERS: u32 = 32;

@@ -29,7 +29,7 @@ const LINES: [&str; 7] = [
     "journal\n",
     "1 ann 1 0 done ok 105\n",
     "2 bob 1 3 done ok\n",
-    "3 ann 2 15 declined 1 cash\n",
+    "3 ann 2 31 declined 1 cash\n",
     "books 2 blocks 4 instruments 1 ring 1\n",
     "account 7 104\n",
     "finish\n",
@@ -86,7 +86,7 @@ fn outputs_agree(rt: HostRuntime) -> Result<(), Fail> {
         "journal
 1 ann 1 0 done ok 105
 2 bob 1 3 done ok
-3 ann 2 15 declined 1 cash
+3 ann 2 31 declined 1 cash
 books 2 blocks 4 instruments 1 ring 1
 account 7 104
 finish
@@ -189,7 +189,7 @@ fn indexes_and_restarts_are_looked_at(rt: HostRuntime) -> Result<(), Fail> {
             ("1 ann 0 0 done ok 105\n", 2),
             ("1 ann 2 0 declined 1 cash\n", 2),
             ("1 ann 01 0 done ok 105\n", 2),
-            ("1 ann 1 16 done ok 105\n", 2),
+            ("1 ann 1 32 done ok 105\n", 2),
             ("1 ann 1 99 done ok 105\n", 2),
             ("1 ann 1 4294967296 done ok 105\n", 2),
             ("1 ann 1 00 done ok 105\n", 2),
@@ -230,7 +230,7 @@ fn the_next_line_is_looked_at(rt: HostRuntime) -> Result<(), Fail> {
         &LINES,
         3,
         &[
-            ("2 bob 1 16 done ok\n", 3),
+            ("2 bob 1 32 done ok\n", 3),
             ("2 bob 2 3 done ok\n", 3),
             ("2 ann 1 3 done ok 105\n", 3),
             // The second script of `ann` may come next, and then `bob` is left for line 4.
@@ -249,11 +249,11 @@ fn the_last_script_is_looked_at(rt: HostRuntime) -> Result<(), Fail> {
         4,
         &[
             ("3 ann 2 99 declined 1 cash\n", 4),
-            ("3 ann 2 15 declined 2 cash\n", 4),
-            ("3 ann 2 15 declined 1 limit\n", 4),
-            ("3 ann 2 15 done ok\n", 4),
-            ("3 bob 2 15 declined 1 cash\n", 4),
-            ("3 ann 3 15 declined 1 cash\n", 4),
+            ("3 ann 2 31 declined 2 cash\n", 4),
+            ("3 ann 2 31 declined 1 limit\n", 4),
+            ("3 ann 2 31 done ok\n", 4),
+            ("3 bob 2 31 declined 1 cash\n", 4),
+            ("3 ann 3 31 declined 1 cash\n", 4),
         ],
     )?;
     Ok(())

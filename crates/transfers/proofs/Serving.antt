@@ -102,7 +102,8 @@ module _ (lists : List (Vec Move Global)) (tellers new : List Teller) (closed : 
         get_or-map items_of lists k teller.moves moves (omega (arith, within, many))
         ∙ ap (λ l. items_of (get_or l k teller.moves)) (sym moves_are) ∙ ap items_of (get_or_map moves_of tellers k teller) in
         let served : IsServed closed.base (after k teller some within).view.seen (number (after k teller some within).view) old.moves.items now.told.items =
-        subst (λ (base : List ℕ). IsServed base (after k teller some within).view.seen (number (after k teller some within).view) old.moves.items now.told.items)
+        subst (λ (base : List ℕ). IsServed base (after k teller some within).view.seen (number (after k teller some within).view) old.moves.items
+        now.told.items)
         worked.base_is w.done.served in
         subst (λ (l : List Move). IsServed closed.base closed.records k l now.told.items) (sym list_is)
         (served_there k teller some within closed.base old.moves.items now.told.items served);

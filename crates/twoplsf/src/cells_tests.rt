@@ -2,7 +2,7 @@
 
 use crate::serve::serve;
 use crate::status::Status;
-use crate::tests::{Ends, GOOD, look, served, words};
+use crate::tests::{Ends, look, served, words};
 use crossbeam_utils::atomic::AtomicCell;
 use io_ends::{MemSink, MemSource};
 use std::sync::Wait;

@@ -246,7 +246,7 @@ fn scripts_are_run_and_printed(rt: HostRuntime) -> Result<(), Fail> {
 #[test]
 fn one_caller_has_one_output_for_all_workers(rt: HostRuntime) -> Result<(), Fail> {
     let output = [FIRST_OUTPUT.0, PRINTED_HEADER, FIRST_OUTPUT.1];
-    for command in &["run 1", "run 2", "run 4", "run 9", "run 15", "run 16"] {
+    for command in &["run 1", "run 2", "run 4", "run 9", "run 31", "run 32"] {
         look(
             &rt,
             rt.alloc(),
@@ -387,7 +387,7 @@ fn command_words_out_of_form_are_refused(rt: HostRuntime) -> Result<(), Fail> {
         "run",
         "run 0",
         "run 01",
-        "run 17",
+        "run 33",
         "run 100",
         "run 1 1",
         "Run 1",
@@ -402,7 +402,7 @@ fn command_words_out_of_form_are_refused(rt: HostRuntime) -> Result<(), Fail> {
         "make 0 1 65537",
         "make 00 1 1",
         "make 0 1",
-        "drill 17 0 1 1",
+        "drill 33 0 1 1",
         "drill 0 0 1 1",
         "drill 1 0 1 1 1",
         "cells",

@@ -14,10 +14,16 @@ fn texts_are_compared_with_inputs(rt: HostRuntime) -> Result<(), Fail> {
     for (journal, books, status, output) in &[
         (FIRST_OUTPUT.0, FIRST_OUTPUT.1, Status::Done, "agrees\n"),
         (
-            "journal\n1 ann 1 15 done ok 105\n",
+            "journal\n1 ann 1 31 done ok 105\n",
             FIRST_OUTPUT.1,
             Status::Done,
             "agrees\n",
+        ),
+        (
+            "journal\n1 ann 1 32 done ok 105\n",
+            FIRST_OUTPUT.1,
+            Status::Differs,
+            "differs line 2\n",
         ),
         (
             "journal\n1 ann 1 0 done ok 106\n",
@@ -160,5 +166,16 @@ fn the_output_of_a_made_input_agrees(rt: HostRuntime) -> Result<(), Fail> {
         let run = served(&rt, alloc, "check", both, GOOD)?;
         assert!(rt; run.is_so(*status, said.as_bytes()), "{said}");
     }
+    Ok(())
+}
+
+#[test]
+fn thirty_two_workers_agree(rt: HostRuntime) -> Result<(), Fail> {
+    let alloc = rt.alloc();
+    let input = printed(&rt, alloc, "make 2023 40 50", Vec::new(alloc))?;
+    let output = printed(&rt, alloc, "run 32", input.as_slice().to_vec(alloc)?)?;
+    let both = with_text(alloc, input.as_slice(), output.as_slice())?;
+    let run = served(&rt, alloc, "check", both, GOOD)?;
+    assert!(rt; run.is_so(Status::Done, b"agrees\n"));
     Ok(())
 }

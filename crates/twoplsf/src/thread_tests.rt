@@ -311,7 +311,7 @@ fn is_day_of_deposits(alloc: Global, text: &str) -> Result<bool, OutOfMemory> {
 fn each_script_of_a_day_is_run_once_in_its_callers_order(rt: HostRuntime) -> Result<(), Fail> {
     let alloc = rt.alloc();
     let scripts = deposits(alloc)?;
-    for command in &["run 1", "run 2", "run 4", "run 16"] {
+    for command in &["run 1", "run 2", "run 4", "run 32"] {
         let input = [TWO_ACCOUNTS, scripts.as_str()];
         let taken = printed(&rt, alloc, *command, &input, &OpenGate)?;
         let taken = String::from_utf8(taken).expect(&rt, "the output is ASCII");

@@ -14,3 +14,5 @@ pub mod Whole
 pub mod Parts
 -- what words that stand for books say of each part, at the shape's sizes, and whether a block is left
 pub mod States
+-- each account stands in the block where it stood, while the chains change
+pub mod Standing

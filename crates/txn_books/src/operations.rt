@@ -11,12 +11,12 @@ ghost use Rattle.txn_words.specs.Calls.{IsReady, GoesOn, InEachState, LeadsTo};
 ghost use Rattle.txn_books.specs.Standing.{IsGoodFor};
 ghost use Rattle.txn_books.specs.Operating.{IsOperationIn, Steps};
 
-use crate::cash::{cash, cash_between, open_account, remove_account, set_cash};
+use crate::cash::{balance, cash, cash_between, open_account, remove_account, set_balance};
 use crate::price::{price, put_price};
 use crate::quantity::{holds_any, worth};
 use crate::queue::{queue_call, take_front};
 use crate::shape::BooksShape;
-use crate::trading::{Side, exchange, side_at};
+use crate::trading::{Found, Side, exchange, side_at};
 use books_model::limits::{GREATEST_CASH, GREATEST_QUANTITY};
 use books_model::{Decline, Op, Value};
 use txn_words::{Stop, Words};
@@ -116,13 +116,13 @@ pub fn deposit<W: Words>(
     ensures stands { OnOk result (InEachState W.Words W.Shape.Shape w.new (IsGoodFor shape.now)) }
     ensures goes_on { GoesOn W.Words w.old w.new result }
 {
-    let Some(held) = cash(w, shape, account)? else {
+    let Some(held) = balance(w, shape, account)? else {
         return Ok(Outcome::Declines(Decline::Absent));
     };
-    if held + amount > GREATEST_CASH {
+    if held.value + amount > GREATEST_CASH {
         return Ok(Outcome::Declines(Decline::Limit));
     }
-    set_cash(w, shape, account, held + amount)?;
+    set_balance(w, shape, account, held.block, held.value + amount)?;
     Ok(Outcome::Gives(Value::Done))
 }
 
@@ -140,13 +140,13 @@ pub fn withdraw<W: Words>(
     ensures stands { OnOk result (InEachState W.Words W.Shape.Shape w.new (IsGoodFor shape.now)) }
     ensures goes_on { GoesOn W.Words w.old w.new result }
 {
-    let Some(held) = cash(w, shape, account)? else {
+    let Some(held) = balance(w, shape, account)? else {
         return Ok(Outcome::Declines(Decline::Absent));
     };
-    if held < amount {
+    if held.value < amount {
         return Ok(Outcome::Declines(Decline::Cash));
     }
-    set_cash(w, shape, account, held - amount)?;
+    set_balance(w, shape, account, held.block, held.value - amount)?;
     Ok(Outcome::Gives(Value::Done))
 }
 
@@ -169,20 +169,20 @@ pub fn move_cash<W: Words>(
     if payer == payee {
         return Ok(Outcome::Declines(Decline::Same));
     }
-    let Some(has) = cash(w, shape, payer)? else {
+    let Some(has) = balance(w, shape, payer)? else {
         return Ok(Outcome::Declines(Decline::Absent));
     };
-    let Some(gets) = cash(w, shape, payee)? else {
+    let Some(gets) = balance(w, shape, payee)? else {
         return Ok(Outcome::Declines(Decline::Absent));
     };
-    if has < amount {
+    if has.value < amount {
         return Ok(Outcome::Declines(Decline::Cash));
     }
-    if gets + amount > GREATEST_CASH {
+    if gets.value + amount > GREATEST_CASH {
         return Ok(Outcome::Declines(Decline::Limit));
     }
-    set_cash(w, shape, payer, has - amount)?;
-    set_cash(w, shape, payee, gets + amount)?;
+    set_balance(w, shape, payer, has.block, has.value - amount)?;
+    set_balance(w, shape, payee, gets.block, gets.value + amount)?;
     Ok(Outcome::Gives(Value::Done))
 }
 
@@ -240,27 +240,35 @@ pub fn trade<W: Words>(
     let Some(price) = price(w, shape, instrument)? else {
         return Ok(Outcome::Declines(Decline::Price));
     };
-    if sells.held < amount {
+    if sells.side.held < amount {
         return Ok(Outcome::Declines(Decline::Quantity));
     }
     let cost = amount * price;
-    if buys.cash < cost {
+    if buys.side.cash < cost {
         return Ok(Outcome::Declines(Decline::Cash));
     }
-    if sells.cash + cost > GREATEST_CASH || buys.held + amount > GREATEST_QUANTITY {
+    if sells.side.cash + cost > GREATEST_CASH || buys.side.held + amount > GREATEST_QUANTITY {
         return Ok(Outcome::Declines(Decline::Limit));
     }
     let bought = Side {
         account: buyer,
-        cash: buys.cash - cost,
-        held: buys.held + amount,
+        cash: buys.side.cash - cost,
+        held: buys.side.held + amount,
     };
     let sold = Side {
         account: seller,
-        cash: sells.cash + cost,
-        held: sells.held - amount,
+        cash: sells.side.cash + cost,
+        held: sells.side.held - amount,
     };
-    if !exchange(w, shape, instrument, bought, sold)? {
+    let buys = Found {
+        side: bought,
+        block: buys.block,
+    };
+    let sells = Found {
+        side: sold,
+        block: sells.block,
+    };
+    if !exchange(w, shape, instrument, buys, sells)? {
         return Ok(Outcome::FindsNoBlock);
     }
     Ok(Outcome::Gives(Value::Done))

@@ -7,6 +7,8 @@ ghost use Rattle.books_model.specs.Books.{position_of, price_of};
 ghost use Rattle.books_model.specs.Interpreter.{holds_any, put_position, worth_of};
 ghost use Rattle.books_model.specs.Ranges.{IsAccountNumber, IsWithin};
 ghost use Rattle.txn_words.specs.Calls.{IsReady, GoesOn, InEachState, LeadsTo};
+ghost use Rattle.txn_tree_map.specs.Stored.{KeepsBlocks};
+ghost use Rattle.txn_books.specs.Layout.{tree_of};
 ghost use Rattle.txn_books.specs.Standing.{IsGoodFor, Stands};
 ghost use Rattle.txn_words.specs.Access.{OfModel, Tells, ChangesWithRoom};
 ghost use Rattle.txn_books.specs.Access.{lacks_position_room};
@@ -57,6 +59,9 @@ pub fn set_quantity<W: Words>(
     ensures held { IfOk result (λ had_room. LeadsTo W.Words W.Shape.Shape w.old w.new
         (ChangesWithRoom (Stands shape.now) (lacks_position_room account instrument quantity)
         (λ books. put_position books account instrument quantity) had_room)) }
+    // Each account stands in the block where it stood.
+    ensures blocks { OnOk result (LeadsTo W.Words W.Shape.Shape w.old w.new
+        (KeepsBlocks (tree_of shape.now))) }
     ensures stands { OnOk result (InEachState W.Words W.Shape.Shape w.new (IsGoodFor shape.now)) }
     ensures goes_on { GoesOn W.Words w.old w.new result }
 {

@@ -3,11 +3,13 @@
 ghost use Rattle.std.specs.Prelude.{IfOk, IfSome, OnOk};
 ghost use Rattle.books_model.specs.Ranges.{IsAccountNumber, IsWithin};
 ghost use Rattle.txn_words.specs.Calls.{IsReady, GoesOn, InEachState, LeadsTo};
+ghost use Rattle.txn_tree_map.specs.Stored.{HasKeyIn};
+ghost use Rattle.txn_books.specs.Layout.{tree_of};
 ghost use Rattle.txn_books.specs.Standing.{IsGoodFor, Stands};
 ghost use Rattle.txn_words.specs.Access.{OfModel, Tells};
-ghost use Rattle.txn_books.specs.Inner.Trading.{side_of, IsSideInRange, MayExchange, Exchanges};
+ghost use Rattle.txn_books.specs.Inner.Trading.{side_in, side_of, IsSideInRange, MayExchange, Exchanges};
 
-use crate::cash::{cash, set_cash};
+use crate::cash::{balance, set_balance};
 use crate::quantity::{quantity, set_quantity};
 use crate::shape::BooksShape;
 use txn_words::{Stop, Words};
@@ -20,59 +22,78 @@ pub(crate) struct Side {
     pub(crate) held: u64,
 }
 
+/// A side of a trade as it was found, and the block of the tree where its cash stands.
+#[derive(Clone, Copy)]
+pub(crate) struct Found {
+    pub(crate) side: Side,
+    pub(crate) block: u32,
+}
+
 /// One side of a trade, where its account is there.
 pub(crate) fn side_at<W: Words>(
     w: &mut W,
     shape: &BooksShape,
     account: u32,
     instrument: u32,
-) -> Result<Option<Side>, Stop>
+) -> Result<Option<Found>, Stop>
     requires ready { IsReady W.Words w.old }
     requires stands { InEachState W.Words W.Shape.Shape w.old (IsGoodFor shape.now) }
     requires account { IsAccountNumber account }
     requires instrument { IsWithin 1 shape.now.instruments instrument }
     ensures told { IfOk result (λ answer. LeadsTo W.Words W.Shape.Shape w.old w.new
-        (Tells (Stands shape.now) (λ books. side_of books account instrument) answer)) }
-    ensures range { IfOk result (λ answer. IfSome answer IsSideInRange) }
+        (Tells (Stands shape.now) (λ books. side_of books account instrument) (side_in answer))) }
+    ensures held { IfOk result (λ answer. IfSome answer (λ found.
+        InEachState W.Words W.Shape.Shape w.new
+        (HasKeyIn (tree_of shape.now) account found.block))) }
+    ensures range { IfOk result (λ answer. IfSome answer (λ found. IsSideInRange found.side)) }
     ensures stands { OnOk result (InEachState W.Words W.Shape.Shape w.new (IsGoodFor shape.now)) }
     ensures goes_on { GoesOn W.Words w.old w.new result }
 {
-    let Some(cash) = cash(w, shape, account)? else {
+    let Some(stored) = balance(w, shape, account)? else {
         return Ok(None);
     };
     let held = quantity(w, shape, account, instrument)?.unwrap_or(0);
-    Ok(Some(Side {
+    let side = Side {
         account,
-        cash,
+        cash: stored.value,
         held,
+    };
+    Ok(Some(Found {
+        side,
+        block: stored.block,
     }))
 }
 
-/// Gives both sides what they are to have. The seller's position is lowered first, which may leave a block for the
-/// buyer's. False: no block was left for that.
+/// Gives both sides what they are to have, each its cash in the block where it stands. The seller's position is lowered
+/// first, which may leave a block for the buyer's. False: no block was left for that.
 pub(crate) fn exchange<W: Words>(
     w: &mut W,
     shape: &BooksShape,
     instrument: u32,
-    buys: Side,
-    sells: Side,
+    buys: Found,
+    sells: Found,
 ) -> Result<bool, Stop>
     requires ready { IsReady W.Words w.old }
     requires stands { InEachState W.Words W.Shape.Shape w.old (IsGoodFor shape.now) }
     requires may { InEachState W.Words W.Shape.Shape w.old
-        (OfModel (Stands shape.now) (MayExchange instrument buys sells)) }
-    requires buyer { IsSideInRange buys }
-    requires seller { IsSideInRange sells }
+        (OfModel (Stands shape.now) (MayExchange instrument buys.side sells.side)) }
+    requires buyer { IsSideInRange buys.side }
+    requires seller { IsSideInRange sells.side }
+    requires buyer_held { InEachState W.Words W.Shape.Shape w.old
+        (HasKeyIn (tree_of shape.now) buys.side.account buys.block) }
+    requires seller_held { InEachState W.Words W.Shape.Shape w.old
+        (HasKeyIn (tree_of shape.now) sells.side.account sells.block) }
     ensures exchanged { IfOk result (λ had_room. LeadsTo W.Words W.Shape.Shape w.old w.new
-        (Exchanges shape.now instrument buys sells had_room)) }
+        (Exchanges shape.now instrument buys.side sells.side had_room)) }
     ensures stands { OnOk result (InEachState W.Words W.Shape.Shape w.new (IsGoodFor shape.now)) }
     ensures goes_on { GoesOn W.Words w.old w.new result }
 {
-    set_quantity(w, shape, sells.account, instrument, sells.held)?;
-    if !set_quantity(w, shape, buys.account, instrument, buys.held)? {
+    let (bought, sold) = (buys.side, sells.side);
+    set_quantity(w, shape, sold.account, instrument, sold.held)?;
+    if !set_quantity(w, shape, bought.account, instrument, bought.held)? {
         return Ok(false);
     }
-    set_cash(w, shape, buys.account, buys.cash)?;
-    set_cash(w, shape, sells.account, sells.cash)?;
+    set_balance(w, shape, bought.account, buys.block, bought.cash)?;
+    set_balance(w, shape, sold.account, sells.block, sold.cash)?;
     Ok(true)
 }

@@ -234,7 +234,8 @@ same_pass d e m n p q s = ap (λ o. o.pass) s
 -- a job ran on the attempt that began here
 pub ran_on : (first : View) (kept began pass : PassView) (old : View) → StaysInCall first pass.view → kept ≡ began
     → began ≡ pass → StaysInCall kept.view old → StaysInCall first old
-ran_on first kept began pass old before same fresh ran = same_call first pass.view old before (subst (λ (p : PassView). StaysInCall p.view old) (same ∙ fresh) ran)
+ran_on first kept began pass old before same fresh ran =
+    same_call first pass.view old before (subst (λ (p : PassView). StaysInCall p.view old) (same ∙ fresh) ran)
 
 pub still_runs : (n : ℕ) (halted : Option Halt) (began now : View) → halted ≡ None → StandsAs n halted began now → Runs began now
 still_runs n halted began now e = subst (λ (h : Option Halt). StandsAs n h began now → Runs began now) (sym e) (λ r. r)

@@ -74,10 +74,12 @@ met_more : (a : ℕ) (old new : View) → Asks a old new → (k j : ℕ) → has
 met_more a old new asks k j m = subst (λ (l : List (ℕ × ℕ)). has_pair k j l ≡ true) (sym asks.meetings.1) (pair-append_old k j old.meetings asks.meetings.0 m)
 
 -- it asked for a word's lock, and loaded the word
-pub footprint_loaded : (a x : ℕ) (old mid new : View) → Asks a old mid → WentOn old mid → new ≡ record mid { trace = mid.trace ++ Read a x ∷ []; uses = new.uses }
+pub footprint_loaded : (a x : ℕ) (old mid new : View) → Asks a old mid → WentOn old mid
+    → new ≡ record mid { trace = mid.trace ++ Read a x ∷ []; uses = new.uses }
     → LeavesFootprint old → LeavesFootprint new
 footprint_loaded a x old mid new asks went event =
-    subst (λ (v : View). LeavesFootprint old → LeavesFootprint v) (sym event) (footprint_on old (record mid { trace = mid.trace ++ Read a x ∷ []; uses = new.uses })
+    subst (λ (v : View). LeavesFootprint old → LeavesFootprint v) (sym event)
+    (footprint_on old (record mid { trace = mid.trace ++ Read a x ∷ []; uses = new.uses })
     (λ b k. inl (touches_first mid.trace (Read a x ∷ []) b (subst (λ (t : Trace). Touches t b) (ap (λ (v : View). v.trace) (sym asks.rest)) k)))
     (λ y i. subst (λ (l : List Abandoned). IsIn y l) (ap (λ (v : View). v.abandoned) (sym went)) i)
     (met_more a old mid asks)

@@ -12,3 +12,13 @@ pub mod Asking
 pub mod Settling
 -- how a transaction begins and ends
 pub mod Ending
+-- lists that are put together of others
+pub mod Flattened
+-- items and the records of their calls
+pub mod Recorded
+-- what one worker ran of lists of jobs
+pub mod ListWork
+-- what all workers ran of them
+pub mod AllLists
+-- what was run, in the order that is rebuilt from what it used
+pub mod Orders

@@ -24,7 +24,8 @@ unfolding notes_of writes_lock
 notes_written k [] s = has-nil k
 notes_written k (Read a x ∷ t) s = notes_written k t s
 notes_written k (Write a x ∷ t) s = dite (ℕ_discrete (lock_of_word a) k)
-    (λ e. subst (λ (l : ℕ). has l (lock_of_word a ∷ locks_of (notes_of t (slice_set s a x))) ≡ true) e (has-join_same (lock_of_word a) (locks_of (notes_of t (slice_set s a x))))
+    (λ e. subst (λ (l : ℕ). has l (lock_of_word a ∷ locks_of (notes_of t (slice_set s a x))) ≡ true) e
+    (has-join_same (lock_of_word a) (locks_of (notes_of t (slice_set s a x))))
     ∙ sym (ap (λ (b : Bool). b || writes_lock k t) (eq-eqb (lock_of_word a) k e)))
     (λ n. has-join_other k (lock_of_word a) (locks_of (notes_of t (slice_set s a x))) (λ e. n (sym e)) ∙ (notes_written k t (slice_set s a x)
     ∙ sym (ap (λ (b : Bool). b || writes_lock k t) (ne_eqb (lock_of_word a) k n))))

@@ -72,4 +72,5 @@ base_between false old mid u = ap (λ (v : View). v.base) (u.undone refl).some.r
 pub within_between : (kept : Bool) (old mid : View) → UndoesUnless kept old mid → (n : ℕ) → All (λ (note : ℕ × ℕ). note.0 < n) old.undo
     → All (λ (note : ℕ × ℕ). note.0 < n) mid.undo
 within_between true old mid u n h = subst (λ (v : View). All (λ (note : ℕ × ℕ). note.0 < n) v.undo) (sym (u.stays refl)) h
-within_between false old mid u n h = subst (λ (l : Notes). All (λ (note : ℕ × ℕ). note.0 < n) l) (sym (u.undone refl).none_left) (λ k d lt. absurd (omega arith))
+within_between false old mid u n h = subst (λ (l : Notes). All (λ (note : ℕ × ℕ). note.0 < n) l) (sym (u.undone refl).none_left)
+    (λ k d lt. absurd (omega arith))

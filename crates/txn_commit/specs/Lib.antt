@@ -1,4 +1,6 @@
 pub mod Uses
 pub mod Attempts
 pub mod Transactions
+pub mod Lists
+pub mod Ordered
 pub mod Inner

@@ -6,9 +6,16 @@
 
 pub mod attempt;
 pub mod laws;
+pub mod list_run;
+mod list_worker;
+pub mod lists;
+pub mod ordered;
 pub mod release;
 pub mod rollback;
 pub mod transaction;
 
 pub use attempt::{Attempt, Halt, Start, UNDO_ROOM};
+pub use list_run::run_lists;
+pub use lists::{Lists, ListsEnd, Ran};
+pub use ordered::{arrange, run_in_order};
 pub use transaction::{Receipt, transact};

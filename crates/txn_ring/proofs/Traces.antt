@@ -137,7 +137,8 @@ module _ (ring : Ring) (n : ℕ) (G : List ℕ → Type 0) (t : Trace) where
             let moved : after w1 s ≡ slice_set (after t s) ring.at ((front + 1) % ring.capacity) =
             was_put r2 w1 ring.at f s (after t s) second.same ends1 ∙ ap (λ z. slice_set (after t s) ring.at z) is_f in
             let last : after w2 s ≡ popped_words ring (after t s) front x = was_put w1 w2 (ring.at + 1) x s _ moved ends2 in
-            let is_count : slice_get (after t s) (ring.at + 1) ≡ Some (x + 1) = seen_count s (fits_read n G v r1 a item.0 s read1 fit_r1) ∙ ap (λ z. Some z) is_x in
+            let is_count : slice_get (after t s) (ring.at + 1) ≡ Some (x + 1)
+            = seen_count s (fits_read n G v r1 a item.0 s read1 fit_r1) ∙ ap (λ z. Some z) is_x in
             subst (λ z. TakesFront ring item z items) (sym last) (popped ring (after t s) items item x front is_count k.there here h);
       }
 

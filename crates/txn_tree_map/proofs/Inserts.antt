@@ -10,5 +10,7 @@ pub mod PutSteps
 pub mod PutCalls
 -- another value at a key that was found
 pub mod Values
+-- another value at a key whose block is known
+pub mod InPlace
 -- what an insert of a new key leads to, writes and reads, in every fitting state at once
 pub mod InsertCalls

@@ -78,7 +78,8 @@ tree_stands map s t f u h e root blocks =
     (at_value map s [] h.tree m f u h) (at_used map s [] h.tree m f u h)
 
 -- it stands too where heads alone are written
-pub at_headed : (map : TreeMap) (s t : List ℕ) (path : Path) (tree : Tree) → HangsAt map path tree s → KeepsOthers (IsHead map.arena) s t → HangsAt map path tree t
+pub at_headed : (map : TreeMap) (s t : List ℕ) (path : Path) (tree : Tree) → HangsAt map path tree s
+    → KeepsOthers (IsHead map.arena) s t → HangsAt map path tree t
 at_headed map s t path tree m kept = at_stays map s t path tree m kept.count (kept.same map.root m.laid.no_head)
     (λ b a k mine. kept.same a (m.laid.arena.outside b a (at_below map s path tree m b k) mine))
 

@@ -7,3 +7,4 @@ pub mod Sums
 pub mod Walks
 pub mod Statements
 pub mod Firsts
+pub mod Stored

@@ -5,9 +5,7 @@ ghost use Rattle.txn_words.specs.Calls.{IsReady, GoesOn, WritesOnly, InEachState
 ghost use Rattle.txn_alloc.specs.EntryMaps.{HasMap, Finds, MayRead};
 ghost use Rattle.txn_tree_map.specs.Trees.{tree_part};
 
-use crate::find::find;
 use crate::map::TreeMap;
-use txn_alloc::arena::VALUE;
 use txn_words::{Stop, Words};
 
 impl TreeMap {
@@ -30,12 +28,9 @@ impl TreeMap {
             ReadsWithin W.Words W.Shape.Shape w.old w.new (MayRead (tree_part self.now) key)) }
         ensures goes_on { GoesOn W.Words w.old w.new result }
     {
-        match find(w, self, key)? {
+        match self.stored(w, key)? {
             None => Ok(None),
-            Some(found) => {
-                let value = w.read(self.arena.place_of(found.block) + VALUE)?;
-                Ok(Some(value))
-            }
+            Some(stored) => Ok(Some(stored.value)),
         }
     }
 }

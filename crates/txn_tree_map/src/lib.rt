@@ -40,6 +40,7 @@ mod find;
 mod first;
 mod get;
 mod hang;
+mod in_place;
 mod insert;
 mod join;
 pub mod laws;
@@ -51,4 +52,5 @@ mod split;
 mod sum;
 mod walk;
 
+pub use in_place::Stored;
 pub use map::TreeMap;

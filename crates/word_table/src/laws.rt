@@ -131,6 +131,6 @@ pub fn step_leads<S: Shape>()
 
 /// The greatest numbers of passes and of words, in digits. All else cites the constants.
 pub fn greatest_sizes()
-    ensures passes { MOST_PASSES ≡ 16 }
+    ensures passes { MOST_PASSES ≡ 32 }
     ensures words { MOST_WORDS ≡ 1048576 }
 {}

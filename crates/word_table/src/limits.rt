@@ -1,7 +1,7 @@
 //! The sizes that a table may have.
 
 /// The most passes that one desk has.
-pub const MOST_PASSES: u32 = 16;
+pub const MOST_PASSES: u32 = 32;
 
 /// The most words that one desk guards.
 pub const MOST_WORDS: u64 = 1_048_576;

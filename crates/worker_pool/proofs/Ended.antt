@@ -1,39 +1,52 @@
 -- All shares of a day, put together.
-use Rattle.std.proofs.Common.{◌≡◌, ◌↔◌, ℕ, ◌+◌, ◌<◌, ◌≤◌, ◌&&◌, ◌==◌, List, ◌∷◌, [], All, flat_map, map, take, length, get_or, slice_get, Some, cond, sym, ap, ◌∙◌, subst, arith}
+use Rattle.std.proofs.Common.{◌≡◌, ◌↔◌, ℕ, ◌+◌, ◌<◌, ◌≤◌, ◌&&◌, ◌==◌, List, ◌∷◌, [], All, flat_map, map, take, length, get_or, slice_get, Some, cond}
+use Rattle.std.proofs.Common.{sym, ap, ◌∙◌, subst, arith}
 use Rattle.std.proofs.Common.{zero-add}
 use Rattle.std.specs.List.{range_with_len}
-use Rattle.std.proofs.lemmas.List.{get_or-map, length-map, take_all}
+use Rattle.std.proofs.lemmas.List.{get_or-map, length-map}
 use Rattle.std.proofs.lemmas.List.Elements.{All-map}
 use Rattle.std.proofs.lemmas.List.FromFn.{get_or-range_with_len, length-range_with_len}
 use Rattle.std.proofs.lemmas.List.Folds.{flat_map-map}
 use mathlib.Core.List.{map-map}
 use Rattle.std.proofs.lemmas.Option.{get_or_from_slice_get, slice_get-get_or, slice_get_within}
 use Rattle.history_model.specs.declared.entry.Entry.{Entry}
+use Rattle.history_model.specs.declared.placed.Spot.{Spot}
 use Rattle.history_model.specs.Fitting.{IsGood}
 use Rattle.history_model.specs.Histories.{replay}
 use Rattle.history_model.specs.Legal.{IsIn}
+use Rattle.history_model.specs.Traces.{after}
+use Rattle.history_model.proofs.ListPlaces.{at_map, below_get, map_at}
+use Rattle.books_model.specs.declared.reply.Reply.{Reply}
 use Rattle.books_model.specs.Laws.{RefusedChangesNothing}
 use Rattle.script_reader.specs.Input.{ClearingInput}
 use Rattle.script_reader.specs.Journal.{Place, IsPlace, IsJournal}
-use Rattle.books_report.specs.Output.{replies_of, books_after}
+use Rattle.books_report.specs.Output.{books_after}
 use Rattle.order_rebuild.specs.Order.{IsOrder, Orderable}
 use Rattle.txn_books.specs.declared.shape.BooksShape.{BooksShape}
 use Rattle.txn_books.specs.Layout.{words_of}
 use Rattle.txn_books.specs.Standing.{IsGoodFor, Stands}
+use Rattle.txn_commit.specs.declared.lists.Ran.{Ran}
+use Rattle.txn_commit.specs.Lists as lists
+use Rattle.txn_commit.specs.Ordered as ordered
+use Rattle.txn_commit.specs.Ordered.{AreAt, IsRunInOrder}
 use Rattle.word_table.specs.Closing.{AreAllPasses, AreRecords, AreSeenBy, ClosedView, IsCoherent, IsLegalInEachOrder}
 use Rattle.word_table.specs.Copies.{PassView}
 use Rattle.word_table.specs.Desks.{DeskView}
 use Rattle.worker_pool.specs.declared.done.Done.{Done}
 use Rattle.worker_pool.specs.declared.worker.Share.{Share}
-use Rattle.worker_pool.specs.Days.{place_of_item, places_of_items, spot_of, AreAt, AreCallersWhole, IsDay}
-use Rattle.worker_pool.specs.Inner.Makers.{AreMadeBy}
-use Rattle.worker_pool.specs.Inner.Workers.{seat_of, share_of, tally_number, AreAllDone, IsDone, Tally}
-use Rattle.worker_pool.proofs.Arranged.{all_arranged, sum_arranged, AreAllPlaces}
-use Rattle.worker_pool.proofs.Gathered.{all_entries, below_all, items_of, keeps_all, made_all, no_two_calls, once_all, only_all, pairs_map, pass_of, seen_flat, sum_over, total_had}
-use Rattle.worker_pool.proofs.Printed.{all_places, can_be_ordered, distinct_there, entries, legal_there, made_there, rebuilt, records_there, rising_there, words_there}
-use Rattle.worker_pool.proofs.Replayed.{runs_to, IsLegalDown, RunsTo}
-use Rattle.worker_pool.proofs.Wholes.{callers_whole}
 use Rattle.worker_pool.specs.Counting.{once_below}
+use Rattle.worker_pool.specs.Days.{place_of_item, places_of_items, spot_of, AreCallersWhole, IsDay}
+use Rattle.worker_pool.specs.Inner.Makers.{AreMadeBy, IsMadeBy}
+use Rattle.worker_pool.specs.Inner.Workers.{seat_of, share_of, tally_number, AreAllDone, IsDone, Tally}
+use Rattle.txn_commit.proofs.Orders.Arranged.{all_arranged, AreAllPlaces}
+use Rattle.txn_commit.proofs.Orders.Once.{pairs_map}
+use Rattle.txn_commit.proofs.Orders.Rebuilt.{all_places, apart_there, as_many_there, can_be_ordered, entries, legal_there, made_there, rebuilt}
+use Rattle.txn_commit.proofs.Orders.Rebuilt.{records_there, rising_there, words_there, AreRunOver}
+use Rattle.worker_pool.proofs.Arranged.{sum_arranged}
+use Rattle.worker_pool.proofs.Gathered.{all_entries, below_all, items_of, keeps_all, made_all, no_two_calls, once_all, only_all, pass_of, read}
+use Rattle.worker_pool.proofs.Gathered.{seen_flat, sum_over, total_had}
+use Rattle.worker_pool.proofs.Replayed.{ran_of, replies_are, stands_after, stands_closed, Means}
+use Rattle.worker_pool.proofs.Wholes.{callers_whole}
 
 abbrev pub share_pass : Share → PassView
 share_pass share = share.pass
@@ -119,34 +132,72 @@ module _ (desk : DeskView BooksShape) (input : ClearingInput) (shares : List Sha
           λ t. (seen_flat ws e).1 ((of_passes e).0 t),
         )
 
-    pub can_order : Orderable (map spot_of given)
-    can_order = can_be_ordered input Good closed desk.shape given (all_entries desk input ws all_worked) (made_all desk input ws all_worked)
-        (keeps_all desk input ws all_worked all.once) (no_two_calls desk input ws numbered all_worked) same_entries coherent legal records
+    made : AreMadeBy desk.shape input (all_entries desk input ws all_worked) given
+    made = made_all desk input ws all_worked
+
+    over : AreRunOver read Good closed given (all_entries desk input ws all_worked)
+    over = record {
+      made = record {
+        as_many = made.as_many;
+        each = λ k x e at_x at_e.
+            let is = (made.each k x e at_x at_e).is_of in
+            record { seat_is = is.seat_is; call_is = is.call_is; uses_are = is.uses_are };
+      };
+      keeps = keeps_all desk input ws all_worked all.once;
+      distinct = no_two_calls desk input ws numbered all_worked;
+      same = same_entries;
+      coherent = coherent;
+      legal = legal;
+      records = records;
+    }
 
     module _ (places : List ℕ) (done : List Done) (order : IsOrder (map spot_of given) places) (at : AreAt given places done)
         (refused : RefusedChangesNothing) (opening : Stands desk.shape desk.base input.books) where
       all_at : AreAllPlaces (length given) places
-      all_at = all_places input Good closed desk.shape given (all_entries desk input ws all_worked) (made_all desk input ws all_worked)
-          (keeps_all desk input ws all_worked all.once) (no_two_calls desk input ws numbered all_worked) same_entries coherent legal records places order
+      all_at = all_places over places order
 
       pub whole_of_all : AreCallersWhole done
       whole_of_all = callers_whole desk input ws all_worked once_had done (λ P h. all_arranged given done places at all_at P h)
 
-      abbrev its_entries : List Entry
-      its_entries = entries input Good closed desk.shape (flat_map items_of ws) (all_entries desk input ws all_worked) (made_all desk input ws all_worked)
-          (keeps_all desk input ws all_worked all.once) (no_two_calls desk input ws numbered all_worked) same_entries coherent legal records places order
+      its_made : (k : ℕ) (x : Done) (e : Entry) → slice_get done k ≡ Some x → slice_get (entries over places order) k ≡ Some e
+          → IsMadeBy desk.shape input e x
+      its_made = made_there over places order done at (λ x e. IsMadeBy desk.shape input e x) made.each
 
-      its_made : AreMadeBy desk.shape input its_entries done
-      its_made = made_there input Good closed desk.shape given (all_entries desk input ws all_worked) (made_all desk input ws all_worked)
-          (keeps_all desk input ws all_worked all.once) (no_two_calls desk input ws numbered all_worked) same_entries coherent legal records places order done at
-
-      its_legal : IsLegalDown Good closed.base its_entries
-      its_legal = legal_there input Good closed desk.shape (flat_map items_of ws) (all_entries desk input ws all_worked) (made_all desk input ws all_worked)
-          (keeps_all desk input ws all_worked all.once) (no_two_calls desk input ws numbered all_worked) same_entries coherent legal records places order
-
-      its_words : closed.words ≡ replay closed.base its_entries
-      its_words = words_there input Good closed desk.shape (flat_map items_of ws) (all_entries desk input ws all_worked) (made_all desk input ws all_worked)
-          (keeps_all desk input ws all_worked all.once) (no_two_calls desk input ws numbered all_worked) same_entries coherent legal records places order
+      its_run : IsRunInOrder Good (Means input desk.shape) closed (map ran_of done)
+      its_run =
+          let down = legal_there over places order in
+          let its = λ (k : ℕ) (ran : Ran Reply) (e : Entry) (at_ran : slice_get (map ran_of done) k ≡ Some ran).
+          map_at ran_of done k ran at_ran in
+          record {
+            rebuilt = record {
+              given = map ran_of given;
+              places = places;
+              orderable = subst Orderable (sym (map-map ordered.spot_of ran_of given)) (can_be_ordered over);
+              order = subst (λ (l : List Spot). IsOrder l places) (sym (map-map ordered.spot_of ran_of given)) order;
+              are = record {
+                count = length-map done ran_of ∙ at.count;
+                each = λ i p e.
+                    let x = below_get p given (all_at.within i p e) in
+                    at_map ran_of done i x.0 (at.each i p e ∙ x.1) ∙ sym (at_map ran_of given p x.0 x.1);
+              };
+            };
+            entries = entries over places order;
+            as_many = length-map done ran_of ∙ as_many_there over places order done at;
+            of_items = λ k ran e at_ran at_e.
+                let x = its k ran e at_ran in
+                let is = (its_made k x.0 e x.1 at_e).is_of in
+                subst (λ (r : Ran Reply). lists.IsEntryOf r e) x.2
+                (record { seat_is = is.seat_is; call_is = is.call_is; restarts_are = is.restarts_are; uses_are = is.uses_are });
+            of_records = records_there over places order;
+            good_words = λ k le. down.good_before k;
+            legal = down.trace_legal;
+            meaning = λ k ran e at_ran at_e.
+                let x = its k ran e at_ran in
+                subst (λ (r : Ran Reply). Means input desk.shape r.caller r.index (replay closed.base (take k (entries over places order))) e.kept r.answer
+                (after e.trace (replay closed.base (take k (entries over places order))))) x.2
+                ((its_made k x.0 e x.1 at_e).meaning _ (down.good_before k) (down.trace_legal k e at_e));
+            words = words_there over places order;
+          }
 
       its_journal : IsJournal input (places_of_items done)
       its_journal = record {
@@ -157,66 +208,54 @@ module _ (desk : DeskView BooksShape) (input : ClearingInput) (shares : List Sha
             sum_over test place_of_item done ∙ (sum_arranged given done places at all_at (λ item. test (place_of_item item))
             ∙ (sym (sum_over test place_of_item given) ∙ once_all desk input ws all_worked all.once p there));
         rising = pairs_map (λ (p q : Place). p.caller ≡ q.caller → p.index < q.index) place_of_item done
-            (rising_there input Good closed desk.shape given (all_entries desk input ws all_worked) (made_all desk input ws all_worked)
-            (keeps_all desk input ws all_worked all.once) (no_two_calls desk input ws numbered all_worked) same_entries coherent legal records places order done at);
+            (rising_there over places order done at);
       }
 
       pub day_of_all : IsDay input closed done
+      unfolding its_run
       day_of_all =
-          let n : ℕ = length done in
           let begun : Stands desk.shape closed.base input.books = subst (λ (b : List ℕ). Stands desk.shape b input.books) (sym base) opening in
-          let to : (k : ℕ) → k ≤ n → RunsTo desk.shape closed.base input its_entries done k =
-          runs_to refused desk.shape closed.base input its_entries done begun its_legal its_made in
-          let whole : take n done ≡ done = take_all n done (omega arith) in
-          let seen_all : take n its_entries ≡ its_entries = take_all n its_entries (omega (arith, its_made.as_many)) in
-          let end = to n (omega arith) in
-          let at_end : Stands desk.shape (replay closed.base its_entries) (books_after input input.books (places_of_items done)) =
-          subst (λ (h : List Entry). Stands desk.shape (replay closed.base h) (books_after input input.books (places_of_items done))) seen_all
-          (subst (λ (l : List Done). Stands desk.shape (replay closed.base (take n its_entries)) (books_after input input.books (places_of_items l))) whole end.stands) in
           record {
-            rebuilt = rebuilt input Good closed desk.shape given (all_entries desk input ws all_worked) (made_all desk input ws all_worked)
-                (keeps_all desk input ws all_worked all.once) (no_two_calls desk input ws numbered all_worked) same_entries coherent legal records places order done at;
-            entries = its_entries;
-            of_items = record { as_many = its_made.as_many; each = λ k item entry at_item at_entry. (its_made.each k item entry at_item at_entry).is_of };
-            of_records = records_there input Good closed desk.shape given (all_entries desk input ws all_worked) (made_all desk input ws all_worked)
-                (keeps_all desk input ws all_worked all.once) (no_two_calls desk input ws numbered all_worked) same_entries coherent legal records places order;
-            distinct = distinct_there input Good closed desk.shape given (all_entries desk input ws all_worked) (made_all desk input ws all_worked)
-                (keeps_all desk input ws all_worked all.once) (no_two_calls desk input ws numbered all_worked) same_entries coherent legal records places order done at;
-            legal = its_legal.trace_legal;
-            words = its_words;
+            rebuilt = rebuilt over places order done at;
+            entries = entries over places order;
+            of_items = record {
+              as_many = as_many_there over places order done at;
+              each = λ k item entry at_item at_entry. (its_made k item entry at_item at_entry).is_of;
+            };
+            of_records = records_there over places order;
+            distinct = apart_there over places order done at;
+            legal = (legal_there over places order).trace_legal;
+            words = words_there over places order;
             journal = its_journal;
             below = subst (λ (m : ℕ). All (λ (item : Done). item.restarts < m) done) (sym seats)
                 (all_arranged given done places at all_at (λ (item : Done). item.restarts < desk.seats) (below_all desk input ws all_worked));
-            replies = subst (λ (l : List Done). map (λ (item : Done). item.reply) l ≡ replies_of input input.books (places_of_items l)) whole end.replies;
-            stands = λ k le. subst (λ (s : BooksShape). Stands s (replay closed.base (take k its_entries)) (books_after input input.books (places_of_items (take k done))))
-                (sym shape) (to k le).stands;
+            replies = replies_are input desk.shape refused closed done its_run begun;
+            stands = λ k le. subst (λ (s : BooksShape). Stands s (replay closed.base (take k (entries over places order)))
+                (books_after input input.books (places_of_items (take k done))))
+                (sym shape) (stands_after input desk.shape refused closed done its_run begun k le);
             left = subst (λ (s : BooksShape). Stands s closed.words (books_after input input.books (places_of_items done))) (sym shape)
-                (subst (λ w. Stands desk.shape w (books_after input input.books (places_of_items done))) (sym its_words) at_end);
+                (stands_closed input desk.shape refused closed done its_run begun);
           }
 
-    -- the same of the items as they were gathered
-    module _ (gathered : List Done) (gathered_are : gathered ≡ flat_map share_items shares) where
+    -- the same of the items as they were gathered, of which a slice was put in order
+    module _ (gathered slice : List Done) (gathered_are : gathered ≡ flat_map share_items shares) (slice_is : slice ≡ gathered) (places : List ℕ)
+        (told : Orderable (map spot_of slice) → IsOrder (map spot_of slice) places) where
       its_given : given ≡ gathered
       its_given = sym (gathered_are ∙ (ap (flat_map share_items) (sym all.are) ∙ flat_map-map share_items share_of ws))
 
-      pub gathered_order : Orderable (map spot_of gathered)
-      gathered_order = subst (λ l. Orderable (map spot_of l)) its_given can_order
+      order_given : IsOrder (map spot_of given) places
+      order_given = subst (λ (l : List Done). Orderable (map spot_of l) → IsOrder (map spot_of l) places) (slice_is ∙ sym its_given) told (can_be_ordered over)
 
-      module _ (places : List ℕ) (order : IsOrder (map spot_of gathered) places) where
-        pub order_given : IsOrder (map spot_of given) places
-        order_given = subst (λ l. IsOrder (map spot_of l) places) (sym its_given) order
+      pub gathered_places : AreAllPlaces (length gathered) places
+      gathered_places = subst (λ (l : List Done). AreAllPlaces (length l) places) its_given (all_places over places order_given)
 
-        pub gathered_places : AreAllPlaces (length gathered) places
-        gathered_places = subst (λ l. AreAllPlaces (length l) places) its_given
-            (all_places input Good closed desk.shape given (all_entries desk input ws all_worked) (made_all desk input ws all_worked)
-            (keeps_all desk input ws all_worked all.once) (no_two_calls desk input ws numbered all_worked) same_entries coherent legal records places order_given)
+      module _ (done : List Done) (at : AreAt gathered places done) (refused : RefusedChangesNothing)
+          (opening : Stands desk.shape desk.base input.books) where
+        at_given : AreAt given places done
+        at_given = subst (λ (l : List Done). AreAt l places done) (sym its_given) at
 
-        module _ (done : List Done) (at : AreAt gathered places done) (refused : RefusedChangesNothing) (opening : Stands desk.shape desk.base input.books) where
-          at_given : AreAt given places done
-          at_given = subst (λ l. AreAt l places done) (sym its_given) at
+        pub gathered_day : IsDay input closed done
+        gathered_day = day_of_all places done order_given at_given refused opening
 
-          pub gathered_day : IsDay input closed done
-          gathered_day = day_of_all places done order_given at_given refused opening
-
-          pub gathered_whole : AreCallersWhole done
-          gathered_whole = whole_of_all places done order_given at_given refused opening
+        pub gathered_whole : AreCallersWhole done
+        gathered_whole = whole_of_all places done order_given at_given refused opening

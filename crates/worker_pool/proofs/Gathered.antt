@@ -1,18 +1,17 @@
 -- What all workers did, put together, share by share.
-use Rattle.std.proofs.Common.{◌≡◌, ℕ, zero, suc, ◌+◌, ◌<◌, ◌≤◌, ◌&&◌, ◌==◌, ◌↔◌, ◌⊎◌, inl, inr, ⊎_elim, List, [], ◌∷◌, ◌++◌, All, AllPairs, map, flat_map, length}
-use Rattle.std.proofs.Common.{get_or, slice_get, Some, count_by, nat_lt, refl, sym, ap, ◌∙◌, subst, arith, cond, length-append}
+use Rattle.std.proofs.Common.{◌≡◌, ℕ, zero, suc, ◌+◌, ◌<◌, ◌≤◌, ◌&&◌, ◌==◌, ◌↔◌, List, [], ◌∷◌, ◌++◌, All, AllPairs, map}
+use Rattle.std.proofs.Common.{flat_map, length}
+use Rattle.std.proofs.Common.{get_or, count_by, nat_lt, refl, sym, ap, ◌∙◌, subst, arith, cond}
 use Rattle.std.specs.Prelude.{sum_by}
 use Rattle.std.proofs.lemmas.List.Concat.{flat_map-cons}
-use Rattle.std.proofs.lemmas.List.Elements.{All-nil, All-append, All-head, All-map, All-tail, All-weaker}
+use Rattle.std.proofs.lemmas.List.Elements.{All-nil, All-append, All-head, All-tail, All-weaker}
 use Rattle.std.proofs.lemmas.List.Kept.{AllPairs-cons}
 use Rattle.std.proofs.lemmas.List.Sums.{sum_by-append, sum_by-cons}
-use Rattle.std.proofs.lemmas.Option.{get_or_from_slice_get, slice_get-get_or, slice_get_within}
+use Rattle.std.proofs.lemmas.Option.{same_Some, slice_get-get_or}
 use Rattle.std.proofs.lemmas.Bool.Decides.{nat_tests}
-use mathlib.Core.Logic.{dite}
-use native.Mathlib.Decide.{dec_lt}
 use Rattle.history_model.specs.declared.entry.Entry.{Entry}
 use Rattle.history_model.specs.Legal.{IsIn}
-use Rattle.values_rule.proofs.Members.{in_first, in_second}
+use Rattle.history_model.proofs.ListPlaces.{at_map, map_at}
 use Rattle.script_reader.specs.Input.{ClearingInput}
 use Rattle.script_reader.specs.Journal.{Place, IsPlace}
 use Rattle.txn_books.specs.declared.shape.BooksShape.{BooksShape}
@@ -20,9 +19,11 @@ use Rattle.word_table.specs.Copies.{PassView}
 use Rattle.word_table.specs.Desks.{DeskView}
 use Rattle.worker_pool.specs.declared.done.Done.{Done}
 use Rattle.worker_pool.specs.Counting.{once_below}
-use Rattle.worker_pool.specs.Days.{place_of_item, places_of_items}
-use Rattle.worker_pool.specs.Inner.Makers.{AreMadeBy}
+use Rattle.worker_pool.specs.Days.{place_of_item, places_of_items, spot_of}
+use Rattle.worker_pool.specs.Inner.Makers.{AreMadeBy, IsMadeBy}
 use Rattle.worker_pool.specs.Inner.Workers.{tally_number, IsDone, Tally}
+use Rattle.txn_commit.proofs.Flattened.{beside_flat, in_flat, into_flat, of_in, AreBeside}
+use Rattle.txn_commit.proofs.Orders.Rebuilt.{apart_places, AreApart, Readings}
 use Rattle.worker_pool.proofs.Running.{among_had, one_if}
 
 abbrev pub items_of : Tally → List Done
@@ -69,12 +70,6 @@ all_flat : {X Y : Type 0} (P : Y → Type 0) (f : X → List Y) (xs : List X) �
 all_flat P f [] all = All-nil P
 all_flat P f (x ∷ xs) all = subst (λ l. All P l) (sym (flat_map-cons f x xs))
     (All-append P (f x) (flat_map f xs) (All-head (λ y. All P (f y)) x xs all) (all_flat P f xs (All-tail (λ y. All P (f y)) x xs all)))
-
--- the pairs of a list of images
-pub pairs_map : {X Y : Type 0} (R : Y → Y → Type 0) (f : X → Y) (xs : List X) → AllPairs (λ x y. R (f x) (f y)) xs → AllPairs R (map f xs)
-pairs_map R f [] pairs = λ i j d lt short. absurd (omega arith)
-pairs_map R f (x ∷ xs) pairs = AllPairs-cons R (f x) (map f xs) (All-map (R (f x)) f xs (λ k d lt. pairs 0 (suc k) d (omega arith) (omega arith)))
-    (pairs_map R f xs (λ i j d lt short. pairs (suc i) (suc j) d (omega arith) (omega arith)))
 
 -- the order that the workers' lists keep: of one caller the items rise, and are later and later calls of one seat
 abbrev pub InOrder : Done → Done → Type 0
@@ -127,60 +122,26 @@ in_order_all (w ∷ ws) pairs among once =
 abbrev pub seen_by : Tally → List Entry
 seen_by tally = tally.share.pass.view.seen
 
--- what stands at a place of two lists that were put together: it stands in the first, or in the second
-pub either_place : {X Y : Type 0} (ps qs : List X) (us vs : List Y) → length ps ≡ length us → (k : ℕ) (x : X) (y : Y)
-    → slice_get (ps ++ qs) k ≡ Some x → slice_get (us ++ vs) k ≡ Some y
-    → ((slice_get ps k ≡ Some x) × (slice_get us k ≡ Some y))
-    ⊎ ((j : ℕ) × ((slice_get qs j ≡ Some x) × (slice_get vs j ≡ Some y)))
-either_place [] qs [] vs same k x y at_x at_y = inr (k, (at_x, at_y))
-either_place [] qs (u ∷ us) vs same k x y at_x at_y = absurd (omega (arith, same))
-either_place (p ∷ ps) qs [] vs same k x y at_x at_y = absurd (omega (arith, same))
-either_place (p ∷ ps) qs (u ∷ us) vs same zero x y at_x at_y = inl (at_x, at_y)
-either_place (p ∷ ps) qs (u ∷ us) vs same (suc k) x y at_x at_y = either_place ps qs us vs (omega (arith, same)) k x y at_x at_y
-
--- entries and items of two, put together
-made_both : (shape : BooksShape) (input : ClearingInput) (es fs : List Entry) (ds gs : List Done)
-    → AreMadeBy shape input es ds → AreMadeBy shape input fs gs → AreMadeBy shape input (es ++ fs) (ds ++ gs)
-made_both shape input es fs ds gs first second = record {
-  as_many = omega (arith, first.as_many, second.as_many, length-append ds gs, length-append es fs);
-  each = λ k x e at_x at_e. ⊎_elim (λ t. first.each k x e t.0 t.1) (λ t. second.each t.0 x e t.1.0 t.1.1)
-      (either_place ds gs es fs first.as_many k x e at_x at_e);
-}
-
+-- all items beside their entries
 made_flat : (shape : BooksShape) (input : ClearingInput) (ws : List Tally)
     → All (λ (w : Tally). AreMadeBy shape input (seen_by w) (items_of w)) ws
     → AreMadeBy shape input (flat_map seen_by ws) (flat_map items_of ws)
-made_flat shape input [] all = record { as_many = refl; each = λ k x e at there. absurd (cc) }
-made_flat shape input (w ∷ ws) all =
-    subst (λ (l : List Entry). AreMadeBy shape input l (flat_map items_of (w ∷ ws))) (sym (flat_map-cons seen_by w ws))
-    (subst (λ (l : List Done). AreMadeBy shape input (seen_by w ++ flat_map seen_by ws) l) (sym (flat_map-cons items_of w ws))
-    (made_both shape input (seen_by w) (flat_map seen_by ws) (items_of w) (flat_map items_of ws)
-    (All-head (λ (v : Tally). AreMadeBy shape input (seen_by v) (items_of v)) w ws all)
-    (made_flat shape input ws (All-tail (λ (v : Tally). AreMadeBy shape input (seen_by v) (items_of v)) w ws all))))
+made_flat shape input ws all = record { as_many = beside.as_many; each = beside.each }
+  where
+    beside : AreBeside (λ item e. IsMadeBy shape input e item) (flat_map items_of ws) (flat_map seen_by ws)
+    beside = beside_flat (λ item e. IsMadeBy shape input e item) items_of seen_by ws ws refl (λ k v w at_v at_w.
+        let made = of_in (λ (x : Tally). AreMadeBy shape input (seen_by x) (items_of x)) ws all v (k, at_v) in
+        subst (λ (x : Tally). AreBeside (λ item e. IsMadeBy shape input e item) (items_of v) (seen_by x)) (same_Some v w (sym at_v ∙ at_w))
+        (record { as_many = made.as_many; each = made.each }))
 
 -- an entry is among those of all shares exactly where some pass has seen it
-in_append : {X : Type 0} (xs ys : List X) (x : X) → IsIn x (xs ++ ys) → IsIn x xs ⊎ IsIn x ys
-in_append [] ys x h = inr h
-in_append (z ∷ xs) ys x (zero, e) = inl (0, e)
-in_append (z ∷ xs) ys x (suc i, e) = ⊎_elim (λ t. inl (suc t.0, t.1)) (λ t. inr t) (in_append xs ys x (i, e))
-
 pub seen_flat : (ws : List Tally) (e : Entry) → IsIn e (flat_map seen_by ws) ↔ ((pass : PassView) × (IsIn pass (map pass_of ws) × IsIn e pass.view.seen))
-seen_flat [] e = (λ h. absurd (cc (h.1)), λ h. absurd (cc (h.1.0.1)))
-seen_flat (w ∷ ws) e = (
-  λ h. ⊎_elim (λ t. (w.share.pass, ((0, refl), t)))
-      (λ t. let r = (seen_flat ws e).0 t in (r.0, ((suc r.1.0.0, r.1.0.1), r.1.1)))
-      (in_append (seen_by w) (flat_map seen_by ws) e (subst (λ (l : List Entry). IsIn e l) (flat_map-cons seen_by w ws) h)),
-  λ h. subst (λ (l : List Entry). IsIn e l) (sym (flat_map-cons seen_by w ws)) (back (λ p t s. (seen_flat ws e).1 (p, (t, s))) h.0 h.1.0 h.1.1),
+seen_flat ws e = (
+  λ t. let r = in_flat seen_by ws e t in (r.1.share.pass, ((r.0, at_map pass_of ws r.0 r.1 r.2), r.3)),
+  λ t.
+      let m = map_at pass_of ws t.1.0.0 t.0 t.1.0.1 in
+      into_flat seen_by ws e t.1.0.0 m.0 m.1 (subst (λ (pass : PassView). IsIn e pass.view.seen) (sym m.2) t.1.1),
 )
-  where
-    same_pass : (p q : PassView) → Some p ≡ Some q → p ≡ q
-    same_pass p q s = cc
-
-    back : ((p : PassView) → IsIn p (map pass_of ws) → IsIn e p.view.seen → IsIn e (flat_map seen_by ws))
-        → (p : PassView) → IsIn p (map pass_of (w ∷ ws)) → IsIn e p.view.seen → IsIn e (seen_by w ++ flat_map seen_by ws)
-    back rest p (zero, at) t = in_first (seen_by w) (flat_map seen_by ws) e
-        (subst (λ (q : PassView). IsIn e q.view.seen) (sym (same_pass w.share.pass p at)) t)
-    back rest p (suc i, at) t = in_second (seen_by w) (flat_map seen_by ws) e (rest p (i, at) t)
 
 module _ (desk : DeskView BooksShape) (input : ClearingInput) (ws : List Tally) (worked : All (IsDone desk input) ws) where
   abbrev pub all_items : List Done
@@ -256,23 +217,12 @@ calls_apart desk input (w ∷ ws) a numbered each =
       subst (AllPairs LaterCall) (sym (flat_map-cons items_of w ws)) (pairs-append LaterCall (items_of w) (flat_map items_of ws) own rest.1 cross),
     )
 
--- of two places of a list in pairs, the first is related to the second, or the second to the first, or they are one
-pub by_place : {X : Type 0} (R : X → X → Type 0) (xs : List X) → AllPairs R xs → (p q : ℕ) (x y : X)
-    → slice_get xs p ≡ Some x → slice_get xs q ≡ Some y → p < q → R x y
-by_place {X = X} R xs all p q x y at_x at_y lt =
-    let within = slice_get_within xs q y at_y in
-    let here : get_or xs p x ≡ x = get_or_from_slice_get xs p x x at_x in
-    let there : get_or xs q x ≡ y = get_or_from_slice_get xs q y x at_y in
-    subst (λ (z : X). R z y) here (subst (λ (z : X). R (get_or xs p x) z) there (all p q x lt within))
+-- how an item is read
+abbrev pub read : Readings Done
+read = record { spot = spot_of; seat = λ item. item.seat; call = λ item. item.call }
 
 pub no_two_calls : (desk : DeskView BooksShape) (input : ClearingInput) (ws : List Tally)
     → ((k : ℕ) (d : Tally) → k < length ws → tally_number (get_or ws k d) ≡ 0 + k) → All (IsDone desk input) ws
-    → (p q : ℕ) (x y : Done) → slice_get (flat_map items_of ws) p ≡ Some x → slice_get (flat_map items_of ws) q ≡ Some y
-    → x.seat ≡ y.seat → x.call ≡ y.call → p ≡ q
-no_two_calls desk input ws numbered each p q x y at_x at_y seat call =
-    let pairs = (calls_apart desk input ws 0 numbered each).1 in
-    dite (dec_lt p q)
-    (λ lt. absurd (omega (arith, by_place LaterCall (flat_map items_of ws) pairs p q x y at_x at_y lt seat, call)))
-    (λ no. dite (dec_lt q p)
-    (λ lt. absurd (omega (arith, by_place LaterCall (flat_map items_of ws) pairs q p y x at_y at_x lt (sym seat), call)))
-    (λ none. omega (arith, no, none)))
+    → AreApart read (flat_map items_of ws)
+no_two_calls desk input ws numbered each = apart_places read (flat_map items_of ws) (λ i j d lt short seat call.
+    absurd (omega (arith, (calls_apart desk input ws 0 numbered each).1 i j d lt short seat, call)))

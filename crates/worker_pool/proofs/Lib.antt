@@ -22,20 +22,18 @@ pub mod Yielded
 pub mod Apart
 -- new passes, one after another, and the workers that get them
 pub mod Seating
--- what stands at places, each of which stands there once
+-- a sum over what stands at places, each of which stands there once
 pub mod Arranged
 -- a call of a pass, and its item
 pub mod Making
 -- one script more of a caller, and one caller more
 pub mod Running
--- items in an order, each beside its entry
+-- the interpreter, run down the items of a day
 pub mod Replayed
 -- what all workers did, put together: the day
 pub mod Gathered
 -- of each caller all items are of one seat
 pub mod Wholes
--- the items in the order that is rebuilt from their uses, beside their entries
-pub mod Printed
 -- all shares of a day, put together
 pub mod Ended
 -- what the workers leave, and the last round

@@ -1,5 +1,6 @@
 -- A call of a pass, and its item.
-use Rattle.std.proofs.Common.{◌≡◌, ℕ, ◌+◌, ◌<◌, List, [], ◌∷◌, ◌++◌, All, length, slice_get, Some, ◌⊎◌, inl, inr, ⊎_elim, sym, ap, ◌∙◌, subst, arith, length-append}
+use Rattle.std.proofs.Common.{◌≡◌, ℕ, ◌+◌, ◌<◌, List, [], ◌∷◌, ◌++◌, All, length, slice_get, Some, ◌⊎◌, inl, inr, ⊎_elim, sym, ap, ◌∙◌, subst, arith}
+use Rattle.std.proofs.Common.{length-append}
 use Rattle.std.proofs.lemmas.List.Elements.{All-nil, All-push}
 use Rattle.std.proofs.lemmas.Option.{slice_get_within}
 use Rattle.history_model.specs.declared.entry.Entry.{Entry}
@@ -78,7 +79,8 @@ module _ (desk : DeskView BooksShape) (input : ClearingInput) where
       seats = subst (λ (l : List Done). All (λ x. x.seat ≡ who) l) (sym is) (All-push (λ (x : Done). x.seat ≡ who) done item h.seats its.seat);
       numbers = λ k x at. ⊎_elim (λ t. h.numbers k x t.0)
           (λ t. ap (λ (y : Done). y.call) (sym t.1.0) ∙ omega (arith, its.call, gets.call_is.1, its_call, h.calls, t.0))
-          (one_more done done item x item x (λ i. length done) k (ap (λ (l : List Done). slice_get l k) (sym is) ∙ at) (ap (λ (l : List Done). slice_get l k) (sym is) ∙ at));
+          (one_more done done item x item x (λ i. length done) k (ap (λ (l : List Done). slice_get l k) (sym is)
+          ∙ at) (ap (λ (l : List Done). slice_get l k) (sym is) ∙ at));
       made = subst (λ (l : List Done). AreMadeBy desk.shape input next.view.seen l) (sym is)
           (subst (λ (s : List Entry). AreMadeBy desk.shape input s (done ++ item ∷ [])) (sym now)
           (one_more_made done (subst (λ (s : List Entry). AreMadeBy desk.shape input s done) was h.made)));

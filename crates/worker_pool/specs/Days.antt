@@ -6,7 +6,6 @@ use Rattle.history_model.specs.Histories.{replay}
 use Rattle.history_model.specs.Legal.{IsIn}
 use Rattle.history_model.specs.Traces.{IsLegalTrace}
 use Rattle.locks_rule.specs.Splits.{opening_view}
-use Rattle.order_rebuild.specs.Order.{IsOrder, Orderable}
 use Rattle.word_table.specs.Closing.{ClosedView}
 use Rattle.word_table.specs.Copies.{PassView}
 use Rattle.word_table.specs.Desks.{DeskView}
@@ -15,6 +14,7 @@ use Rattle.script_reader.specs.Journal.{Place, IsJournal}
 use Rattle.books_report.specs.Output.{replies_of, books_after}
 use Rattle.txn_books.specs.declared.shape.BooksShape.{BooksShape}
 use Rattle.txn_books.specs.Standing.{Stands}
+use Rattle.txn_commit.specs.Ordered as ordered
 use Rattle.txn_commit.specs.Uses.{ListsUses}
 use Rattle.worker_pool.specs.declared.done.Done.{Done}
 
@@ -48,18 +48,9 @@ pub record AreEntriesOf (done : List Done) (entries : List Entry) : Type 0 where
 abbrev pub spot_of : Done → Spot
 spot_of item = record { caller = item.caller; index = item.index; uses = item.uses.items }
 
--- the second list is what stands at the places in the first
-pub record AreAt {X : Type 0} (xs : List X) (places : List ℕ) (ys : List X) : Type 0 where
-  pub count : length ys ≡ length places
-  pub each : (i p : ℕ) → slice_get places i ≡ Some p → slice_get ys i ≡ slice_get xs p
-
 -- the items stand in the order that is rebuilt from what they used
-pub record IsRebuilt (done : List Done) : Type 0 where
-  pub given : List Done
-  pub places : List ℕ
-  pub orderable : Orderable (map spot_of given)
-  pub order : IsOrder (map spot_of given) places
-  pub are : AreAt given places done
+abbrev pub IsRebuilt : List Done → Type 0
+IsRebuilt done = ordered.IsRebuilt spot_of done
 
 -- each caller was run whole by one worker: any two items of one caller are of one seat
 abbrev pub AreCallersWhole : List Done → Type 0

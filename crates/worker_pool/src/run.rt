@@ -1,6 +1,6 @@
 //! All workers of a day: a thread for each pass, and what they leave.
 
-ghost use Rattle.std.specs.Prelude.{ℕ, ◌≡◌, ◌<◌, ◌≤◌, ◌+◌, ◌*◌, ◌++◌, ◌∷◌, [], length, map, flat_map, slice_get, All, Some, false, IfOk, OnOk};
+ghost use Rattle.std.specs.Prelude.{ℕ, ◌≡◌, ◌<◌, ◌≤◌, ◌+◌, ◌*◌, ◌++◌, ◌∷◌, [], length, map, flat_map, All, false, IfOk, OnOk};
 ghost use Rattle.std.specs.List.{range_with_len};
 ghost use Rattle.crossbeam_utils.specs.Padded.{padded_value};
 ghost use Rattle.history_model.specs.Fitting.{IsGood};
@@ -9,7 +9,7 @@ ghost use Rattle.txn_books.specs.Layout.{shape_of, words_of};
 ghost use Rattle.txn_books.specs.Standing.{IsGoodFor, Stands, StandsFor};
 ghost use Rattle.worker_pool.specs.declared.rule.TheConstants.{ALL_PARTS};
 ghost use Rattle.worker_pool.specs.Counting.{times};
-ghost use Rattle.worker_pool.specs.Days.{AreAllNew, AreAt, AreCallersWhole, IsDay};
+ghost use Rattle.worker_pool.specs.Days.{AreAllNew, AreCallersWhole, IsDay};
 ghost use Rattle.word_table.specs.Closing.{AreRecords, IsCoherent, IsLegalInEachOrder};
 ghost use Rattle.worker_pool.specs.Inner.Dealing.{AreDealtInTurn, AreShown, IsFree, IsNewRow};
 ghost use Rattle.worker_pool.specs.Inner.Makers.{HasMade, RunsEach};
@@ -33,6 +33,7 @@ use std::sync::Wait;
 use std::thread;
 use std::thread::Threads;
 use txn_books::BooksShape;
+use txn_commit::arrange;
 use word_table::{Desk, Pass};
 use worker_gate::Gate;
 
@@ -287,27 +288,6 @@ fn join_shares(
         add_share(share, &mut passes, &mut all)?;
     }
     Ok((passes, all))
-}
-
-// The items at the places, in their order.
-fn arrange(alloc: Global, done: Vec<Done>, places: &[usize]) -> Result<Vec<Done>, OutOfMemory>
-    requires within { (i p : ℕ) → slice_get places.now i ≡ Some p → p < length done.items }
-    requires once { (i j p : ℕ) → slice_get places.now i ≡ Some p
-        → slice_get places.now j ≡ Some p → i ≡ j }
-    ensures { IfOk result (λ arranged. AreAt done.items places.now arranged.items) }
-{
-    let mut left = Vec::with_capacity(alloc, done.len())?;
-    for item in done {
-        left.push(Some(item))?;
-    }
-    let mut arranged = Vec::with_capacity(alloc, places.len())?;
-    for &place in places {
-        let Some(item) = left[place].take() else {
-            unreachable!()
-        };
-        arranged.push(item)?;
-    }
-    Ok(arranged)
 }
 
 // Closes the table, and puts the items in the order that is rebuilt from what they used.

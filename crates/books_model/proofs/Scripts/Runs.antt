@@ -73,7 +73,8 @@ module _ (p : Part) (rest : List Part) (whole : Run) (values : List Value) (k : 
   part_stops stop is = sym (from_part (Stops stop) is)
 
 -- the run ends where no part is left
-pub parts_end : (whole : Run) (values : List Value) (k : ℕ) (books : ClearingBooks) → after_values values (run_parts k [] books) ≡ whole → whole ≡ Ends values books
+pub parts_end : (whole : Run) (values : List Value) (k : ℕ) (books : ClearingBooks)
+    → after_values values (run_parts k [] books) ≡ whole → whole ≡ Ends values books
 parts_end whole values k books so_far = sym so_far ∙ after_values-ends values books
 
 -- one value in front of a run

@@ -52,7 +52,8 @@ length-add_name most names name true room few = few
 length-add_name most names name false room few = omega (arith, room refl, length-append names (name ∷ []))
 
 -- callers with one more script
-pub callers_more : (version : Version) (books : ClearingBooks) (callers : List Caller) (s : Submission) → AreCallersOf version books callers → IsName s.caller → IsScriptOf version books s.script
+pub callers_more : (version : Version) (books : ClearingBooks) (callers : List Caller) (s : Submission) → AreCallersOf version books callers → IsName s.caller
+    → IsScriptOf version books s.script
     → count_scripts callers < MOST_SCRIPTS → (is_caller s.caller callers ≡ false → length callers < MOST_CALLERS)
     → AreCallersOf version books (add_submission callers s)
 callers_more version books callers s h name script room space = record {
@@ -73,7 +74,8 @@ callers_more version books callers s h name script room space = record {
   few_scripts = omega (arith, count-add callers s);
   names = All-from_recursion _ _ (all-add (λ c. IsName c.name) s (λ c n. n) name callers (recursion_from_All _ _ h.names));
   names_differ = subst (IsDistinct bytes_eq) (sym (names-add callers s)) (add_name-distinct (map (λ c. c.name) callers) s.caller h.names_differ);
-  scripts = All-from_recursion _ _ (all-add (λ c. All (IsScriptOf version books) c.scripts) s (λ c all. All-push (IsScriptOf version books) c.scripts s.script all script)
+  scripts = All-from_recursion _ _ (all-add (λ c. All (IsScriptOf version books) c.scripts) s
+      (λ c all. All-push (IsScriptOf version books) c.scripts s.script all script)
       (All-push (IsScriptOf version books) [] s.script (λ k d less. absurd (omega arith)) script) callers (recursion_from_All _ _ h.scripts));
   some_scripts = All-from_recursion _ _
       (all-add (λ c. 1 ≤ length c.scripts) s (λ c some. omega (arith, some, length-append c.scripts (s.script ∷ [])))
@@ -102,7 +104,8 @@ good-add version books [] s all = (tt, record { name = all.0.name; script = all.
 good-add version books (c ∷ callers) s all = by (bytes_eq s.caller c.name) refl all (good-add version books callers s)
   where
     by : (b : Bool) → bytes_eq s.caller c.name ≡ b
-        → AllByRecursion (IsGood version books) (if b then record { name = c.name; scripts = c.scripts ++ s.script ∷ [] } ∷ callers else c ∷ add_submission callers s)
+        → AllByRecursion (IsGood version books) (if b then record { name = c.name; scripts = c.scripts ++ s.script ∷ [] } ∷ callers else c
+        ∷ add_submission callers s)
         → (AllByRecursion (IsGood version books) (add_submission callers s) → AllByRecursion (IsGood version books) callers × IsGoodScript version books s)
         → AllByRecursion (IsGood version books) (c ∷ callers) × IsGoodScript version books s
     by true e all rest =
@@ -113,7 +116,8 @@ good-add version books (c ∷ callers) s all = by (bytes_eq s.caller c.name) ref
     by false e all rest = let before = rest all.1 in ((all.0, before.0), before.1)
 
 -- so are the scripts of good callers
-good-scripts : (version : Version) (books : ClearingBooks) (callers : List Caller) (subs : List Submission) → AllByRecursion (IsGood version books) (fold add_submission callers subs)
+good-scripts : (version : Version) (books : ClearingBooks) (callers : List Caller) (subs : List Submission)
+    → AllByRecursion (IsGood version books) (fold add_submission callers subs)
     → AllByRecursion (IsGood version books) callers × AllByRecursion (IsGoodScript version books) subs
 good-scripts version books callers [] all = (all, tt)
 good-scripts version books callers (s ∷ subs) all =
@@ -131,7 +135,8 @@ good_callers version books (c ∷ callers) names scripts = (
 )
 
 -- so each script of theirs is good
-pub scripts_are_good : (version : Version) (books : ClearingBooks) (subs : List Submission) → AreCallersOf version books (callers_of subs) → AllByRecursion (IsGoodScript version books) subs
+pub scripts_are_good : (version : Version) (books : ClearingBooks) (subs : List Submission) → AreCallersOf version books (callers_of subs)
+    → AllByRecursion (IsGoodScript version books) subs
 scripts_are_good version books subs valid =
     (good-scripts version books [] subs (subst (AllByRecursion (IsGood version books)) (callers_of-gathered subs)
     (good_callers version books (callers_of subs) (recursion_from_All _ _ valid.names) (recursion_from_All _ _ valid.scripts)))).1

@@ -1,5 +1,6 @@
 -- Lines by their kinds, and what is known of a line that no reason applies to.
-use Rattle.std.proofs.Common.{lit<, ◌≡◌, ℕ, ◌+◌, ◌<◌, ◌^◌, ◌⊎◌, inl, inr, Bool, true, false, ◌&&◌, ◌==◌, nat_le, cond, if◌then◌else◌, List, [], ◌∷◌, ◌++◌, codes}
+use Rattle.std.proofs.Common.{lit<, ◌≡◌, ℕ, ◌+◌, ◌<◌, ◌^◌, ◌⊎◌, inl, inr, Bool, true, false, ◌&&◌, ◌==◌, nat_le, cond, if◌then◌else◌, List, [], ◌∷◌}
+use Rattle.std.proofs.Common.{◌++◌, codes}
 use Rattle.std.proofs.Common.{drop, length, Option, Some, None, refl, ap, subst, ◌∙◌, arith}
 use Rattle.std.specs.Option.{is_none}
 use Rattle.std.proofs.lemmas.Bool.{leb-true, eqb-true}
@@ -11,7 +12,8 @@ use Rattle.books_model.specs.declared.script.Op.TheVariants as op
 use Rattle.script_reader.specs.declared.fault.Fault.{Fault}
 use Rattle.script_reader.specs.Number.{is_number}
 use Rattle.script_reader.specs.Text.{number, operation_words}
-use Rattle.script_reader.specs.Forms.{Words, Form, form, InScript, books_forms, operation_forms, turning_forms, begins, is_only, has_form, form_of, ranges_of, value_of, are_numbers}
+use Rattle.script_reader.specs.Forms.{Words, Form, form, InScript, books_forms, operation_forms, turning_forms, begins, is_only, has_form, form_of}
+use Rattle.script_reader.specs.Forms.{ranges_of, value_of, are_numbers}
 use Rattle.script_reader.specs.Forms.{are_in_range}
 use Rattle.script_reader.proofs.Tokens.Numerals.{text_of_number}
 use Rattle.script_reader.proofs.Conditions.{both}
@@ -115,7 +117,8 @@ line_words (PositionLine a i quantity) = codes "position" ∷ a ∷ i ∷ quanti
 line_words (CallLine a shortfall) = codes "call" ∷ a ∷ shortfall ∷ []
 line_words ScriptsLine = codes "scripts" ∷ []
 
-pub books_line : (version : Version) (instruments : ℕ) (words : Words) → is_none (form_of (books_forms version instruments) words) ≡ false → (l : BooksLine) × (words ≡ line_words l)
+pub books_line : (version : Version) (instruments : ℕ) (words : Words) → is_none (form_of (books_forms version instruments) words) ≡ false
+    → (l : BooksLine) × (words ≡ line_words l)
 unfolding IsOneOf
 books_line version instruments words h = elim (one_of (books_forms version instruments) words h) [
   | inl is ↦ let e = two_behind (codes "account") words is in (AccountLine e.0 e.1, e.2)

@@ -106,7 +106,8 @@ module _ (version : Version) (b : ClearingBooks) (range : AreInRange b) (words :
       (position_is i && not (list_any (λ e. e.0 == value_at words 2) (finmap.entries b.prices))) (block_is i && has_no_block b))
 
   pub account_fault : (begins (codes "account") words && length words == 3) ≡ true
-      → IsRefused version b words (account_ranges version) (is_late_in 0 (printed version b)) false (is_low_in 0 (value_at words 1, 0) (printed version b)) false false (has_no_block b)
+      → IsRefused version b words (account_ranges version) (is_late_in 0 (printed version b)) false (is_low_in 0 (value_at words 1, 0) (printed version b))
+      false false (has_no_block b)
   account_fault row =
       let e = two_behind (codes "account") words row in
       record {
@@ -116,7 +117,8 @@ module _ (version : Version) (b : ClearingBooks) (range : AreInRange b) (words :
       }
 
   pub price_fault : (begins (codes "price") words && length words == 3) ≡ true
-      → IsRefused version b words (price_ranges b.instruments) (is_late_in 1 (printed version b)) false (is_low_in 1 (value_at words 1, 0) (printed version b)) false false
+      → IsRefused version b words (price_ranges b.instruments) (is_late_in 1 (printed version b)) false (is_low_in 1 (value_at words 1, 0) (printed version b))
+      false false
       (has_no_block b)
   price_fault row =
       let e = two_behind (codes "price") words row in
@@ -181,7 +183,8 @@ pub accounts_late : (version : Version) (b : ClearingBooks) → is_late_in 0 (pr
     || (list_any (λ _. true) (finmap.entries b.positions) || list_any (λ _. true) b.calls))
 accounts_late version b = sym (λ i. some_is (finmap.entries b.prices) i || (some_is (finmap.entries b.positions) i || some_is b.calls i))
 
-pub prices_late : (version : Version) (b : ClearingBooks) → is_late_in 1 (printed version b) ≡ (list_any (λ _. true) (finmap.entries b.positions) || list_any (λ _. true) b.calls)
+pub prices_late : (version : Version) (b : ClearingBooks)
+    → is_late_in 1 (printed version b) ≡ (list_any (λ _. true) (finmap.entries b.positions) || list_any (λ _. true) b.calls)
 prices_late version b = sym (λ i. some_is (finmap.entries b.positions) i || some_is b.calls i)
 
 module _ (version : Version) (b : ClearingBooks) (range : AreInRange b) where

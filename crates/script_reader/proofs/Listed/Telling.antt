@@ -129,8 +129,10 @@ module _ {O S : Type 0} (g : ListLanguage O S) (lawful : IsListLanguage g) where
       let same = fault_once (judge g) [] f.faulty.more h.faulty.more f.faulty.rest h.faulty.rest f.left h.left why reason
       f.faulty.faultless h.faulty.faultless (sym f.faulty.text_is ∙ h.faulty.text_is) f.faulty.here h.faulty.here in
       (f.number_is ∙ ap (λ l. length l + 1) same.0 ∙ sym h.number_is, same.1)
-  one_fault text number other why reason (inl f) (inr h) = absurd (front_not_both text h.front h.rest h.spelled.0 h.spelled.1 number why h.text_is h.spelled.2 f)
-  one_fault text number other why reason (inr f) (inl h) = absurd (front_not_both text f.front f.rest f.spelled.0 f.spelled.1 other reason f.text_is f.spelled.2 h)
+  one_fault text number other why reason (inl f) (inr h) =
+      absurd (front_not_both text h.front h.rest h.spelled.0 h.spelled.1 number why h.text_is h.spelled.2 f)
+  one_fault text number other why reason (inr f) (inl h) =
+      absurd (front_not_both text f.front f.rest f.spelled.0 f.spelled.1 other reason f.text_is f.spelled.2 h)
   one_fault text number other why reason (inr f) (inr h) =
       let same = fronts_once text f.front f.rest h.front h.rest f.spelled.0 h.spelled.0 f.spelled.1 h.spelled.1 f.text_is h.text_is f.spelled.2 h.spelled.2 in
       (f.number_is ∙ ap (λ l. count_by (λ b. b == LINE_FEED) l + 1) same.0 ∙ sym h.number_is, f.why_is ∙ sym h.why_is)

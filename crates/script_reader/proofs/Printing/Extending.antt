@@ -231,7 +231,8 @@ module _ (version : Version) (b : ClearingBooks) (range : AreInRange b) where
     pub absent : finmap.get b.positions (value_of a, value_of i) ≡ None
     pub room : used b < b.blocks
     pub in_range : AreInRange (put_quantity b (value_of a) (value_of i) (value_of quantity))
-    pub lines : books_words version (put_quantity b (value_of a) (value_of i) (value_of quantity)) ≡ books_words version b ++ (codes "position" ∷ a ∷ i ∷ quantity ∷ []) ∷ []
+    pub lines : books_words version (put_quantity b (value_of a) (value_of i) (value_of quantity)) ≡ books_words version b
+        ++ (codes "position" ∷ a ∷ i ∷ quantity ∷ []) ∷ []
 
   pub adds_position : (a i quantity : List ℕ) → fault_at (printed version b) (codes "position" ∷ a ∷ i ∷ quantity ∷ []) ≡ None → AddsPosition a i quantity
   adds_position a i quantity h =

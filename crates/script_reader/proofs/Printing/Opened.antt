@@ -112,8 +112,10 @@ words_done parts first second =
     ∙ sym (append_assoc (flat_map part_words parts) (open_words (InSecond first second)) ((codes "done" ∷ []) ∷ []))
 
 -- all lines of the text, with one more
-pub inside_more : (version : Version) (b : ClearingBooks) (subs : List Submission) (name : List ℕ) (parts others : List Part) (stage other : Open) (more : List Words)
-    → script_words others other ≡ script_words parts stage ++ more → lines_inside version b subs name others other ≡ lines_inside version b subs name parts stage ++ more
+pub inside_more : (version : Version) (b : ClearingBooks) (subs : List Submission) (name : List ℕ) (parts others : List Part) (stage other : Open)
+    (more : List Words)
+    → script_words others other ≡ script_words parts stage ++ more
+    → lines_inside version b subs name others other ≡ lines_inside version b subs name parts stage ++ more
 inside_more version b subs name parts others stage other more is =
     ap (λ l. lines_so_far version b subs ++ ((codes "script" ∷ name ∷ []) ∷ l)) is
     ∙ sym (append_assoc (lines_so_far version b subs) ((codes "script" ∷ name ∷ []) ∷ script_words parts stage) more)

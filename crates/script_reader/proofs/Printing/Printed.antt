@@ -28,7 +28,8 @@ pub record Printed : Type 0 where
   pub calls : List (ℕ × ℕ)
 
 abbrev pub header_of : Printed → Words
-header_of p = codes "books" ∷ version_word p.version ∷ codes "blocks" ∷ number p.blocks ∷ codes "instruments" ∷ number p.instruments ∷ codes "ring" ∷ number p.ring ∷ []
+header_of p = codes "books" ∷ version_word p.version ∷ codes "blocks" ∷ number p.blocks ∷ codes "instruments" ∷ number p.instruments ∷ codes "ring"
+    ∷ number p.ring ∷ []
 
 -- their lines behind the header
 abbrev pub entries_of : Printed → List Words

@@ -23,8 +23,10 @@ use Rattle.script_reader.specs.Lines.{word_at}
 use Rattle.script_reader.specs.Text.{account_words, price_words, position_words, call_words, operation_words, part_words}
 use Rattle.script_reader.specs.Input.{Submission, first_seen}
 use Rattle.script_reader.specs.Inner.LinesAsWords.{Open, BetweenParts, InFirst, InSecond, open_words, parts_with, region_of, script_words, submission_words}
-use Rattle.script_reader.specs.Forms.{Words, Region, OutsideScripts, InScript, InFirstBranch, InSecondBranch, script_forms, begins, is_only, form_of, ranges_of, is_script_line, are_numbers, are_in_range}
-use Rattle.script_reader.specs.Faults.{first_reason, region_after, region_behind, is_turning, is_too_many, script_before, operations_before, alternatives_before, callers_before}
+use Rattle.script_reader.specs.Forms.{Words, Region, OutsideScripts, InScript, InFirstBranch, InSecondBranch, script_forms, begins, is_only, form_of}
+use Rattle.script_reader.specs.Forms.{ranges_of, is_script_line, are_numbers, are_in_range}
+use Rattle.script_reader.specs.Faults.{first_reason, region_after, region_behind, is_turning, is_too_many, script_before, operations_before}
+use Rattle.script_reader.specs.Faults.{alternatives_before, callers_before}
 use Rattle.script_reader.specs.Faults.{inside_fault, scripts_fault, books_fault, fault_of}
 use Rattle.script_reader.proofs.Tokens.Numerals.{value_of_number}
 use Rattle.script_reader.proofs.Versions.{version_read}
@@ -333,7 +335,8 @@ alternatives_count parts (InSecond first second) = omega (
   arith,
   count_inside (is_only (codes "try")) alternatives_in alternatives_part parts (InSecond first second),
   count_branches (is_only (codes "try")) 0 none_each first second [],
-  ap (λ ls. count_by (is_only (codes "try")) ((codes "try" ∷ []) ∷ (map operation_words first ++ ((codes "else" ∷ []) ∷ ls)))) (append-nil (map operation_words second)),
+  ap (λ ls. count_by (is_only (codes "try")) ((codes "try" ∷ []) ∷ (map operation_words first ++ ((codes "else" ∷ []) ∷ ls))))
+      (append-nil (map operation_words second)),
   sum_by-append alternatives_in parts (part.Either first second ∷ []),
 )
 
@@ -439,14 +442,16 @@ inside_at version region instruments operations alternatives words =
     ∷ []
     )
 
-within_script : (stage : Open) (before : List Words) (words : Words) → scripts_fault (region_of stage) before words ≡ inside_fault (region_of stage) before words
+within_script : (stage : Open) (before : List Words) (words : Words)
+    → scripts_fault (region_of stage) before words ≡ inside_fault (region_of stage) before words
 within_script BetweenParts before words = refl
 within_script (InFirst first) before words = refl
 within_script (InSecond first second) before words = refl
 
 pub inside_fault_is : (p : Printed) (subs : List Submission) (name : List ℕ) (parts : List Part) (stage : Open) (words : Words) → IsSmall p
     → fault_of (print p ++ ended subs ++ opened name parts stage) words
-    ≡ inside_at p.version (region_of stage) p.instruments (length (operations_of (parts_with parts stage))) (sum_by alternatives_in (parts_with parts stage)) words
+    ≡ inside_at p.version (region_of stage) p.instruments (length (operations_of (parts_with parts stage)))
+    (sum_by alternatives_in (parts_with parts stage)) words
 inside_fault_is p subs name parts stage words small =
     (λ i. if not (scripts i) then books_fault lines words else scripts_fault (region_inside p subs name parts stage i) lines words)
     ∙ within_script stage lines words

@@ -1,5 +1,6 @@
 -- The branches of an alternative that were read, and the fault behind them.
-use Rattle.std.proofs.Common.{◌≡◌, ◌<◌, ◌≤◌, ◌+◌, ℕ, true, false, cond, not, ◌||◌, List, [], ◌∷◌, ◌++◌, All, codes, map, drop, length, sum_by, Some, None, sym, ap, subst, refl, ◌∙◌, arith}
+use Rattle.std.proofs.Common.{◌≡◌, ◌<◌, ◌≤◌, ◌+◌, ℕ, true, false, cond, not, ◌||◌, List, [], ◌∷◌, ◌++◌, All, codes, map, drop, length, sum_by, Some}
+use Rattle.std.proofs.Common.{None, sym, ap, subst, refl, ◌∙◌, arith}
 use Rattle.std.specs.List.{flat_map}
 use Rattle.std.specs.Option.{is_none}
 use Rattle.std.proofs.lemmas.Bool.{le-leb, lt-leb}
@@ -21,7 +22,8 @@ use Rattle.script_reader.specs.Input.{Submission}
 use Rattle.script_reader.specs.Inner.LinesAsWords.{Open, BetweenParts, InFirst, InSecond, parts_with, region_of, lines_inside, script_words}
 use Rattle.script_reader.specs.Inner.Branches.{branch_with, closing_word}
 use Rattle.script_reader.specs.Rows.{row_fault}
-use Rattle.script_reader.specs.Forms.{Words, Form, Region, InScript, form, has_form, operation_forms, turning_forms, form_of, is_only, ranges_of, are_numbers, are_in_range}
+use Rattle.script_reader.specs.Forms.{Words, Form, Region, InScript, form, has_form, operation_forms, turning_forms, form_of, is_only, ranges_of}
+use Rattle.script_reader.specs.Forms.{are_numbers, are_in_range}
 use Rattle.script_reader.specs.Faults.{AreFaultless, IsFaultyBehind, fault_of, first_reason, is_too_many}
 use Rattle.script_reader.proofs.Printing.Scripted.{inside_at, inside_fault_is}
 use Rattle.script_reader.proofs.Printing.Opened.{inside_more, rest_of_branch, first_count, second_count, words_try, words_else}
@@ -37,7 +39,8 @@ use Rattle.script_reader.proofs.Judging.{behind_more}
 
 -- the lines of a branch behind its first
 branch_lines : (version : Version) (b : ClearingBooks) (subs : List Submission) (name : List ℕ) (parts : List Part) (which : Branch) (first ops : List Op)
-    → lines_inside version b subs name parts (branch_with which first ops) ≡ lines_inside version b subs name parts (branch_with which first []) ++ map operation_words ops
+    → lines_inside version b subs name parts (branch_with which first ops) ≡ lines_inside version b subs name parts (branch_with which first [])
+    ++ map operation_words ops
 branch_lines version b subs name parts branch.First first ops =
     inside_more version b subs name parts parts (InFirst []) (InFirst ops) (map operation_words ops) (rest_of_branch parts ops []).0
 branch_lines version b subs name parts branch.Second first ops =
@@ -45,7 +48,8 @@ branch_lines version b subs name parts branch.Second first ops =
 
 -- how many operations there are in a branch
 branch_count : (parts : List Part) (which : Branch) (first ops : List Op)
-    → length (operations_of (parts_with parts (branch_with which first ops))) ≡ length (operations_of (parts_with parts (branch_with which first []))) + length ops
+    → length (operations_of (parts_with parts (branch_with which first ops)))
+    ≡ length (operations_of (parts_with parts (branch_with which first []))) + length ops
 branch_count parts branch.First first ops = omega (arith, first_count parts ops, first_count parts [])
 branch_count parts branch.Second first ops = omega (arith, second_count parts first ops, second_count parts first [])
 
@@ -55,7 +59,8 @@ forms_behind [] others words none = none
 forms_behind (f ∷ forms) others words none = ap (λ o. cond (has_form words f) (Some f) o) (forms_behind forms others words none)
 
 -- what is wrong with a line as with an operation is wrong with it wherever it is no other line
-pub wrong_in : (version : Version) (region : Region) (instruments count alternatives : ℕ) (words : Words) (why : Fault) → form_of (turning_forms region) words ≡ None
+pub wrong_in : (version : Version) (region : Region) (instruments count alternatives : ℕ) (words : Words) (why : Fault)
+    → form_of (turning_forms region) words ≡ None
     → row_fault (operation_forms version instruments) words ≡ Some why → inside_at version region instruments count alternatives words ≡ Some why
 wrong_in version region instruments count alternatives words why none h =
     (λ i. let form = forms_behind (operation_forms version instruments) (turning_forms region) words none i in
@@ -77,7 +82,8 @@ pub no_turn : (words : Words) → is_only (codes "end") words ≡ false → is_o
 no_turn words ends tries =
     (λ i. cond (ends i) (Some (form (codes "end") [])) (cond (tries i) (Some (form (codes "try") [])) None))
 
-module _ (version : Version) (b : ClearingBooks) (range : AreInRange b) (which : Branch) (subs : List Submission) (name : List ℕ) (parts : List Part) (first ops : List Op) where
+module _ (version : Version) (b : ClearingBooks) (range : AreInRange b) (which : Branch) (subs : List Submission) (name : List ℕ) (parts : List Part)
+    (first ops : List Op) where
   -- a fault behind operations of a branch that were read
   pub behind_branch : (start left after : List ℕ) (why : Fault) → All (IsOperationOf version b) ops
       → length (operations_of (parts_with parts (branch_with which first []))) + length ops ≤ MOST_OPERATIONS
@@ -150,7 +156,8 @@ module _ (version : Version) (b : ClearingBooks) (range : AreInRange b) (subs : 
   behind_try script words start left after why tries room text h =
       behind_turn script BetweenParts (InFirst []) (codes "try") start left after why
       (turning_faultless version b range subs name script BetweenParts (codes "try") (word_from_test (codes "try") refl) refl
-      (try_fault version b.instruments (length (operations_of script)) (sum_by alternatives_in script) false (lt-leb MOST_ALTERNATIVES (sum_by alternatives_in script) room)))
+      (try_fault version b.instruments (length (operations_of script)) (sum_by alternatives_in script) false
+      (lt-leb MOST_ALTERNATIVES (sum_by alternatives_in script) room)))
       (words_try script) (text ∙ ap (λ w. line w ++ left) (only_word (codes "try") words tries)) h
 
   -- one alternative too many
@@ -159,7 +166,8 @@ module _ (version : Version) (b : ClearingBooks) (range : AreInRange b) (subs : 
   try_limit script words tries full =
       inside_fault_is (printed version b) subs name script BetweenParts words (printed_small b range version)
       ∙ ap (inside_at version InScript b.instruments (length (operations_of script)) (sum_by alternatives_in script)) (only_word (codes "try") words tries)
-      ∙ try_fault version b.instruments (length (operations_of script)) (sum_by alternatives_in script) true (le-leb MOST_ALTERNATIVES (sum_by alternatives_in script) full)
+      ∙ try_fault version b.instruments (length (operations_of script)) (sum_by alternatives_in script) true
+      (le-leb MOST_ALTERNATIVES (sum_by alternatives_in script) full)
 
   -- a line between parts that is no operation, or one with a fault of its own
   pub part_fault : (script : List Part) (words : Words) (why : Fault) → is_only (codes "end") words ≡ false → is_only (codes "try") words ≡ false
@@ -169,7 +177,8 @@ module _ (version : Version) (b : ClearingBooks) (range : AreInRange b) (subs : 
       ∙ wrong_in version InScript b.instruments _ _ words why (no_turn words ends tries) h
 
   -- one operation too many
-  pub part_limit : (script : List Part) (words : Words) (o : Op) → IsOperationOf version b o → words ≡ operation_words o → MOST_OPERATIONS ≤ length (operations_of script)
+  pub part_limit : (script : List Part) (words : Words) (o : Op) → IsOperationOf version b o → words ≡ operation_words o
+      → MOST_OPERATIONS ≤ length (operations_of script)
       → fault_of (lines_inside version b subs name script BetweenParts) words ≡ Some fault.Limit
   part_limit script words o fits is full =
       inside_fault_is (printed version b) subs name script BetweenParts words (printed_small b range version)

@@ -18,11 +18,14 @@ use Rattle.script_reader.specs.declared.words.TheConstants.{LINE_FEED}
 use Rattle.script_reader.specs.declared.fault.Fault.{Fault}
 use Rattle.script_reader.specs.declared.fault.Fault.TheVariants as fault
 use Rattle.script_reader.specs.Text.{line, finish_line, account_words, price_words, position_words, call_words, operation_words, part_words}
-use Rattle.script_reader.specs.Inner.LinesAsWords.{Open, BetweenParts, InFirst, InSecond, open_words, parts_with, script_words, books_words, submission_words, lines_so_far}
+use Rattle.script_reader.specs.Inner.LinesAsWords.{Open, BetweenParts, InFirst, InSecond, open_words, parts_with, script_words, books_words}
+use Rattle.script_reader.specs.Inner.LinesAsWords.{submission_words, lines_so_far}
 use Rattle.script_reader.specs.Input.{ClearingInput, Submission, callers_of}
 use Rattle.script_reader.specs.Grammar.{Spells}
-use Rattle.script_reader.specs.Forms.{Words, Region, OutsideScripts, InScript, InFirstBranch, InSecondBranch, is_only, begins, value_at, are_numbers, are_in_range, ranges_of, form_of, books_forms}
-use Rattle.script_reader.specs.Faults.{StartsFaulty, IsFaultyBehind, fault_of, books_fault, inside_fault, outside_fault, scripts_fault, region_behind, is_late, is_low, is_given}
+use Rattle.script_reader.specs.Forms.{Words, Region, OutsideScripts, InScript, InFirstBranch, InSecondBranch, is_only, begins, value_at, are_numbers}
+use Rattle.script_reader.specs.Forms.{are_in_range, ranges_of, form_of, books_forms}
+use Rattle.script_reader.specs.Faults.{StartsFaulty, IsFaultyBehind, fault_of, books_fault, inside_fault, outside_fault, scripts_fault, region_behind}
+use Rattle.script_reader.specs.Faults.{is_late, is_low, is_given}
 use Rattle.script_reader.specs.Faults.{takes_block, size_at, version_at}
 use Rattle.script_reader.proofs.Grouped.Submitting.{IsGoodScript, scripts_are_good}
 use Rattle.script_reader.proofs.Printing.Scripted.{opened}
@@ -116,7 +119,8 @@ abbrev pub most_lines : ℕ
 most_lines = MOST_BLOCKS + MOST_RING + 2 + most_script_lines * MOST_SCRIPTS
 
 -- scripts have few lines each
-few_each : (version : Version) (b : ClearingBooks) (subs : List Submission) → AllByRecursion (IsGoodScript version b) subs → length (flat_map submission_words subs) ≤ most_script_lines * length subs
+few_each : (version : Version) (b : ClearingBooks) (subs : List Submission) → AllByRecursion (IsGoodScript version b) subs
+    → length (flat_map submission_words subs) ≤ most_script_lines * length subs
 few_each version b [] good = omega arith
 few_each version b (s ∷ subs) good = omega (
   arith,
@@ -129,7 +133,8 @@ few_each version b (s ∷ subs) good = omega (
 )
 
 -- so have books and scripts
-few_so_far : (version : Version) (b : ClearingBooks) (subs : List Submission) → AreInRange b → AreCallersOf version b (callers_of subs) → length (lines_so_far version b subs) ≤ most_lines
+few_so_far : (version : Version) (b : ClearingBooks) (subs : List Submission) → AreInRange b → AreCallersOf version b (callers_of subs)
+    → length (lines_so_far version b subs) ≤ most_lines
 few_so_far version b subs range valid = omega (
   arith,
   length-append (books_words version b) ((codes "scripts" ∷ []) ∷ flat_map submission_words subs),

@@ -1,5 +1,6 @@
 -- A text is of an input, or has a first fault.
-use Rattle.std.proofs.Common.{◌≡◌, ◌≢◌, ◌⊎◌, inl, inr, ℕ, suc, zero, ◌+◌, ◌-◌, ◌<◌, Bool, true, false, ◌==◌, List, [], ◌∷◌, ◌++◌, codes, length, take, drop, sum_by}
+use Rattle.std.proofs.Common.{◌≡◌, ◌≢◌, ◌⊎◌, inl, inr, ℕ, suc, zero, ◌+◌, ◌-◌, ◌<◌, Bool, true, false, ◌==◌, List, [], ◌∷◌, ◌++◌, codes, length, take}
+use Rattle.std.proofs.Common.{drop, sum_by}
 use Rattle.books_model.specs.Scripts.{operations_of, alternatives_in}
 use Rattle.std.proofs.Common.{Option, Some, None, refl, sym, ap, subst, ◌∙◌, append_assoc, length-append, arith}
 use Rattle.std.specs.List.{flat_map, count_by, slice_split, position, join_with_byte}
@@ -47,7 +48,8 @@ at_finish lines (Outside r) none = r
 at_finish lines (WithinScript r) none =
     absurd (none-some _ (sym (sym (ap (λ l. fault_of l (codes "finish" ∷ [])) r.lines_are
     ∙ inside_fault_is (printed r.version r.books) r.subs r.name r.parts r.stage (codes "finish" ∷ []) (printed_small r.books r.range r.version)
-    ∙ no_finish r.version r.stage (printed r.version r.books).instruments (length (operations_of (parts_with r.parts r.stage))) (sum_by alternatives_in (parts_with r.parts r.stage)))
+    ∙ no_finish r.version r.stage (printed r.version r.books).instruments (length (operations_of (parts_with r.parts r.stage)))
+    (sum_by alternatives_in (parts_with r.parts r.stage)))
     ∙ none)))
 
 -- the lines of an input
@@ -70,7 +72,8 @@ spelled text input h = record {
   text_is = h.text ∙ text_of_input h.version input.books h.submissions;
 }
 
-pub spelled_lines : (text : List ℕ) (input : ClearingInput) (h : Spells text input) → (spelled text input h).lines ≡ lines_so_far h.version input.books h.submissions
+pub spelled_lines : (text : List ℕ) (input : ClearingInput) (h : Spells text input)
+    → (spelled text input h).lines ≡ lines_so_far h.version input.books h.submissions
 unfolding spelled
 spelled_lines text input h = refl
 

@@ -22,7 +22,8 @@ use Rattle.script_reader.proofs.Judging.{behind_more}
 
 -- a fault behind books that were read
 pub behind_books : (version : Version) (b : ClearingBooks) (range : AreInRange b) → AreBooksWithin version b → (start left after : List ℕ) (why : Fault)
-    → start ≡ flat_map line (books_words version b) ++ (scripts_line ++ left) → IsFaultyBehind (lines_so_far version b []) left after why → IsFaultyBehind [] start after why
+    → start ≡ flat_map line (books_words version b) ++ (scripts_line ++ left) → IsFaultyBehind (lines_so_far version b []) left after why
+    → IsFaultyBehind [] start after why
 behind_books version b range within start left after why text h =
     behind_more fault_of [] (lines_so_far version b []) start left after why (input_faultless version b range within [] (no_callers version b))
     (text ∙ sym (append_assoc (flat_map line (books_words version b)) scripts_line left)

@@ -64,7 +64,8 @@ outside_none version b subs name named room =
 -- a fault inside the script that begins here
 pub behind_script : (version : Version) (b : ClearingBooks) (subs : List Submission) (name : List ℕ) (words : Words)
     (left middle after : List ℕ) (why : Fault) → words ≡ codes "script" ∷ name ∷ [] → IsName name → is_beyond_at subs name ≡ false
-    → left ≡ line words ++ middle → IsFaultyBehind (lines_inside version b subs name [] BetweenParts) middle after why → IsFaultyBehind (lines_so_far version b subs) left after why
+    → left ≡ line words ++ middle → IsFaultyBehind (lines_inside version b subs name [] BetweenParts) middle after why
+    → IsFaultyBehind (lines_so_far version b subs) left after why
 behind_script version b subs name words left middle after why is named room text h =
     let first : Words = codes "script" ∷ name ∷ [] in
     behind_more fault_of (lines_so_far version b subs) (first ∷ []) left middle after why

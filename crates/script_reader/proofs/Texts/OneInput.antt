@@ -1,5 +1,6 @@
 -- A text is of one input at most.
-use Rattle.std.proofs.Common.{◌≡◌, ℕ, ◌<◌, ◌^◌, Bool, true, false, not, if◌then◌else◌, List, [], ◌∷◌, ◌++◌, codes, map, drop, All, refl, sym, ap, subst, ◌∙◌, append_assoc}
+use Rattle.std.proofs.Common.{◌≡◌, ℕ, ◌<◌, ◌^◌, Bool, true, false, not, if◌then◌else◌, List, [], ◌∷◌, ◌++◌, codes, map, drop, All, refl, sym, ap}
+use Rattle.std.proofs.Common.{subst, ◌∙◌, append_assoc}
 use Rattle.std.specs.List.{flat_map}
 use Rattle.std.proofs.Common.{true≢false, arith}
 use Rattle.std.specs.List.{flat_map, AllByRecursion}
@@ -17,7 +18,8 @@ use Rattle.books_model.specs.declared.script.Part.{Part}
 use Rattle.books_model.specs.declared.script.Part.TheVariants as part
 use Rattle.books_model.specs.Scripts.{operations_in, operations_of}
 use Rattle.books_model.proofs.Scripts.Branches.{All-front, All-back}
-use Rattle.script_reader.specs.Text.{line, number, header_words, account_words, price_words, position_words, call_words, operation_words, part_words, finish_line}
+use Rattle.script_reader.specs.Text.{line, number, header_words, account_words, price_words, position_words, call_words, operation_words, part_words}
+use Rattle.script_reader.specs.Text.{finish_line}
 use Rattle.script_reader.specs.Inner.LinesAsWords.{books_words, submission_words, lines_so_far}
 use Rattle.script_reader.specs.Input.{ClearingInput, Submission, callers_of}
 use Rattle.script_reader.specs.Grammar.{Spells}
@@ -116,10 +118,13 @@ module _ (version : Version) (b : ClearingBooks) (fits : b.instruments < 2 ^ 64)
   is_operation_of : (o : Op) → IsOperationOf version b o → operation_of (operation_words o) ≡ o
   is_operation_of (op.OpenAccount a) h i = op.OpenAccount (value_of_number a (omega (arith, h.1)) i)
   is_operation_of (op.Close a) h i = op.Close (value_of_number a (omega (arith, h.1)) i)
-  is_operation_of (op.Deposit a x) h i = op.Deposit (value_of_number a (omega (arith, h.0.1)) i) (value_of_number x (omega (arith, h.1.1, amount_within version)) i)
-  is_operation_of (op.Withdraw a x) h i = op.Withdraw (value_of_number a (omega (arith, h.0.1)) i) (value_of_number x (omega (arith, h.1.1, amount_within version)) i)
+  is_operation_of (op.Deposit a x) h i = op.Deposit (value_of_number a (omega (arith, h.0.1)) i)
+      (value_of_number x (omega (arith, h.1.1, amount_within version)) i)
+  is_operation_of (op.Withdraw a x) h i = op.Withdraw (value_of_number a (omega (arith, h.0.1)) i)
+      (value_of_number x (omega (arith, h.1.1, amount_within version)) i)
   is_operation_of (op.Move a c x) h i =
-      op.Move (value_of_number a (omega (arith, h.0.1)) i) (value_of_number c (omega (arith, h.1.1)) i) (value_of_number x (omega (arith, h.2.1, amount_within version)) i)
+      op.Move (value_of_number a (omega (arith, h.0.1)) i) (value_of_number c (omega (arith, h.1.1)) i)
+      (value_of_number x (omega (arith, h.2.1, amount_within version)) i)
   is_operation_of (op.Price n q) h i = op.Price (value_of_number n (omega (arith, h.0.1, fits)) i) (value_of_number q (omega (arith, h.1.1)) i)
   is_operation_of (op.Trade a c n q) h i =
       op.Trade (value_of_number a (omega (arith, h.0.1)) i) (value_of_number c (omega (arith, h.1.1)) i)
@@ -142,7 +147,8 @@ module _ (version : Version) (b : ClearingBooks) (fits : b.instruments < 2 ^ 64)
       (parts.0, ap (drop 1) parts.1)
 
   -- a line begins a part: it is not the line that ends a script
-  goes_on_part : (p : Part) (rest : List Words) → (words : Words) × (more : List Words) × (part_words p ++ rest ≡ words ∷ more) × (is_only (codes "end") words ≡ false)
+  goes_on_part : (p : Part) (rest : List Words)
+      → (words : Words) × (more : List Words) × (part_words p ++ rest ≡ words ∷ more) × (is_only (codes "end") words ≡ false)
   goes_on_part (part.One o) rest = (operation_words o, rest, refl, operation_goes_on o)
   goes_on_part (part.Either first second) rest = (codes "try" ∷ [], _, refl, refl)
 
@@ -151,8 +157,11 @@ module _ (version : Version) (b : ClearingBooks) (fits : b.instruments < 2 ^ 64)
       → part_words p ++ rest ≡ part_words q ++ more → (p ≡ q) × (rest ≡ more)
   one_part (part.One o) (part.One w) rest more h k e =
       let heads : operation_words o ≡ operation_words w = cc in
-      let tails : rest ≡ more = cc in
-      (ap part.One (operation_once o w (recursion_from_All (IsOperationOf version b) (o ∷ []) h).0 (recursion_from_All (IsOperationOf version b) (w ∷ []) k).0 heads), tails)
+      let tails : rest ≡ more = cc in (
+        ap part.One (operation_once o w (recursion_from_All (IsOperationOf version b) (o ∷ []) h).0 (recursion_from_All (IsOperationOf version b) (w ∷ []) k).0
+            heads),
+        tails,
+      )
   one_part (part.One o) (part.Either first second) rest more h k e =
       let heads : operation_words o ≡ codes "try" ∷ [] = cc in
       absurd (true≢false (sym (ap (is_only (codes "try")) heads) ∙ no_try o))
@@ -162,10 +171,13 @@ module _ (version : Version) (b : ClearingBooks) (fits : b.instruments < 2 ^ 64)
   one_part (part.Either first second) (part.Either others last) rest more h k e =
       let tails : (map operation_words first ++ ((codes "else" ∷ []) ∷ (map operation_words second ++ (codes "done" ∷ []) ∷ []))) ++ rest
       ≡ (map operation_words others ++ ((codes "else" ∷ []) ∷ (map operation_words last ++ (codes "done" ∷ []) ∷ []))) ++ more = cc in
-      let one = branch_once (codes "else") refl first others _ _ (All-front (IsOperationOf version b) first second h) (All-front (IsOperationOf version b) others last k)
+      let one = branch_once (codes "else") refl first others _ _ (All-front (IsOperationOf version b) first second h)
+      (All-front (IsOperationOf version b) others last k)
       (sym (append_assoc (map operation_words first) _ rest) ∙ tails ∙ append_assoc (map operation_words others) _ more) in
-      let two = branch_once (codes "done") refl second last rest more (All-back (IsOperationOf version b) first second h) (All-back (IsOperationOf version b) others last k)
-      (sym (append_assoc (map operation_words second) ((codes "done" ∷ []) ∷ []) rest) ∙ one.1 ∙ append_assoc (map operation_words last) ((codes "done" ∷ []) ∷ []) more) in
+      let two = branch_once (codes "done") refl second last rest more (All-back (IsOperationOf version b) first second h)
+      (All-back (IsOperationOf version b) others last k)
+      (sym (append_assoc (map operation_words second) ((codes "done" ∷ []) ∷ []) rest) ∙ one.1
+      ∙ append_assoc (map operation_words last) ((codes "done" ∷ []) ∷ []) more) in
       ((λ i. part.Either (one.0 i) (two.0 i)), two.1)
 
   -- parts in front of the line that ends their script are the same

@@ -48,12 +48,14 @@ text_of_submission s =
     ∙ sym (append_assoc (line (codes "script" ∷ s.caller ∷ [])) (script_lines s.script) end_line)
 
 -- and the text of an input
-pub text_of_input : (version : Version) (b : ClearingBooks) (subs : List Submission) → input_text version b subs ≡ flat_map line (lines_so_far version b subs) ++ finish_line
+pub text_of_input : (version : Version) (b : ClearingBooks) (subs : List Submission)
+    → input_text version b subs ≡ flat_map line (lines_so_far version b subs) ++ finish_line
 text_of_input version b subs =
     let S : List ℕ = flat_map submission_lines subs in
     let scripts : flat_map line (flat_map submission_words subs) ≡ S = flat_of_flat line submission_words subs ∙ each subs in
     let lines : flat_map line (lines_so_far version b subs) ≡ books_lines version b ++ (scripts_line ++ S) =
-    flat_map-append line (books_words version b) ((codes "scripts" ∷ []) ∷ flat_map submission_words subs) ∙ (λ i. text_of_books version b i ++ (scripts_line ++ scripts i)) in
+    flat_map-append line (books_words version b) ((codes "scripts" ∷ []) ∷ flat_map submission_words subs)
+    ∙ (λ i. text_of_books version b i ++ (scripts_line ++ scripts i)) in
     ap (λ l. l ++ finish_line) (append_assoc (books_lines version b) scripts_line S ∙ sym lines)
   where
     each : (subs : List Submission) → flat_map (λ s. flat_map line (submission_words s)) subs ≡ flat_map submission_lines subs

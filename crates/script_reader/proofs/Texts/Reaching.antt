@@ -1,5 +1,6 @@
 -- Lines without fault are those of books and scripts, as far as they go.
-use Rattle.std.proofs.Common.{◌≡◌, ◌⊎◌, inl, inr, ℕ, ◌<◌, Bool, true, false, not, ◌&&◌, ◌||◌, nat_le, List, [], ◌∷◌, ◌++◌, codes, map, drop, length, sum_by, All, None, refl}
+use Rattle.std.proofs.Common.{◌≡◌, ◌⊎◌, inl, inr, ℕ, ◌<◌, Bool, true, false, not, ◌&&◌, ◌||◌, nat_le, List, [], ◌∷◌, ◌++◌, codes, map, drop, length}
+use Rattle.std.proofs.Common.{sum_by, All, None, refl}
 use Rattle.std.proofs.Common.{sym, ap, subst, ◌∙◌, append_assoc, length-append, arith}
 use Rattle.std.specs.List.{list_any, flat_map}
 use Rattle.std.specs.Option.{is_none}
@@ -20,10 +21,12 @@ use Rattle.script_reader.specs.declared.limits.TheConstants.{MOST_CALLERS, MOST_
 use Rattle.script_reader.specs.declared.fault.Fault.TheVariants as fault
 use Rattle.script_reader.specs.Lines.{word_at}
 use Rattle.script_reader.specs.Text.{operation_words, part_words}
-use Rattle.script_reader.specs.Inner.LinesAsWords.{Open, BetweenParts, InFirst, InSecond, parts_with, region_of, script_words, books_words, submission_words, lines_so_far, lines_inside}
+use Rattle.script_reader.specs.Inner.LinesAsWords.{Open, BetweenParts, InFirst, InSecond, parts_with, region_of, script_words, books_words}
+use Rattle.script_reader.specs.Inner.LinesAsWords.{submission_words, lines_so_far, lines_inside}
 use Rattle.script_reader.specs.Input.{Submission, callers_of, first_seen, count_scripts, scripts_by, is_name, IsName}
 use Rattle.script_reader.specs.Inner.Callers.{is_caller}
-use Rattle.script_reader.specs.Forms.{Words, Region, script_forms, turning_forms, form_of, ranges_of, is_only, is_script_line, value_of, are_numbers, are_in_range}
+use Rattle.script_reader.specs.Forms.{Words, Region, script_forms, turning_forms, form_of, ranges_of, is_only, is_script_line, value_of, are_numbers}
+use Rattle.script_reader.specs.Forms.{are_in_range}
 use Rattle.script_reader.specs.Versions.{AreBooksWithin}
 use Rattle.script_reader.specs.declared.books.Row.TheVariants as row
 use Rattle.script_reader.specs.Faults.{AreFaultless, fault_of, is_too_many, header_version}
@@ -31,9 +34,11 @@ use Rattle.script_reader.proofs.Versions.{row_within}
 use Rattle.script_reader.proofs.Conditions.{both, passed, neither, any_last}
 use Rattle.script_reader.proofs.Printing.Printed.{books_fault_is, fault_at}
 use Rattle.script_reader.proofs.Printing.Scripted.{ended, opened, in_books, is_beyond_at, outside_at, outside_fault_is, inside_at, inside_fault_is, no_turning}
-use Rattle.script_reader.proofs.Printing.Opened.{parts_more, open_more, words_more, operations_more, alternatives_more, words_try, operations_try, alternatives_try, words_else}
+use Rattle.script_reader.proofs.Printing.Opened.{parts_more, open_more, words_more, operations_more, alternatives_more, words_try, operations_try}
+use Rattle.script_reader.proofs.Printing.Opened.{alternatives_try, words_else}
 use Rattle.script_reader.proofs.Printing.Opened.{words_done, inside_more}
-use Rattle.script_reader.proofs.LineFaults.LineKinds.{none_applies, books_line, BooksLine, AccountLine, PriceLine, PositionLine, CallLine, ScriptsLine, line_words}
+use Rattle.script_reader.proofs.LineFaults.LineKinds.{none_applies, books_line, BooksLine, AccountLine, PriceLine, PositionLine, CallLine}
+use Rattle.script_reader.proofs.LineFaults.LineKinds.{ScriptsLine, line_words}
 use Rattle.script_reader.proofs.LineFaults.LineKinds.{IsOneOf, one_behind, operation_line, end_or_try, closing}
 use Rattle.script_reader.proofs.WithoutFault.BooksFaultless.{printed, printed_small, instruments_fit}
 use Rattle.script_reader.proofs.Grouped.Submitting.{callers_more, count-fold}
@@ -100,7 +105,8 @@ pub caller_named : (name : List ℕ) (subs : List Submission)
 caller_named name subs = any_last (λ c. bytes_eq name c.name) (λ n. record { name = n; scripts = scripts_by n subs }) (first_seen (map (λ s. s.caller) subs))
 
 -- a line of books
-books_step : (version : Version) (b : ClearingBooks) (range : AreInRange b) → AreBooksWithin version b → (words : Words) → fault_of (books_words version b) words ≡ None → IsReached (books_words version b ++ words ∷ [])
+books_step : (version : Version) (b : ClearingBooks) (range : AreInRange b) → AreBooksWithin version b → (words : Words)
+    → fault_of (books_words version b) words ≡ None → IsReached (books_words version b ++ words ∷ [])
 books_step version b range within words none = by (books_line version b.instruments words (has_no_fault (printed version b) words at).formed)
   where
     at : fault_at (printed version b) words ≡ None
@@ -109,7 +115,8 @@ books_step version b range within words none = by (books_line version b.instrume
     by : (l : BooksLine) × (words ≡ line_words l) → IsReached (books_words version b ++ words ∷ [])
     by (AccountLine a cash, e) = let adds =
         adds_account version b range a cash (subst (λ w. fault_at (printed version b) w ≡ None) e at) in
-        InBooks version (put_cash b (value_of a) (value_of cash)) adds.in_range (row_within version b (row.Account (value_of a) (value_of cash)) within adds.within)
+        InBooks version (put_cash b (value_of a) (value_of cash)) adds.in_range
+        (row_within version b (row.Account (value_of a) (value_of cash)) within adds.within)
         (ap (λ w. books_words version b ++ w ∷ []) e ∙ sym adds.lines)
     by (PriceLine i price, e) = let adds =
         adds_price version b range i price (subst (λ w. fault_at (printed version b) w ≡ None) e at) in
@@ -117,13 +124,24 @@ books_step version b range within words none = by (books_line version b.instrume
         (ap (λ w. books_words version b ++ w ∷ []) e ∙ sym adds.lines)
     by (PositionLine a i quantity, e) = let adds =
         adds_position version b range a i quantity (subst (λ w. fault_at (printed version b) w ≡ None) e at) in
-        InBooks version (put_quantity b (value_of a) (value_of i) (value_of quantity)) adds.in_range (row_within version b (row.Position (value_of a) (value_of i) (value_of quantity)) within tt)
+        InBooks version (put_quantity b (value_of a) (value_of i) (value_of quantity)) adds.in_range
+        (row_within version b (row.Position (value_of a) (value_of i) (value_of quantity)) within tt)
         (ap (λ w. books_words version b ++ w ∷ []) e ∙ sym adds.lines)
     by (CallLine a shortfall, e) = let adds =
         adds_call version b range a shortfall (subst (λ w. fault_at (printed version b) w ≡ None) e at) in
-        InBooks version (put_call b (value_of a) (value_of shortfall)) adds.in_range (row_within version b (row.Call (value_of a) (value_of shortfall)) within tt)
+        InBooks version (put_call b (value_of a) (value_of shortfall)) adds.in_range
+        (row_within version b (row.Call (value_of a) (value_of shortfall)) within tt)
         (ap (λ w. books_words version b ++ w ∷ []) e ∙ sym adds.lines)
-    by (ScriptsLine, e) = Outside (record { version = version; books = b; subs = []; range = range; within = within; valid = no_callers version b; lines_are = ap (λ w. books_words version b ++ w ∷ []) e })
+    by (ScriptsLine, e) = Outside (record {
+      version = version;
+      books = b;
+      subs = [];
+      range = range;
+      within = within;
+      valid = no_callers version b;
+      lines_are =
+          ap (λ w. books_words version b ++ w ∷ []) e;
+    })
 
 -- a line between scripts, which is not the last one
 outside_step : (lines : List Words) (words : Words) → (r : Between lines) → fault_of lines words ≡ None
@@ -187,7 +205,8 @@ operation_has_room count alternatives o room =
 
 -- the lines of a script that ends
 ended_more : (version : Version) (b : ClearingBooks) (subs : List Submission) (name : List ℕ) (parts : List Part)
-    → lines_inside version b subs name parts BetweenParts ++ (codes "end" ∷ []) ∷ [] ≡ lines_so_far version b (subs ++ record { caller = name; script = parts } ∷ [])
+    → lines_inside version b subs name parts BetweenParts ++ (codes "end" ∷ []) ∷ []
+    ≡ lines_so_far version b (subs ++ record { caller = name; script = parts } ∷ [])
 ended_more version b subs name parts =
     append_assoc (lines_so_far version b subs) (opened name parts BetweenParts) ((codes "end" ∷ []) ∷ [])
     ∙ append_assoc (books_words version b) (ended subs) (opened name parts BetweenParts ++ (codes "end" ∷ []) ∷ [])
@@ -214,7 +233,8 @@ has_no_fault_inside version region instruments count alternatives words none =
     record { formed = n1.0; numbers = passed n2.0; ranges = passed limit.0; few = limit.1 }
 
 -- a script that has not ended, with one more operation for which there is room
-operation_fits : (version : Version) (b : ClearingBooks) (parts : List Part) (stage : Open) (o : Op) → IsScriptOf version b (parts_with parts stage) → IsOperationOf version b o
+operation_fits : (version : Version) (b : ClearingBooks) (parts : List Part) (stage : Open) (o : Op) → IsScriptOf version b (parts_with parts stage)
+    → IsOperationOf version b o
     → length (operations_of (parts_with parts stage)) < MOST_OPERATIONS
     → IsScriptOf version b (parts_with (parts_more parts stage o) (open_more stage o))
 operation_fits version b parts stage o script fits room = record {
@@ -265,7 +285,8 @@ module _ (lines : List Words) (words : Words) (r : Inside lines) (none : fault_o
   with_operation : (o : Op) → IsOperationOf r.version r.books o → words ≡ operation_words o → IsReached (lines ++ words ∷ [])
   with_operation o fits is =
       let room : nat_le MOST_OPERATIONS (length (operations_of (parts_with r.parts r.stage))) ≡ false =
-      operation_has_room _ _ o (ap (is_too_many (length (operations_of (parts_with r.parts r.stage))) (sum_by alternatives_in (parts_with r.parts r.stage))) (sym is)
+      operation_has_room _ _ o (ap (is_too_many (length (operations_of (parts_with r.parts r.stage))) (sum_by alternatives_in (parts_with r.parts r.stage)))
+      (sym is)
       ∙ no_reason.few) in
       goes_on_with (parts_more r.parts r.stage o) (open_more r.stage o) (operation_words o) is
       (operation_fits r.version r.books r.parts r.stage o r.script fits (leb-false MOST_OPERATIONS _ room)) (words_more r.parts r.stage o)
@@ -288,10 +309,12 @@ within_step lines words r none = by r.stage refl
     at stage is = ap (script_words r.parts) is
 
     by : (stage : Open) → r.stage ≡ stage → IsReached (lines ++ words ∷ [])
-    by stage is = turn stage is (subst (λ o. IsOneOf (turning_forms (region_of o)) words ⊎ ((o : Op) × IsOperationOf r.version r.books o × (words ≡ operation_words o))) is line_is)
+    by stage is = turn stage is (subst (λ o. IsOneOf (turning_forms (region_of o)) words ⊎
+        ((o : Op) × IsOperationOf r.version r.books o × (words ≡ operation_words o))) is line_is)
       where
         turn : (stage : Open) → r.stage ≡ stage
-            → IsOneOf (turning_forms (region_of stage)) words ⊎ ((o : Op) × IsOperationOf r.version r.books o × (words ≡ operation_words o)) → IsReached (lines ++ words ∷ [])
+            → IsOneOf (turning_forms (region_of stage)) words ⊎ ((o : Op) × IsOperationOf r.version r.books o × (words ≡ operation_words o))
+            → IsReached (lines ++ words ∷ [])
         turn stage is (inr o) = with_operation lines words r none o.0 o.1 o.2
         turn BetweenParts is (inl turns) = elim (end_or_try words turns) [
           | inl e ↦ Outside (record {
@@ -301,9 +324,11 @@ within_step lines words r none = by r.stage refl
             range = r.range;
             within = r.within;
             valid = subst (AreCallersOf r.version r.books) (sym (callers_of-push r.subs s))
-                (callers_more r.version r.books (callers_of r.subs) s r.valid r.is_name (subst (λ o. IsScriptOf r.version r.books (parts_with r.parts o)) is r.script) r.room r.space);
+                (callers_more r.version r.books (callers_of r.subs) s r.valid r.is_name
+                (subst (λ o. IsScriptOf r.version r.books (parts_with r.parts o)) is r.script) r.room r.space);
             lines_are = (λ t. r.lines_are t ++ e t ∷ [])
-                ∙ ap (λ o. lines_inside r.version r.books r.subs r.name r.parts o ++ (codes "end" ∷ []) ∷ []) is ∙ ended_more r.version r.books r.subs r.name r.parts;
+                ∙ ap (λ o. lines_inside r.version r.books r.subs r.name r.parts o ++ (codes "end" ∷ []) ∷ []) is
+                ∙ ended_more r.version r.books r.subs r.name r.parts;
           })
           | inr e ↦ goes_on_with lines words r none r.parts (InFirst []) (codes "try" ∷ []) e
               (try_fits r.version r.books r.parts (subst (λ o. IsScriptOf r.version r.books (parts_with r.parts o)) is r.script)
@@ -324,7 +349,8 @@ within_step lines words r none = by r.stage refl
 pub reach : (lines : List Words) (words : Words) → IsReached lines → fault_of lines words ≡ None
     → is_only (codes "finish") words ≡ false → IsReached (lines ++ words ∷ [])
 reach lines words (AtStart e) none more = subst (λ l. IsReached (l ++ words ∷ [])) (sym e) (
-    let h = header_adds words (sym (ap (λ l. fault_of l words) e) ∙ none) in InBooks (header_version words) (books_of_header words) h.in_range h.within (sym h.lines)
+    let h = header_adds words (sym (ap (λ l. fault_of l words) e) ∙ none) in
+    InBooks (header_version words) (books_of_header words) h.in_range h.within (sym h.lines)
     )
 reach lines words (InBooks version b range within e) none more =
     subst (λ l. IsReached (l ++ words ∷ [])) (sym e) (books_step version b range within words (sym (ap (λ l. fault_of l words) e) ∙ none))

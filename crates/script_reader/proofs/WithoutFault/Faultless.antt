@@ -51,7 +51,8 @@ small_price instruments e h = omega (arith, h.0.1, h.1)
 pub small_position : (instruments : ℕ) (e : (ℕ × ℕ) × ℕ) → IsPosition instruments e → (e.0.0 < 2 ^ 64) × (e.0.1 < 2 ^ 64)
 small_position instruments e h = (omega (arith, h.0.1), omega (arith, h.2.0.1, h.2.1))
 
-module _ (version : Version) (blocks instruments ring : ℕ) (small_blocks : blocks < 2 ^ 64) (small_instruments : instruments < 2 ^ 64) (small_ring : ring < 2 ^ 64) where
+module _ (version : Version) (blocks instruments ring : ℕ) (small_blocks : blocks < 2 ^ 64) (small_instruments : instruments < 2 ^ 64)
+    (small_ring : ring < 2 ^ 64) where
   -- books of these sizes
   abbrev pub sized : List (ℕ × ℕ) → List (ℕ × ℕ) → List ((ℕ × ℕ) × ℕ) → List (ℕ × ℕ) → Printed
   sized accounts prices positions calls = record {

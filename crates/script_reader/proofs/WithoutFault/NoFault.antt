@@ -187,12 +187,14 @@ module _ (version : Version) (books : ClearingBooks) (fits : books.instruments <
       ∷ []
       )) ∙ limit_of full
     where
-      limit_of : (b : Bool) → first_reason ((false, fault.Word) ∷ (false, fault.Number) ∷ (b || false, fault.Limit) ∷ []) ≡ (if b then Some fault.Limit else None)
+      limit_of : (b : Bool) → first_reason ((false, fault.Word) ∷ (false, fault.Number) ∷ (b || false, fault.Limit) ∷ [])
+          ≡ (if b then Some fault.Limit else None)
       limit_of true = refl
       limit_of false = refl
 
   -- an operation has no fault, unless there are too many before it
-  pub operation_fault : (o : Op) → IsOperationOf version books o → inside_at version region books.instruments count alternatives (operation_words o) ≡ (if full then Some fault.Limit else None)
+  pub operation_fault : (o : Op) → IsOperationOf version books o
+      → inside_at version region books.instruments count alternatives (operation_words o) ≡ (if full then Some fault.Limit else None)
   operation_fault (op.OpenAccount a) h = row (a ∷ []) (accounts ∷ []) refl (h, lit< tt, tt)
   operation_fault (op.Close a) h = row (a ∷ []) (accounts ∷ []) refl (h, lit< tt, tt)
   operation_fault (op.Deposit a x) h = row (a ∷ x ∷ []) (accounts ∷ amounts version ∷ []) refl (h.0, lit< tt, (h.1, amount_small version, tt))
@@ -209,7 +211,8 @@ module _ (version : Version) (books : ClearingBooks) (fits : books.instruments <
   operation_fault (op.Sum a b) h = row (a ∷ b ∷ []) (accounts ∷ accounts ∷ []) refl (h.0, lit< tt, (h.1, lit< tt, tt))
 
 pub operation_has_none : (version : Version) (books : ClearingBooks) → books.instruments < 2 ^ 64 → (region : Region) (count alternatives : ℕ)
-    → count < MOST_OPERATIONS → (o : Op) → IsOperationOf version books o → inside_at version region books.instruments count alternatives (operation_words o) ≡ None
+    → count < MOST_OPERATIONS → (o : Op) → IsOperationOf version books o
+    → inside_at version region books.instruments count alternatives (operation_words o) ≡ None
 operation_has_none version books fits region count alternatives room =
     operation_fault version books fits region count alternatives false (lt-leb MOST_OPERATIONS count room)
 

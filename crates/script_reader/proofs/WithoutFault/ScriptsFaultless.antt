@@ -22,7 +22,8 @@ use Rattle.script_reader.specs.declared.limits.TheConstants.{MOST_CALLERS, MOST_
 use Rattle.script_reader.specs.declared.fault.Fault.TheVariants as fault
 use Rattle.script_reader.specs.Lines.{AreWords, IsWord}
 use Rattle.script_reader.specs.Text.{operation_words, part_words}
-use Rattle.script_reader.specs.Inner.LinesAsWords.{Open, BetweenParts, InFirst, InSecond, parts_with, region_of, script_words, books_words, submission_words, lines_so_far, lines_inside}
+use Rattle.script_reader.specs.Inner.LinesAsWords.{Open, BetweenParts, InFirst, InSecond, parts_with, region_of, script_words, books_words}
+use Rattle.script_reader.specs.Inner.LinesAsWords.{submission_words, lines_so_far, lines_inside}
 use Rattle.script_reader.specs.Input.{Submission, add_name, callers_of, first_seen, count_scripts}
 use Rattle.script_reader.specs.Versions.{AreBooksWithin}
 use Rattle.script_reader.specs.Forms.{Words, is_only, accounts, amounts, quantities}
@@ -30,7 +31,8 @@ use Rattle.script_reader.specs.Faults.{fault_of, first_reason, AreFaultless}
 use Rattle.script_reader.proofs.Versions.{amount_small}
 use Rattle.script_reader.proofs.Tokens.Cutting.{word_from_test}
 use Rattle.script_reader.proofs.Printing.Scripted.{ended, is_beyond_at, outside_fault_is, inside_at, inside_fault_is}
-use Rattle.script_reader.proofs.Printing.Opened.{parts_more, open_more, words_more, operations_more, words_try, operations_try, words_else, inside_more, rest_of_branch, first_count}
+use Rattle.script_reader.proofs.Printing.Opened.{parts_more, open_more, words_more, operations_more, words_try, operations_try, words_else}
+use Rattle.script_reader.proofs.Printing.Opened.{inside_more, rest_of_branch, first_count}
 use Rattle.script_reader.proofs.WithoutFault.NoFault.{operation_has_none, try_fault, scripts_has_none}
 use Rattle.script_reader.proofs.WithoutFault.Faultless.{row_are_words}
 use Rattle.script_reader.proofs.WithoutFault.BooksFaultless.{printed, printed_small, instruments_fit, books_faultless}
@@ -41,7 +43,8 @@ use Rattle.script_reader.specs.declared.version.Version.{Version}
 use Rattle.script_reader.proofs.Judging.{faultless_append}
 
 -- the words of an operation are those of a line
-pub operation-AreWords : (version : Version) (books : ClearingBooks) → books.instruments < 2 ^ 64 → (o : Op) → IsOperationOf version books o → AreWords (operation_words o)
+pub operation-AreWords : (version : Version) (books : ClearingBooks) → books.instruments < 2 ^ 64 → (o : Op) → IsOperationOf version books o
+    → AreWords (operation_words o)
 operation-AreWords version books fits (op.OpenAccount a) h =
     row_are_words (codes "open") (a ∷ []) (accounts ∷ []) (word_from_test (codes "open") refl) refl (h, lit< tt, tt)
 operation-AreWords version books fits (op.Close a) h =
@@ -110,7 +113,8 @@ module _ (version : Version) (b : ClearingBooks) (range : AreInRange b) where
   operations_faultless subs name parts stage (o ∷ rest) all room = (
     operation-AreWords version b (instruments_fit b range) o all.0,
     inside_fault_is (printed version b) subs name parts stage (operation_words o) (printed_small b range version)
-        ∙ operation_has_none version b (instruments_fit b range) (region_of stage) (length (operations_of (parts_with parts stage))) _ (omega (arith, room)) o all.0,
+        ∙ operation_has_none version b (instruments_fit b range) (region_of stage) (length (operations_of (parts_with parts stage))) _
+        (omega (arith, room)) o all.0,
     operation_unfinished o,
     subst (λ ls. AreFaultless ls (map operation_words rest))
         (inside_more version b subs name parts (parts_more parts stage o) stage (open_more stage o) (operation_words o ∷ []) (words_more parts stage o))
@@ -121,7 +125,8 @@ module _ (version : Version) (b : ClearingBooks) (range : AreInRange b) where
   -- a line of one word of a script that turns it
   pub turning_faultless : (subs : List Submission) (name : List ℕ) (parts : List Part) (stage : Open) (word : List ℕ)
       → IsWord word → is_only (codes "finish") (word ∷ []) ≡ false
-      → inside_at version (region_of stage) b.instruments (length (operations_of (parts_with parts stage))) (sum_by alternatives_in (parts_with parts stage)) (word ∷ []) ≡ None
+      → inside_at version (region_of stage) b.instruments (length (operations_of (parts_with parts stage))) (sum_by alternatives_in (parts_with parts stage))
+      (word ∷ []) ≡ None
       → AreFaultless (lines_inside version b subs name parts stage) ((word ∷ []) ∷ [])
   turning_faultless subs name parts stage word is more none = (
     record { some = omega arith; each = (is, tt) },
@@ -143,17 +148,23 @@ module _ (version : Version) (b : ClearingBooks) (range : AreInRange b) where
       let begun = inside_more version b subs name parts parts BetweenParts (InFirst []) ((codes "try" ∷ []) ∷ []) (words_try parts) in
       let branch = inside_more version b subs name parts parts (InFirst []) (InFirst first) (map operation_words first) (rest_of_branch parts first second).0 in
       let turned = inside_more version b subs name parts parts (InFirst first) (InSecond first []) ((codes "else" ∷ []) ∷ []) (words_else parts first) in
-      let other = inside_more version b subs name parts parts (InSecond first []) (InSecond first second) (map operation_words second) (rest_of_branch parts first second).1 in
+      let other = inside_more version b subs name parts parts (InSecond first []) (InSecond first second) (map operation_words second)
+      (rest_of_branch parts first second).1 in
       let count = first_count parts first in
-      faultless_append fault_of start ((codes "try" ∷ []) ∷ []) (map operation_words first ++ ((codes "else" ∷ []) ∷ (map operation_words second ++ (codes "done" ∷ []) ∷ [])))
+      faultless_append fault_of start ((codes "try" ∷ []) ∷ [])
+      (map operation_words first ++ ((codes "else" ∷ []) ∷ (map operation_words second ++ (codes "done" ∷ []) ∷ [])))
       (turning_faultless subs name parts BetweenParts (codes "try") (word_from_test (codes "try") refl) refl
-      (try_fault version b.instruments (length (operations_of parts)) (sum_by alternatives_in parts) false (lt-leb MOST_ALTERNATIVES (sum_by alternatives_in parts) (omega (arith, few)))))
+      (try_fault version b.instruments (length (operations_of parts)) (sum_by alternatives_in parts) false
+      (lt-leb MOST_ALTERNATIVES (sum_by alternatives_in parts) (omega (arith, few)))))
       (subst (λ ls. AreFaultless ls (map operation_words first ++ ((codes "else" ∷ []) ∷ (map operation_words second ++ (codes "done" ∷ []) ∷ [])))) begun
-      (faultless_append fault_of (lines_inside version b subs name parts (InFirst [])) (map operation_words first) ((codes "else" ∷ []) ∷ (map operation_words second ++ (codes "done" ∷ []) ∷ []))
+      (faultless_append fault_of (lines_inside version b subs name parts (InFirst [])) (map operation_words first)
+      ((codes "else" ∷ []) ∷ (map operation_words second ++ (codes "done" ∷ []) ∷ []))
       (operations_faultless subs name parts (InFirst []) first
-      (recursion_from_All (IsOperationOf version b) first (All-front (IsOperationOf version b) first second all)) (omega (arith, room, ap length (operations_try parts), long)))
+      (recursion_from_All (IsOperationOf version b) first (All-front (IsOperationOf version b) first second all))
+      (omega (arith, room, ap length (operations_try parts), long)))
       (subst (λ ls. AreFaultless ls ((codes "else" ∷ []) ∷ (map operation_words second ++ (codes "done" ∷ []) ∷ []))) branch
-      (faultless_append fault_of (lines_inside version b subs name parts (InFirst first)) ((codes "else" ∷ []) ∷ []) (map operation_words second ++ (codes "done" ∷ []) ∷ [])
+      (faultless_append fault_of (lines_inside version b subs name parts (InFirst first)) ((codes "else" ∷ []) ∷ [])
+      (map operation_words second ++ (codes "done" ∷ []) ∷ [])
       (turning_faultless subs name parts (InFirst first) (codes "else") (word_from_test (codes "else") refl) refl refl)
       (subst (λ ls. AreFaultless ls (map operation_words second ++ (codes "done" ∷ []) ∷ [])) turned
       (faultless_append fault_of (lines_inside version b subs name parts (InSecond first [])) (map operation_words second) ((codes "done" ∷ []) ∷ [])
@@ -176,10 +187,20 @@ module _ (version : Version) (b : ClearingBooks) (range : AreInRange b) where
       let long = length-append (operations_in p) (operations_of rest) in
       let counted = sum_by-cons alternatives_in p rest in
       faultless_append fault_of (lines_inside version b subs name done BetweenParts) (part_words p) (flat_map part_words rest)
-      (part_faultless subs name done p (All-front (IsOperationOf version b) (operations_in p) (operations_of rest) all) (omega (arith, room, long)) (omega (arith, few, counted)))
-      (subst (λ ls. AreFaultless ls (flat_map part_words rest)) (inside_more version b subs name done (done ++ p ∷ []) BetweenParts BetweenParts (part_words p) more)
+      (part_faultless subs name done p (All-front (IsOperationOf version b) (operations_in p) (operations_of rest) all) (omega (arith, room, long))
+      (omega (arith, few, counted)))
+      (subst (λ ls. AreFaultless ls (flat_map part_words rest))
+      (inside_more version b subs name done (done ++ p ∷ []) BetweenParts BetweenParts (part_words p) more)
       (parts_faultless subs name (done ++ p ∷ []) rest (All-back (IsOperationOf version b) (operations_in p) (operations_of rest) all)
-      (omega (arith, room, long, ap length (flat_map-append operations_in done (p ∷ [])), length-append (operations_of done) (operations_in p ++ []), length-append (operations_in p) []))
+      (omega (
+        arith,
+        room,
+        long,
+        ap length (flat_map-append operations_in done (p ∷ [])),
+        length-append (operations_of done)
+            (operations_in p ++ []),
+        length-append (operations_in p) [],
+      ))
       (omega (arith, few, counted, sum_by-append alternatives_in done (p ∷ [])))))
 
   -- the names of the callers of scripts
@@ -240,14 +261,16 @@ module _ (version : Version) (b : ClearingBooks) (range : AreInRange b) where
       (subst (λ l. length (first_seen (map (λ s. s.caller) l)) ≤ MOST_CALLERS) (sym (append_assoc done (s ∷ []) rest)) space)))
 
   -- the lines of scripts of callers
-  pub scripts_faultless : (subs : List Submission) → AreCallersOf version b (callers_of subs) → AreFaultless (lines_so_far version b []) (flat_map submission_words subs)
+  pub scripts_faultless : (subs : List Submission) → AreCallersOf version b (callers_of subs)
+      → AreFaultless (lines_so_far version b []) (flat_map submission_words subs)
   scripts_faultless subs valid =
       let counted : count_scripts (callers_of subs) ≡ length subs = ap count_scripts (callers_of-gathered subs) ∙ count-fold [] subs ∙ omega arith in
       let named : length (callers_of subs) ≡ length (first_seen (map (λ s. s.caller) subs)) = simp length-map in
       submissions_faultless [] subs (scripts_are_good version b subs valid) (omega (arith, valid.few_scripts, counted)) (omega (arith, valid.few, named))
 
   -- all lines of an input before its last
-  pub input_faultless : AreBooksWithin version b → (subs : List Submission) → AreCallersOf version b (callers_of subs) → AreFaultless [] (lines_so_far version b subs)
+  pub input_faultless : AreBooksWithin version b → (subs : List Submission) → AreCallersOf version b (callers_of subs)
+      → AreFaultless [] (lines_so_far version b subs)
   input_faultless within subs valid = faultless_append fault_of [] (books_words version b) (ended subs) (books_faultless version b range within) (
     record { some = omega arith; each = (word_from_test (codes "scripts") refl, tt) },
     scripts_has_none (printed version b) (printed_small b range version),

@@ -86,7 +86,8 @@ module _ (part : Part) (one : IsOne part) where
   used_of s f u b hold uses = ap (λ z. set.contains z b) (one s f (uses.0) u (uses.1) hold (uses.2)).1 ∙ uses.3
 
   -- a block that was free and is used was taken
-  pub moved_in : (s t : List ℕ) (f : Entries) (u v : Blocks) (b : ℕ) → HoldsApart part s f u v → set.contains v b ≡ true → IsUsedIn part t b → IsMoved part s t b
+  pub moved_in : (s t : List ℕ) (f : Entries) (u v : Blocks) (b : ℕ) → HoldsApart part s f u v
+      → set.contains v b ≡ true → IsUsedIn part t b → IsMoved part s t b
   moved_in s t f u v b hold free uses = inr (uses, λ k. true≢false (sym free ∙ hold.apart b (used_of s f u b hold.map k)))
 
   -- a block that was used and is used no more was given back

@@ -1,5 +1,5 @@
 -- What calls on the tree of accounts say of books.
-use Rattle.std.proofs.Common.{◌≡◌, ℕ, ◌<◌, ◌≤◌, false, Option, Some, None, IsSome, IfSome, List, []}
+use Rattle.std.proofs.Common.{◌≡◌, ℕ, ◌<◌, ◌≤◌, false, inl, inr, Option, Some, None, IsSome, IfSome, List, []}
 use Rattle.std.proofs.Common.{refl, sym, ◌∙◌, subst, arith}
 use Rattle.std.specs.Cmp.{nat_cmp_total}
 use Rattle.std.specs.FinMap as map
@@ -9,11 +9,19 @@ use Rattle.books_model.specs.Books.{ClearingBooks, used, put_cash}
 use Rattle.books_model.specs.Interpreter.{is_full, holds_any, cash_between}
 use Rattle.books_model.specs.Ranges.{AreInRange, IsAccountNumber}
 use Rattle.books_model.proofs.InRange.{put_cash-in_range, used_after_insert, change-in_range}
+use Rattle.history_model.specs.declared.shape.Shape.{Ghosts as Shapes}
+use Rattle.history_model.specs.Traces.{after, Begins}
+use Rattle.history_model.proofs.Traces.FittingLaws.{fits_begins}
+use Rattle.txn_words.specs.declared.words.Words.{Ghosts as AnyWords}
+use Rattle.txn_words.specs.Calls.{InEachState, LeadsTo, WritesOnly}
 use Rattle.txn_words.specs.Frames.{KeepsOthers}
+use Rattle.txn_words.proofs.CallLaws.{state_after}
+use Rattle.txn_words.proofs.FrameLaws.{only_keeps}
 use Rattle.txn_alloc.specs.declared.put.Put.{Put}
 use Rattle.txn_alloc.specs.declared.put.Put.TheVariants.{New, Old, Full}
 use Rattle.txn_alloc.specs.EntryMaps.{HasMap, HasMapApart, Finds, IsOwn, Inserts, Removes, SumsRange}
 use Rattle.txn_alloc.proofs.Maps.Parts.{held}
+use Rattle.txn_tree_map.specs.Stored.{HasKeyIn, IsValueOf, KeepsBlocks, Sets}
 use Rattle.txn_tree_map.specs.Trees.{tree_part}
 use Rattle.txn_books.specs.declared.shape.BooksShape.{BooksShape}
 use Rattle.txn_books.specs.Layout.{shape_of, tree_of}
@@ -108,21 +116,42 @@ module _ (shape : BooksShape) (a : ℕ) (number : IsAccountNumber a) where
     left = λ books stand. subst (λ z. Stands shape z books) (sym put.inserts) stand;
   }
 
--- an account that is there is not absent
-is_there : {A : Type 0} (o : Option ℕ) → IsSome o → o ≡ None → A
-is_there o there none = let no : IsSome {T = ℕ} None = subst (λ (q : Option ℕ). IsSome q) none there in absurd (cc)
-
--- what an insert of an account that was there did
-pub account_set : (shape : BooksShape) (a v : ℕ) → v ≤ GREATEST_CASH → (put : Put) (x y : List ℕ)
-    → OfModel (Stands shape) (λ books. IsSome (map.get books.accounts a)) x → IsPut (tree_part (tree_of shape)) a v put x y
+-- what a write of an account's cash in its block did
+pub balance_set : (shape : BooksShape) (a v block : ℕ) → v ≤ GREATEST_CASH → (x y : List ℕ) → HasKeyIn (tree_of shape) a block x
+    → KeepsOthers (IsValueOf (tree_of shape) block) x y → Sets (tree_of shape) a v x y
     → Changes (Stands shape) (λ books. put_cash books a v) x y
-account_set shape a v fits New x y there put = λ books stand.
-    let k = put.inserts books.accounts stand.parts.tree_used stand.parts.free (tree_apart shape x books stand) in
-    is_there (map.get books.accounts a) (there books stand) k.absent
-account_set shape a v fits (Old was) x y there put = λ books stand. account_old shape x y books stand a put.keeps v fits was put.inserts
-account_set shape a v fits Full x y there put = λ books stand.
-    is_there (map.get books.accounts a) (there books stand) (put.full refl books.accounts stand.parts.tree_used
-    stand.parts.free (tree_apart shape x books stand)).0
+balance_set shape a v block fits x y held kept sets = λ books stand.
+    account_old shape x y books stand a
+    (record {
+      count = kept.count;
+      same = λ c out. kept.same c (λ e. out (inr (inl (block, inl held.0, record { low = omega (arith, e); high = omega (arith, e) }))));
+    }) v fits sets.0 sets.1
+
+module _ {W S O : Type 0} (words : AnyWords W S O) (shapes : Shapes S) (shape : BooksShape) (v w : W) where
+  pub leads_balance : (a amount block : ℕ) → amount ≤ GREATEST_CASH → Begins (words.trace v) (words.trace w)
+      → InEachState words shapes v (HasKeyIn (tree_of shape) a block) → LeadsTo words shapes v w (Sets (tree_of shape) a amount)
+      → WritesOnly words v w (IsValueOf (tree_of shape) block)
+      → LeadsTo words shapes v w (Changes (Stands shape) (λ books. put_cash books a amount))
+  leads_balance a amount block fits begins held sets frame = record {
+    at = λ s fit. balance_set shape a amount block fits (after (words.trace v) s) (after (words.trace w) s)
+        (held.at s (fits_begins _ _ (words.trace v) (words.trace w) s begins fit))
+        (only_keeps (IsValueOf (tree_of shape) block) (words.trace v) (words.trace w) s frame.appended) (sets.at s fit);
+  }
+
+  -- an account stands where it stood, after a call that keeps all blocks, and after one that tells something alone
+  pub held_kept : (a block : ℕ) → words.shape w ≡ words.shape v → Begins (words.trace v) (words.trace w)
+      → InEachState words shapes v (HasKeyIn (tree_of shape) a block) → LeadsTo words shapes v w (KeepsBlocks (tree_of shape))
+      → InEachState words shapes w (HasKeyIn (tree_of shape) a block)
+  held_kept a block same begins held keeps = state_after words shapes v w (HasKeyIn (tree_of shape) a block) (HasKeyIn (tree_of shape) a block)
+      (KeepsBlocks (tree_of shape)) same begins held keeps (λ x y there kept. kept a block there)
+
+  pub held_told : {A : Type 0} (a block : ℕ) (says : ClearingBooks → A) (answer : A) → words.shape w ≡ words.shape v
+      → Begins (words.trace v) (words.trace w) → InEachState words shapes v (HasKeyIn (tree_of shape) a block)
+      → LeadsTo words shapes v w (Tells (Stands shape) says answer) → InEachState words shapes w (HasKeyIn (tree_of shape) a block)
+  held_told a block says answer same begins held told =
+      state_after words shapes v w (HasKeyIn (tree_of shape) a block) (HasKeyIn (tree_of shape) a block)
+      (Tells (Stands shape) says answer) same begins held told
+      (λ x y there t. subst (HasKeyIn (tree_of shape) a block) (sym t.same) there)
 
 -- what a removal of an account that holds nothing did
 pub account_removed : (shape : BooksShape) (a : ℕ) (answer : Option ℕ) (x y : List ℕ)

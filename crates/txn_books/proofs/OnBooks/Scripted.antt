@@ -197,7 +197,8 @@ module _ {W S O A : Type 0} {words : AnyWords W S O} {shapes : Shapes S} {shape 
     -- it gives a value
     pub run_gives : (value : Value) → come ≡ outcome.Gives value
         → Turned words shapes shape u w (SoFar whole (values ++ value ∷ []) (run_from (number + 1) rest))
-    run_gives value is = turned_less stepped (λ books last sized k. goes_on op rest _ values number k.0 k.1 value last (k.2 ∙ ap (λ o. step_of_outcome o last) is))
+    run_gives value is = turned_less stepped (λ books last sized k. goes_on op rest _ values number k.0 k.1 value last
+        (k.2 ∙ ap (λ o. step_of_outcome o last) is))
 
     -- it is declined
     pub run_declined : (why : Decline) → come ≡ outcome.Declines why → LeadsTo words shapes u w (Runs shape whole (reply.Declined number why))
@@ -227,7 +228,8 @@ module _ {W S O A : Type 0} {words : AnyWords W S O} {shapes : Shapes S} {shape 
     -- it is declined
     pub one_declined : (why : Decline) → come ≡ outcome.Declines why → LeadsTo words shapes u w (Runs shape whole (reply.Declined number why))
     one_declined why is = turned_runs stepped_on (λ books last k.
-        part_stops (part.One op) rest _ values number k.0 k.1 (reply.Declined number why) (one_of k.0 last (Declines why) k.2 (ap (λ o. step_of_outcome o last) is)))
+        part_stops (part.One op) rest _ values number k.0 k.1 (reply.Declined number why)
+        (one_of k.0 last (Declines why) k.2 (ap (λ o. step_of_outcome o last) is)))
 
     -- it finds no block
     pub one_full : come ≡ outcome.FindsNoBlock → LeadsTo words shapes u w (Runs shape whole (reply.Full number))
@@ -301,7 +303,8 @@ module _ {W O : Type 0} (words : AnyWords W BooksShape O) (shapes : Shapes Books
 
   module _ (v w : W) (fresh : words.trace v ≡ []) (e : words.shape v ≡ shape) where
     -- a run that began with no event, on each list that fits
-    pub fresh_means : (script : List Part) (answer : Reply) (kept : Bool) → kept ≡ is_done answer → LeadsTo words shapes v w (Runs shape (run_parts 1 script) answer)
+    pub fresh_means : (script : List Part) (answer : Reply) (kept : Bool)
+        → kept ≡ is_done answer → LeadsTo words shapes v w (Runs shape (run_parts 1 script) answer)
         → (s : List ℕ) → Fits (shapes.word_count shape) (shapes.good shape) (words.trace w) s → ScriptMeans shape script s kept answer (after (words.trace w) s)
     fresh_means script answer kept where_done runs s fit =
         run_means shape script answer kept s (after (words.trace w) s) where_done

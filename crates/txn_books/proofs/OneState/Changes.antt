@@ -1,5 +1,5 @@
 -- A change of one part leaves the others.
-use Rattle.std.proofs.Common.{◌≡◌, ◌≢◌, ℕ, ◌+◌, ◌<◌, ◌⊎◌, true, List, [], ◌∷◌, ◌==◌, slice_get, arith}
+use Rattle.std.proofs.Common.{◌≡◌, ◌≢◌, ℕ, ◌+◌, ◌<◌, ◌⊎◌, true, List, [], ◌∷◌, ◌==◌, slice_get, subst, arith}
 use Rattle.std.specs.Ordering.{nat_cmp}
 use Rattle.std.specs.List.{count_by}
 use Rattle.std.specs.FinSet as set
@@ -79,9 +79,8 @@ module _ (old new : List ℕ) (books : ClearingBooks) (in_hand : List ℕ) (part
     }
 
   -- a change of the chains
-  module _ (positions : entry_map.FinMap position_cmp ℕ) (prices : entry_map.FinMap nat_cmp ℕ) (after free : Blocks) (key : ℕ)
-      (held : ChainsHold (chains_of (shape_of books)) new
-      (chained (record books { positions = positions; prices = prices })) after) (lists : FreeListsHold (arena_of (shape_of books)) new free)
+  module _ (entries : Entries) (after free : Blocks) (key : ℕ)
+      (held : ChainsHold (chains_of (shape_of books)) new entries after)
       (as_many : (b : ℕ) → times_among b (after ∷ free ∷ []) ≡ times_among b (parts.chain_used ∷ parts.free ∷ []))
       (kept : KeepsOthers (IsOwn (chain_part (chains_of (shape_of books))) key old new) old new) where
     counts_chain : (b : ℕ) → times_of after b + times_of free b ≡ times_of parts.chain_used b + times_of parts.free b
@@ -99,18 +98,30 @@ module _ (old new : List ℕ) (books : ClearingBooks) (in_hand : List ℕ) (part
         → slice_get new a ≡ slice_get old a
     stay a bucket head out = kept.same a
         (not_own (chain_part (chains_of (shape_of books))) (chains.is_one (chains_of (shape_of books))) key old new
-        (chained books) (chained (record books { positions = positions; prices = prices })) parts.chain_used after parts.chains held a
+        (chained books) entries parts.chain_used after parts.chains held a
         (λ e. bucket (bucket_is (chains_of (shape_of books)) key a e)) head out)
 
-    pub chain_change : HasParts new (record books { positions = positions; prices = prices }) in_hand
-    chain_change = record {
+    -- the words of the tree's blocks stay, and so does the tree
+    pub tree_block_stays : (d a : ℕ) → set.contains parts.tree_used d ≡ true → IsInBlock (arena_of (shape_of books)) d a
+        → slice_get new a ≡ slice_get old a
+    tree_block_stays d a m mine = let w = block_apart (shape_of books) d a mine in stay a w.2 w.1 (λ e uses. tree_out d a e m mine uses)
+
+    pub tree_stays : TreeHolds (tree_of (shape_of books)) new books.accounts parts.tree_used
+    tree_stays =
+        let k = root_apart (shape_of books) in
+        tree_stands (tree_of (shape_of books)) old new books.accounts parts.tree_used parts.accounts kept.count
+        (stay (tree_of (shape_of books)).root k.1 k.0 (λ d uses. k.3 d)) tree_block_stays
+
+    pub chain_change : (positions : entry_map.FinMap position_cmp ℕ) (prices : entry_map.FinMap nat_cmp ℕ)
+        → entries ≡ chained (record books { positions = positions; prices = prices })
+        → FreeListsHold (arena_of (shape_of books)) new free
+        → HasParts new (record books { positions = positions; prices = prices }) in_hand
+    chain_change positions prices is lists = record {
       tree_used = parts.tree_used;
       chain_used = after;
       free = free;
-      accounts = let k = root_apart (shape_of books) in tree_stands (tree_of (shape_of books)) old new books.accounts parts.tree_used parts.accounts kept.count
-          (stay (tree_of (shape_of books)).root k.1 k.0 (λ d uses. k.3 d))
-          (λ d a m mine. let w = block_apart (shape_of books) d a mine in stay a w.2 w.1 (λ e uses. tree_out d a e m mine uses));
-      chains = held;
+      accounts = tree_stays;
+      chains = subst (λ f. ChainsHold (chains_of (shape_of books)) new f after) is held;
       queue = queue_stands (queue_of (shape_of books)) old new books.calls parts.queue kept.count (λ a own. let k =
           ring_apart (shape_of books) a own in stay a k.2 k.1 (λ d uses. k.3 d));
       free_lists = lists;

@@ -144,25 +144,25 @@ module _ (old new : List ℕ) (books : ClearingBooks) (in_hand : List ℕ) (part
   chain_new x k e =
       let out = free_unused (chain_part (chains_of (shape_of books))) old (chained books) parts.chain_used parts.free
       k.block (chains_free old books in_hand parts) k.was_free in
-      chain_change old new books in_hand parts positions prices (set.insert parts.chain_used k.block) (set.remove parts.free k.block) key
-      (subst (λ f. ChainsHold (chains_of (shape_of books)) new f (set.insert parts.chain_used k.block)) e k.left.map)
-      k.left.free_lists (moved_among parts.chain_used parts.free k.block out k.was_free) kept
+      chain_change old new books in_hand parts (entry_map.insert (chained books) key x) (set.insert parts.chain_used k.block)
+      (set.remove parts.free k.block) key k.left.map (moved_among parts.chain_used parts.free k.block out k.was_free) kept
+      positions prices e k.left.free_lists
 
   pub chain_old : (x was : ℕ) → InsertsOld (chain_part (chains_of (shape_of books))) key x was new (chained books) parts.chain_used parts.free
       → entry_map.insert (chained books) key x ≡ chained (record books { positions = positions; prices = prices })
       → HasParts new (record books { positions = positions; prices = prices }) in_hand
   chain_old x was k e =
-      chain_change old new books in_hand parts positions prices parts.chain_used parts.free key
-      (subst (λ f. ChainsHold (chains_of (shape_of books)) new f parts.chain_used) e k.left.map) k.left.free_lists (λ b. refl) kept
+      chain_change old new books in_hand parts (entry_map.insert (chained books) key x) parts.chain_used parts.free key
+      k.left.map (λ b. refl) kept positions prices e k.left.free_lists
 
   pub chain_cut : (was : ℕ) → RemovesOne (chain_part (chains_of (shape_of books))) key was new (chained books) parts.chain_used parts.free
       → entry_map.remove (chained books) key ≡ chained (record books { positions = positions; prices = prices })
       → HasParts new (record books { positions = positions; prices = prices }) in_hand
   chain_cut was k e =
       let out = (chains_free old books in_hand parts).apart k.block k.was_used in
-      chain_change old new books in_hand parts positions prices (set.remove parts.chain_used k.block) (set.insert parts.free k.block) key
-      (subst (λ f. ChainsHold (chains_of (shape_of books)) new f (set.remove parts.chain_used k.block)) e k.left.map)
-      k.left.free_lists (back_among parts.chain_used parts.free k.block k.was_used out) kept
+      chain_change old new books in_hand parts (entry_map.remove (chained books) key) (set.remove parts.chain_used k.block)
+      (set.insert parts.free k.block) key k.left.map (back_among parts.chain_used parts.free k.block k.was_used out) kept
+      positions prices e k.left.free_lists
 
 pub some_inserted : (shape : BooksShape) (old new : List ℕ) (key x : ℕ) (put : Put) → HasSomeParts shape old
     → Inserts (tree_part (tree_of shape)) key x put old new → KeepsOthers (IsOwn (tree_part (tree_of shape)) key old new) old new

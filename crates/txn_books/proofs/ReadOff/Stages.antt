@@ -160,7 +160,8 @@ module _ (whole : ClearingBooks) (range : AreInRange whole) where
             let key : position_key_of (e.0 / MOST_INSTRUMENTS) (e.0 % MOST_INSTRUMENTS + 1) ≡ e.0 = omega arith in
             subst (PositionsIf positions e es) (sym (ap not is)) (
               h.0 (e.0 / MOST_INSTRUMENTS) (e.0 % MOST_INSTRUMENTS + 1) place.0 place.1 ∙ ap (entry_map.get have) key ∙ adds.0,
-              positions_add es (entry_map.insert have e.0 e.1) (entry_map.insert positions (place_of e.0) e.1) (positions_put e.0 e.1 have positions le h) adds.1,
+              positions_add es (entry_map.insert have e.0 e.1) (entry_map.insert positions (place_of e.0) e.1)
+                  (positions_put e.0 e.1 have positions le h) adds.1,
             )
       ] refl
 

@@ -5,6 +5,7 @@ use Rattle.books_model.specs.declared.limits.TheConstants.{GREATEST_CASH, GREATE
 use Rattle.books_model.specs.Books.{ClearingBooks, position_of, put_cash}
 use Rattle.books_model.specs.Interpreter.{put_position}
 use Rattle.txn_books.specs.declared.shape.BooksShape.{BooksShape}
+use Rattle.txn_books.specs.declared.trading.Found.{Found}
 use Rattle.txn_books.specs.declared.trading.Side.{Side}
 use Rattle.txn_books.specs.Standing.{Stands}
 use Rattle.txn_books.specs.Access.{lacks_position_room}
@@ -17,6 +18,11 @@ side_with books a i (Some cash) = Some (record { account = a; cash = cash; held 
 -- where the account is there
 abbrev pub side_of : ClearingBooks → ℕ → ℕ → Option Side
 side_of books a i = side_with books a i (map.get books.accounts a)
+
+-- the side that was found, if one was
+abbrev pub side_in : Option Found → Option Side
+side_in None = None
+side_in (Some found) = Some found.side
 
 -- its numbers are in range
 pub record IsSideInRange (side : Side) : Type 0 where

@@ -1,11 +1,15 @@
 -- What a search that found the key says of the map, and which words it reads.
-use Rattle.std.proofs.Common.{◌≡◌, ℕ, ◌<◌, true, List, []}
+use Rattle.std.proofs.Common.{◌≡◌, ℕ, ◌<◌, true, List, [], Some, slice_get}
 use Rattle.std.specs.FinSet as set
-use Rattle.txn_alloc.specs.EntryMaps.{Entries, Blocks, IsUsedIn}
-use Rattle.txn_alloc.proofs.Maps.Founds.{IsOwnNear, IsKeysBlock}
+use Rattle.history_model.specs.Traces.{Trace, after}
+use Rattle.history_model.specs.Fitting.{InEach}
+use Rattle.txn_words.specs.Looks.{Looks}
+use Rattle.txn_alloc.specs.EntryMaps.{Entries, Blocks, HasMap, IsUsedIn}
+use Rattle.txn_alloc.proofs.Maps.Founds.{IsNearOr, IsOwnNear, IsKeysBlock}
 use Rattle.txn_tree_map.specs.declared.map.TreeMap.{TreeMap}
 use Rattle.txn_tree_map.specs.Trees.{TreeHolds, tree_part}
 use Rattle.txn_tree_map.specs.Searches.{IsLink, IsFoundAt}
+use Rattle.txn_tree_map.specs.Stored.{HasKeyIn}
 use Rattle.txn_tree_map.proofs.Held.Places.{at_tree, at_below, used_count}
 use Rattle.txn_tree_map.proofs.Searches.SearchSteps.{found_value, found_key}
 use Rattle.txn_tree_map.proofs.Searches.Links.{found_of, tree_used, link_seen}
@@ -27,4 +31,17 @@ keys_block map key p b = record {
   used = λ s f u m hold. tree_used map s f u hold b (found_of map key p b s m);
   key_there = λ s m. found_key map key s p b m;
   value = λ s f u x m e hold. found_value map key s f u p b x m e hold;
+}
+
+-- so the map uses the block, and for this key
+pub holds_key : (map : TreeMap) (key p b q x n : ℕ) (G : List ℕ → Type 0) (t u : Trace)
+    → Looks n G t u (IsNearOr (IsLink map) q) (λ s. IsFoundAt map key p b s × (slice_get s q ≡ Some x))
+    → InEach n G u (HasMap (tree_part map)) → InEach n G u (HasKeyIn map key b)
+holds_key map key p b q x n G t u l order = record {
+  at = λ s fit.
+      let o = order.at s fit in
+      let found = (l.holds s fit).0 in (
+        (o.entries, o.used, o.holds, (keys_block map key p b).used (after u s) o.entries o.used found o.holds),
+        (keys_block map key p b).key_there (after u s) found,
+      );
 }

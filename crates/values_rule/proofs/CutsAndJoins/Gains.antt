@@ -31,11 +31,13 @@ flag_is false true = (λ t. absurd (cc), λ e. absurd (let z : false ≡ true = 
 flag_is false false = (λ t. refl, λ e. refl)
 
 event_is : (e x : Event) → Decides (same_event e x) (e ≡ x)
-event_is (Read a x) (Read b y) = Decides-like (a == b && x == y) (λ t. let f = t.0 in let g = t.1 in cc) (λ e. (let q : Read a x ≡ Read b y = e in cc, let q : Read a x ≡ Read b y = e in cc))
+event_is (Read a x) (Read b y) = Decides-like (a == b && x == y) (λ t. let f = t.0 in let g = t.1 in cc)
+    (λ e. (let q : Read a x ≡ Read b y = e in cc, let q : Read a x ≡ Read b y = e in cc))
     (Decides-and (a == b) (x == y) (Decides-eqb a b) (Decides-eqb x y))
 event_is (Read a x) (Write b y) = (λ t. absurd (let z : false ≡ true = t in cc), λ e. absurd (let z : Read a x ≡ Write b y = e in cc))
 event_is (Write a x) (Read b y) = (λ t. absurd (let z : false ≡ true = t in cc), λ e. absurd (let z : Write a x ≡ Read b y = e in cc))
-event_is (Write a x) (Write b y) = Decides-like (a == b && x == y) (λ t. let f = t.0 in let g = t.1 in cc) (λ e. (let q : Write a x ≡ Write b y = e in cc, let q : Write a x ≡ Write b y = e in cc))
+event_is (Write a x) (Write b y) = Decides-like (a == b && x == y) (λ t. let f = t.0 in let g = t.1 in cc)
+    (λ e. (let q : Write a x ≡ Write b y = e in cc, let q : Write a x ≡ Write b y = e in cc))
     (Decides-and (a == b) (x == y) (Decides-eqb a b) (Decides-eqb x y))
 
 use_eq : (u w : LockUse) → u.lock ≡ w.lock → u.version ≡ w.version → u.wrote ≡ w.wrote → u ≡ w

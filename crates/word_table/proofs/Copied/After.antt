@@ -223,7 +223,8 @@ pub clear_bit : (masks : List ℕ) (w i : ℕ) (a b : List (ℕ × ℕ))
 clear_bit masks w i a b h = subst (λ (x : ℕ). ShowsPairs masks (if x == 0 then a else b)) (shr_and_one w i) h
 
 -- a row under a test that has the same answer
-pub same_test : (row locks : List ℕ) (k : ℕ) (a b : Bool) → a ≡ b → ShowsLocks row (if a then k ∷ locks else locks) → ShowsLocks row (if b then k ∷ locks else locks)
+pub same_test : (row locks : List ℕ) (k : ℕ) (a b : Bool) → a ≡ b → ShowsLocks row (if a then k ∷ locks else locks)
+    → ShowsLocks row (if b then k ∷ locks else locks)
 same_test row locks k a b e h = subst (λ (x : Bool). ShowsLocks row (if x then k ∷ locks else locks)) e h
 
 -- after a look at the timestamp of the cause, by whether it is still there

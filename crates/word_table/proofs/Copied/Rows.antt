@@ -1,6 +1,7 @@
 -- Bits of a pass's own rows and masks.
 use Rattle.std.proofs.Common.{◌≡◌, ◌≢◌, ℕ, zero, suc, ◌+◌, ◌*◌, ◌/◌, ◌%◌, ◌^◌, ◌<◌, ◌≤◌, ◌-◌, Bool, true, false, inl, inr, ⊎_elim, List, [], ◌∷◌, length}
-use Rattle.std.proofs.Common.{slice_index, slice_index_or, slice_set, refl, sym, ap, ◌∙◌, subst, arith, length-set, get_or-set_other, get_or-set_same, replicate}
+use Rattle.std.proofs.Common.{slice_index, slice_index_or, slice_set, refl, sym, ap, ◌∙◌, subst, arith, length-set, get_or-set_other, get_or-set_same}
+use Rattle.std.proofs.Common.{replicate}
 use Rattle.std.proofs.Common.{if◌then◌else◌}
 use Rattle.std.specs.Prelude.{bit_and, bit_or}
 use Rattle.std.specs.Int.{bit_at, bit_not, trailing_zeros}
@@ -12,7 +13,8 @@ use mathlib.Core.Logic.{dite}
 use native.Mathlib.Decide.{ℕ_discrete}
 use Rattle.history_model.specs.declared.TheConstants.{LOCKS}
 use Rattle.history_model.specs.Sets.{has, without, has_pair, without_first, flag}
-use Rattle.history_model.proofs.SetLemmas.{differ, has-nil, has-join, has-join_same, has-join_other, has-without, has-without_same, has-without_other, pair-join_same}
+use Rattle.history_model.proofs.SetLemmas.{differ, has-nil, has-join, has-join_same, has-join_other, has-without, has-without_same, has-without_other}
+use Rattle.history_model.proofs.SetLemmas.{pair-join_same}
 use Rattle.history_model.proofs.SetLemmas.{pair-join_other, pair-without_same, pair-without_other}
 use Rattle.locks_rule.proofs.Bits.{put_same, put_other, raise_here, raise_there, lower_here, lower_there}
 use Rattle.word_table.specs.declared.limits.TheConstants.{MOST_PASSES}

@@ -1,5 +1,6 @@
 -- What a pass keeps of versions, and what it is after a step.
-use Rattle.std.proofs.Common.{◌≡◌, ◌≢◌, ℕ, suc, ◌+◌, ◌/◌, ◌%◌, ◌^◌, ◌<◌, Bool, true, false, ◌⊎◌, inl, ⊎_elim, List, [], ◌∷◌, ◌++◌, length, slice_index, slice_set}
+use Rattle.std.proofs.Common.{◌≡◌, ◌≢◌, ℕ, suc, ◌+◌, ◌/◌, ◌%◌, ◌^◌, ◌<◌, Bool, true, false, ◌⊎◌, inl, ⊎_elim, List, [], ◌∷◌, ◌++◌, length}
+use Rattle.std.proofs.Common.{slice_index, slice_set}
 use Rattle.std.proofs.Common.{refl, sym, ap, ◌∙◌, subst, arith, if◌then◌else◌, None, Some, take, length-set, get_or-set_other, get_or-set_same}
 use Rattle.std.proofs.lemmas.List.{map-append}
 use Rattle.std.specs.Int.{bit_at}
@@ -121,7 +122,8 @@ untouched a t = ⊎_elim (λ e. let z : None ≡ Some (Read a t.1) = e in cc) (�
 owes_none : (owed : List ℕ) → owed ≡ [] → (k : ℕ) → has k owed ≡ false
 owes_none owed e k = ap (λ (l : List ℕ). has k l) e ∙ has-nil k
 
-module _ (copy : VersionCopy) (uses : List (ℕ × ℕ)) (owed : List ℕ) (trace : Trace) (undo : Notes) (phase : Phase) (i : IsVersionCopy copy uses owed trace undo phase) where
+module _ (copy : VersionCopy) (uses : List (ℕ × ℕ)) (owed : List ℕ) (trace : Trace) (undo : Notes) (phase : Phase)
+    (i : IsVersionCopy copy uses owed trace undo phase) where
   -- what a copy is when phase, notes and what is owed are others, with a row that shows them
   other_marks : (written : List ℕ) (owed' : List ℕ) (undo' : Notes) (phase' : Phase) → ShowsLocks written (written_or_owed phase' undo' owed')
       → ((k : ℕ) → has k (locks_of undo') ≡ true → has k (locks_found uses) ≡ true)
@@ -149,7 +151,8 @@ module _ (copy : VersionCopy) (uses : List (ℕ × ℕ)) (owed : List ℕ) (trac
           → (is_open p ≡ true → owed ≡ []) → ShowsLocks copy.written owed
       marks Idle s u o = s
       marks Running s u o = shows_same copy.written (locks_of undo) owed
-          (λ k. ⊎_elim (λ e. owes_none owed (o refl) k ∙ sym (ap (λ (l : Notes). has k (locks_of l)) e ∙ has-nil k)) (λ e. absurd (let z : Running ≡ Releasing = e in cc)) u) s
+          (λ k. ⊎_elim (λ e. owes_none owed (o refl) k ∙ sym (ap (λ (l : Notes). has k (locks_of l)) e ∙ has-nil k))
+          (λ e. absurd (let z : Running ≡ Releasing = e in cc)) u) s
       marks Yielding s u o = s
       marks Withdrawing s u o = s
       marks Releasing s u o = s
@@ -335,7 +338,8 @@ module _ (copy : VersionCopy) (uses : List (ℕ × ℕ)) (owed : List ℕ) (trac
   marked_owed k near b shown begun undone on = at phase refl
     where
       set : (p : Phase) → phase ≡ p → has k (written_or_owed p undo owed) ≡ true
-      set p e = flag_same (has k (written_or_owed p undo owed)) (sym ((subst (λ (q : Phase). ShowsLocks copy.written (written_or_owed q undo owed)) e i.written_are).bits k near)
+      set p e = flag_same (has k (written_or_owed p undo owed))
+          (sym ((subst (λ (q : Phase). ShowsLocks copy.written (written_or_owed q undo owed)) e i.written_are).bits k near)
           ∙ (sym shown ∙ ap flag on))
 
       at : (p : Phase) → phase ≡ p → (phase ≡ Releasing) × (has k owed ≡ true)
@@ -350,7 +354,8 @@ module _ (copy : VersionCopy) (uses : List (ℕ × ℕ)) (owed : List ℕ) (trac
   unmarked_unowed k near b shown off = at phase refl
     where
       clear : (p : Phase) → phase ≡ p → has k (written_or_owed p undo owed) ≡ false
-      clear p e = flag_false (has k (written_or_owed p undo owed)) (sym ((subst (λ (q : Phase). ShowsLocks copy.written (written_or_owed q undo owed)) e i.written_are).bits k near)
+      clear p e = flag_false (has k (written_or_owed p undo owed))
+          (sym ((subst (λ (q : Phase). ShowsLocks copy.written (written_or_owed q undo owed)) e i.written_are).bits k near)
           ∙ (sym shown ∙ ap flag off))
 
       at : (p : Phase) → phase ≡ p → has k owed ≡ false

@@ -182,7 +182,15 @@ opening_copy base call locks table me em idle fresh unstamped unannounced others
       few = few;
       short = short;
       long = long;
-      call_is = record { seats_are = refl; who_is = refl; phase_is = sym idle; calls_are = sym fresh; stamp_is = sym unstamped; announced_is = sym unannounced };
+      call_is = record {
+        seats_are = refl;
+        who_is = refl;
+        phase_is = sym idle;
+        calls_are = sym fresh;
+        stamp_is = sym unstamped;
+        announced_is =
+            sym unannounced;
+      };
       locks_are = record {
         bits_are = subst (λ (row : List ℕ). ShowsLocks row []) (sym eb) shows_none;
         reads_are = subst (λ (row : List ℕ). ShowsLocks row []) (sym er) shows_none;

@@ -87,7 +87,8 @@ recorded_join : (vs : List View) (id other : ℕ) (v w both : View) (e : Entry) 
     → Sees v both → Sees w both → IsRecorded vs e → IsRecorded (views_joined id other both vs) e
 recorded_join vs id other v w both e ne me it mine theirs r =
     let here : Knows (slice_set vs id both) id both = put_here vs id v both me in
-    let left : (u : View) → Knows (views_joined id other u vs) id u = λ u. put_there (slice_set vs id u) other id _ u (λ s. ne (sym s)) (put_here vs id v u me) in
+    let left : (u : View) → Knows (views_joined id other u vs) id u =
+    λ u. put_there (slice_set vs id u) other id _ u (λ s. ne (sym s)) (put_here vs id v u me) in
     dite (ℕ_discrete r.id id)
     (λ same. record {
       id = id;
@@ -122,7 +123,8 @@ module _ (good : List ℕ → Type 0) (x y : TableState) (e : Entry) (r : IsReco
       t.knows (sees t.step t.view (found_by (action_of t.step t.view) x.words)) r))
       (λ a. ⊎_elim
       (λ t. subst (λ (l : List View). IsRecorded l e) (sym t.views_are)
-      (recorded_more (slice_set x.views t.place (left_by_split t.view)) _ e (recorded_put x.views t.place t.view (left_by_split t.view) e t.knows (λ z i. i) r)))
+      (recorded_more (slice_set x.views t.place (left_by_split t.view)) _ e
+      (recorded_put x.views t.place t.view (left_by_split t.view) e t.knows (λ z i. i) r)))
       (λ b. ⊎_elim
       (λ t. subst (λ (l : List View). IsRecorded l e) (sym t.views_are)
       (recorded_more (slice_set x.views t.place (left_by_note t.view)) _ e (recorded_put x.views t.place t.view (left_by_note t.view) e t.knows (λ z i. i) r)))

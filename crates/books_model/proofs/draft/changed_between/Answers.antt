@@ -47,7 +47,14 @@ overflow_add-before c = omega (
 )
 
 pub overflow_add-now : goal.overflow_add-now
-overflow_add-now c = omega (arith, now_step (goal.at.overflow_add-now c).In-Some, c.loop-change.invariant.now, c.requires.now, c.unwrap_or-in-loop-change.ensures, c.from-now.ensures)
+overflow_add-now c = omega (
+  arith,
+  now_step (goal.at.overflow_add-now c).In-Some,
+  c.loop-change.invariant.now,
+  c.requires.now,
+  c.unwrap_or-in-loop-change.ensures,
+  c.from-now.ensures,
+)
 
 pub loop-change-preserved : goal.loop-change-preserved
 loop-change-preserved c = record {

@@ -15,8 +15,11 @@ returns-in_err-number-clause-err c =
     (sym c.is_row.ensures ∙ c.if-is_row.true) c.in_err-number.ensures.err)
 
 pub overflow_cast-result : goal.overflow_cast-result
-overflow_cast-result c = omega
-    (arith, (row_one (codes "cancel") c.args.words.now (1, GREATEST_ORDER) (sym c.is_row.ensures ∙ c.if-is_row.true) (lit< tt) c.in_ok-number.ensures.found).0.1)
+overflow_cast-result c = omega (
+  arith,
+  (row_one (codes "cancel") c.args.words.now (1, GREATEST_ORDER) (sym c.is_row.ensures ∙ c.if-is_row.true)
+      (lit< tt) c.in_ok-number.ensures.found).0.1,
+)
 
 pub returns-then-is_row-clause-found : goal.returns-then-is_row-clause-found
 returns-then-is_row-clause-found c =

@@ -13,7 +13,8 @@ from_here : (c : In-Some) → after_values c.loop-operation.values
     (run_from c.loop-operation.store.blocks c.loop-operation.number (c.in-Some.operation.now ∷ iter_rest c.next.new.self) c.loop-operation.store.records)
     ≡ run_from c.args.store.now.blocks 1 c.args.script.now c.args.store.now.records
 from_here c = sym (ap (λ ops. after_values c.loop-operation.values
-    (run_from c.loop-operation.store.blocks c.loop-operation.number ops c.loop-operation.store.records)) c.in-Some.ensures.steps) ∙ c.loop-operation.invariant.run
+    (run_from c.loop-operation.store.blocks c.loop-operation.number ops c.loop-operation.store.records)) c.in-Some.ensures.steps)
+    ∙ c.loop-operation.invariant.run
 
 pub loop-operation-init : goal.loop-operation-init
 loop-operation-init c =

@@ -14,7 +14,12 @@ pub returns-in_err-words-clause-fault : goal.returns-in_err-words-clause-fault
 returns-in_err-words-clause-fault c why e =
     let p = err_from_is_err_and c.from_residual.result c.from_residual.ensures.1 in
     let same : c.in_err-words.field-0.0 ≡ why = cc (p.1, p.2, e) in
-    behind_end fault_of [] c.args.lines.now c.words.new.self why (sym same ∙ c.in_err-words.ensures.end.0, c.in_err-words.ensures.end.1, c.in_err-words.ensures.end.2)
+    behind_end fault_of [] c.args.lines.now c.words.new.self why (
+      sym same
+          ∙ c.in_err-words.ensures.end.0,
+      c.in_err-words.ensures.end.1,
+      c.in_err-words.ensures.end.2,
+    )
 
 pub returns-in_err-version-clause-fault : goal.returns-in_err-version-clause-fault
 returns-in_err-version-clause-fault c why e =

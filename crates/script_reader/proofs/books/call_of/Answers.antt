@@ -9,7 +9,8 @@ use Rattle.script_reader.proofs.books.call_of.Goals as goal
 pub returns-in_err-account-clause-err : goal.returns-in_err-account-clause-err
 returns-in_err-account-clause-err c =
     let p = err_from_is_err_and c.from_residual.result c.from_residual.ensures.1 in
-    rw (p.1, p.2) (λ version. numbers_row (call_fault version c.args.books.now c.ranges-2.ensures c.args.words.now c.requires) refl c.in_err-account.ensures.err)
+    rw (p.1, p.2) (λ version. numbers_row (call_fault version c.args.books.now c.ranges-2.ensures c.args.words.now c.requires) refl
+    c.in_err-account.ensures.err)
 
 pub returns-then-calls-ring-clause-err : goal.returns-then-calls-ring-clause-err
 returns-then-calls-ring-clause-err c version =
@@ -23,4 +24,5 @@ returns-clause-row c version =
     let found = c.in_ok-account.ensures.found in
     let fine = read_row (call_fault version b c.ranges-2.ensures c.args.words.now c.requires) refl found.0
     (lt-leb b.ring (length b.calls) (omega (arith, c.if-calls-ring.false, c.calls.ensures, c.ring.ensures))) refl refl refl refl in
-    subst (IsRow version b c.args.words.now) (sym (λ i. row.Call (found.1 i) (found.2 i))) (gives_call version b c.ranges-2.ensures c.args.words.now c.requires fine)
+    subst (IsRow version b c.args.words.now) (sym (λ i. row.Call (found.1 i) (found.2 i)))
+    (gives_call version b c.ranges-2.ensures c.args.words.now c.requires fine)

@@ -28,7 +28,8 @@ loop-words-preserved c = record {
   within = subst (AreBooksWithin c.args.version) (sym c.in_ok-add_row.ensures)
       (row_within c.args.version c.loop-words.books c.in_ok-row.row c.loop-words.invariant.within c.in_ok-row.ensures.row.within);
   more = c.loop-words.invariant.more ++ c.in_ok-words.words ∷ [];
-  whole = (ap (books_words c.args.version) c.in_ok-add_row.ensures ∙ c.in_ok-row.ensures.row.lines) ∙ ap (λ l. l ++ c.in_ok-words.words ∷ []) c.loop-words.invariant.whole
+  whole = (ap (books_words c.args.version) c.in_ok-add_row.ensures ∙ c.in_ok-row.ensures.row.lines)
+      ∙ ap (λ l. l ++ c.in_ok-words.words ∷ []) c.loop-words.invariant.whole
       ∙ append_assoc (books_words c.args.version c.args.books.now) c.loop-words.invariant.more (c.in_ok-words.words ∷ []);
   text = more_text c.args.lines.now c.loop-words.lines c.words.new.self c.loop-words.invariant.more c.in_ok-words.words
       c.loop-words.invariant.text c.in_ok-words.ensures.found.1;
@@ -53,8 +54,10 @@ returns-then-is_only-clause-text c =
     ap (λ l. flat_map line (books_words c.args.version c.args.books.now) ++ l) c.loop-words.invariant.text
     ∙ sym (append_assoc (flat_map line (books_words c.args.version c.args.books.now)) (flat_map line c.loop-words.invariant.more) c.loop-words.lines)
     ∙ ap (λ l. l ++ c.loop-words.lines)
-    (sym (flat_map-append line (books_words c.args.version c.args.books.now) c.loop-words.invariant.more) ∙ ap (flat_map line) (sym c.loop-words.invariant.whole))
-    ∙ ap (λ l. flat_map line (books_words c.args.version c.loop-words.books) ++ l) (c.in_ok-words.ensures.found.1 ∙ ap (λ w. line w ++ c.words.new.self) scripts)
+    (sym (flat_map-append line (books_words c.args.version c.args.books.now) c.loop-words.invariant.more)
+    ∙ ap (flat_map line) (sym c.loop-words.invariant.whole))
+    ∙ ap (λ l. flat_map line (books_words c.args.version c.loop-words.books) ++ l) (c.in_ok-words.ensures.found.1
+    ∙ ap (λ w. line w ++ c.words.new.self) scripts)
 
 pub returns-in_err-row-clause-fault : goal.returns-in_err-row-clause-fault
 returns-in_err-row-clause-fault c why e =

@@ -60,8 +60,11 @@ returns-in_err-both_within-clause-err c =
     beyond c.args.words.now c.requires.header
     (and_true c.in_ok-blocks.ensures.found.0 (and_true c.in_ok-blocks.ensures.found.1 (and_true c.in_ok-ring.ensures.found.0 refl)))
     (not_both _ _ (is_in_range (word_at c.args.words.now 7, (1, MOST_RING)) && true)
-    (pair_false (word_at c.args.words.now 3) (word_at c.args.words.now 5) {r = (1, most_blocks (header_version c.args.words.now))} {s = (1, MOST_INSTRUMENTS)} (blocks_exact (header_version c.args.words.now)) (lit< tt)
-    c.in_ok-blocks.ensures.found.2 c.in_ok-blocks.ensures.found.3 (subst (λ r. ¬ (IsWithin r.0 r.1 c.in_ok-blocks.blocks × IsWithin 1 MOST_INSTRUMENTS c.in_ok-blocks.instruments)) (c.blocks-2.ensures.range ∙ ap (λ v. (1, most_blocks v)) c.requires.version) c.in_err-both_within.ensures.err.1)))
+    (pair_false (word_at c.args.words.now 3) (word_at c.args.words.now 5) {r = (1, most_blocks (header_version c.args.words.now))} {s = (1, MOST_INSTRUMENTS)}
+    (blocks_exact (header_version c.args.words.now)) (lit< tt)
+    c.in_ok-blocks.ensures.found.2 c.in_ok-blocks.ensures.found.3
+    (subst (λ r. ¬ (IsWithin r.0 r.1 c.in_ok-blocks.blocks × IsWithin 1 MOST_INSTRUMENTS c.in_ok-blocks.instruments)) (c.blocks-2.ensures.range
+    ∙ ap (λ v. (1, most_blocks v)) c.requires.version) c.in_err-both_within.ensures.err.1)))
     ∙ ap Some (sym c.in_err-both_within.ensures.err.0)
     )
 
@@ -71,7 +74,10 @@ returns-in_err-within-clause-err c =
     rw (p.1, p.2) (
     beyond c.args.words.now c.requires.header
     (and_true c.in_ok-blocks.ensures.found.0 (and_true c.in_ok-blocks.ensures.found.1 (and_true c.in_ok-ring.ensures.found.0 refl)))
-    (λ t. (ranged_true (word_at c.args.words.now 3) {high = most_blocks (header_version c.args.words.now)} (blocks_exact (header_version c.args.words.now)) c.in_ok-blocks.ensures.found.2 (subst (λ r. IsWithin r.0 r.1 c.in_ok-blocks.blocks) (c.blocks-2.ensures.range ∙ ap (λ v. (1, most_blocks v)) c.requires.version) c.in_ok-both_within.ensures.ok.0)) t &&
+    (λ t. (ranged_true (word_at c.args.words.now 3) {high = most_blocks (header_version c.args.words.now)}
+    (blocks_exact (header_version c.args.words.now)) c.in_ok-blocks.ensures.found.2
+    (subst (λ r. IsWithin r.0 r.1 c.in_ok-blocks.blocks) (c.blocks-2.ensures.range
+    ∙ ap (λ v. (1, most_blocks v)) c.requires.version) c.in_ok-both_within.ensures.ok.0)) t &&
     ((ranged_true (word_at c.args.words.now 5) {high = MOST_INSTRUMENTS} (lit< tt) c.in_ok-blocks.ensures.found.3 c.in_ok-both_within.ensures.ok.1) t &&
     ((ranged_false (word_at c.args.words.now 7) {high = MOST_RING} (lit< tt) c.in_ok-ring.ensures.found.1 c.in_err-within.ensures.range) t && true)))
     ∙ ap Some (sym c.in_err-within.ensures.err)
@@ -81,13 +87,19 @@ pub returns-clause-fine : goal.returns-clause-fine
 returns-clause-fine c = tested c.args.words.now true true true c.requires.header
     (and_true c.in_ok-blocks.ensures.found.0
     (and_true c.in_ok-blocks.ensures.found.1 (and_true c.in_ok-ring.ensures.found.0 refl)))
-    (and_true (ranged_true (word_at c.args.words.now 3) {high = most_blocks (header_version c.args.words.now)} (blocks_exact (header_version c.args.words.now)) c.in_ok-blocks.ensures.found.2 (subst (λ r. IsWithin r.0 r.1 c.in_ok-blocks.blocks) (c.blocks-2.ensures.range ∙ ap (λ v. (1, most_blocks v)) c.requires.version) c.in_ok-both_within.ensures.ok.0))
+    (and_true (ranged_true (word_at c.args.words.now 3) {high = most_blocks (header_version c.args.words.now)}
+    (blocks_exact (header_version c.args.words.now)) c.in_ok-blocks.ensures.found.2
+    (subst (λ r. IsWithin r.0 r.1 c.in_ok-blocks.blocks) (c.blocks-2.ensures.range
+    ∙ ap (λ v. (1, most_blocks v)) c.requires.version) c.in_ok-both_within.ensures.ok.0))
     (and_true (ranged_true (word_at c.args.words.now 5) {high = MOST_INSTRUMENTS} (lit< tt) c.in_ok-blocks.ensures.found.3 c.in_ok-both_within.ensures.ok.1)
     (and_true (ranged_true (word_at c.args.words.now 7) {high = MOST_RING} (lit< tt) c.in_ok-ring.ensures.found.1 c.in_ok-within.ensures.range.0) refl)))
 
 pub returns-clause-found : goal.returns-clause-found
 returns-clause-found c = (
-  ranged_value (word_at c.args.words.now 3) {high = most_blocks (header_version c.args.words.now)} (blocks_exact (header_version c.args.words.now)) c.in_ok-blocks.ensures.found.2 (subst (λ r. IsWithin r.0 r.1 c.in_ok-blocks.blocks) (c.blocks-2.ensures.range ∙ ap (λ v. (1, most_blocks v)) c.requires.version) c.in_ok-both_within.ensures.ok.0),
+  ranged_value (word_at c.args.words.now 3) {high = most_blocks (header_version c.args.words.now)}
+      (blocks_exact (header_version c.args.words.now)) c.in_ok-blocks.ensures.found.2
+      (subst (λ r. IsWithin r.0 r.1 c.in_ok-blocks.blocks) (c.blocks-2.ensures.range
+      ∙ ap (λ v. (1, most_blocks v)) c.requires.version) c.in_ok-both_within.ensures.ok.0),
   ranged_value (word_at c.args.words.now 5) {high = MOST_INSTRUMENTS} (lit< tt) c.in_ok-blocks.ensures.found.3 c.in_ok-both_within.ensures.ok.1,
   c.in_ok-within.ensures.range.1
       ∙ ranged_value (word_at c.args.words.now 7) {high = MOST_RING} (lit< tt) c.in_ok-ring.ensures.found.1 c.in_ok-within.ensures.range.0,

@@ -11,7 +11,8 @@ pub returns-in_err-callers-clause-fault : goal.returns-in_err-callers-clause-fau
 returns-in_err-callers-clause-fault c why e =
     let p = err_from_is_err_and c.from_residual-in_err-callers.result c.from_residual-in_err-callers.ensures.1 in
     let same : c.in_err-callers.field-0.0 ≡ refusal.LineFault why = cc (p.1, p.2, e) in
-    behind_books c.in_ok-version.version c.in_ok-version.books c.in_ok-version.ensures.range c.in_ok-version.ensures.within c.args.lines.now c.books_of.new.lines
+    behind_books c.in_ok-version.version c.in_ok-version.books c.in_ok-version.ensures.range c.in_ok-version.ensures.within c.args.lines.now
+    c.books_of.new.lines
     c.scripts_of.new.lines why c.in_ok-version.ensures.text (c.scripts_of.ensures.fault why (c.in_err-callers.was ∙ ap Err same))
 
 pub new-requires-clause-valid : goal.new-requires-clause-valid

@@ -15,9 +15,11 @@ use Rattle.script_reader.proofs.operations.with_three_numbers.Goals.{In_ok-from}
 pub returns-in_err-from-clause-err : goal.returns-in_err-from-clause-err
 returns-in_err-from-clause-err c =
     let p = err_from_is_err_and c.from_residual.result c.from_residual.ensures.1 in
-    rw (p.1, p.2) (λ n. three_wrong (operation_forms c.args.version n) c.args.words.now (codes "move") accounts accounts (amounts c.args.version) _ (λ a b d. refl)
+    rw (p.1, p.2) (λ n. three_wrong (operation_forms c.args.version n) c.args.words.now (codes "move") accounts accounts (amounts c.args.version) _
+    (λ a b d. refl)
     (sym c.is_row.ensures ∙ c.if-is_row.true)
-    (subst (λ r. numbers_fault c.args.words.now (accounts ∷ accounts ∷ r ∷ []) ≡ Some c.in_err-from.field-0.0) c.amounts.ensures.range c.in_err-from.ensures.err))
+    (subst (λ r. numbers_fault c.args.words.now (accounts ∷ accounts ∷ r ∷ []) ≡ Some c.in_err-from.field-0.0) c.amounts.ensures.range
+    c.in_err-from.ensures.err))
 
 -- the numbers of the line, and the line by them
 read : (c : In_ok-from) → (IsWithin 1 GREATEST_ACCOUNT c.in_ok-from.from × IsWithin 1 GREATEST_ACCOUNT c.in_ok-from.to

@@ -15,7 +15,8 @@ use Rattle.script_reader.proofs.operations.with_two_numbers.Goals.{In_ok-account
 pub returns-in_err-account-clause-err : goal.returns-in_err-account-clause-err
 returns-in_err-account-clause-err c =
     let p = err_from_is_err_and c.from_residual.result c.from_residual.ensures.1 in
-    rw (p.1, p.2) (two_wrong (operation_forms c.args.version c.args.books.now.instruments) c.args.words.now (codes "deposit") accounts (amounts c.args.version) _ (λ a b. refl)
+    rw (p.1, p.2) (two_wrong (operation_forms c.args.version c.args.books.now.instruments) c.args.words.now (codes "deposit") accounts
+    (amounts c.args.version) _ (λ a b. refl)
     (sym c.is_row.ensures ∙ c.if-is_row.true)
     (subst (λ r. numbers_fault c.args.words.now (accounts ∷ r ∷ []) ≡ Some c.in_err-account.field-0.0) c.amounts.ensures.range c.in_err-account.ensures.err))
 
@@ -24,7 +25,8 @@ deposit_read : (c : In_ok-account) → (IsWithin 1 GREATEST_ACCOUNT c.in_ok-acco
     × (c.args.words.now ≡ codes "deposit" ∷ number c.in_ok-account.account ∷ number c.in_ok-account.amount ∷ [])
 deposit_read c =
     let found = c.in_ok-account.ensures.found in
-    row_two (codes "deposit") c.args.words.now accounts (amounts c.args.version) (sym c.is_row.ensures ∙ c.if-is_row.true) (lit< tt) (amount_small c.args.version)
+    row_two (codes "deposit") c.args.words.now accounts (amounts c.args.version) (sym c.is_row.ensures
+    ∙ c.if-is_row.true) (lit< tt) (amount_small c.args.version)
     (subst (λ r. HasNumbers c.args.words.now (accounts ∷ r ∷ [])) c.amounts.ensures.range found.0, found.1, found.2)
 
 pub overflow_cast-result : goal.overflow_cast-result
@@ -36,16 +38,20 @@ returns-then-is_row-clause-found c = deposit_read (goal.at.returns-then-is_row-c
 pub returns-in_err-account-2-clause-err : goal.returns-in_err-account-2-clause-err
 returns-in_err-account-2-clause-err c =
     let p = err_from_is_err_and c.from_residual-in_err-account-2.result c.from_residual-in_err-account-2.ensures.1 in
-    rw (p.1, p.2) (two_wrong (operation_forms c.args.version c.args.books.now.instruments) c.args.words.now (codes "withdraw") accounts (amounts c.args.version) _ (λ a b. refl)
+    rw (p.1, p.2) (two_wrong (operation_forms c.args.version c.args.books.now.instruments) c.args.words.now (codes "withdraw") accounts
+    (amounts c.args.version) _ (λ a b. refl)
     (sym c.is_row-2.ensures ∙ c.if-is_row-2.true)
-    (subst (λ r. numbers_fault c.args.words.now (accounts ∷ r ∷ []) ≡ Some c.in_err-account-2.field-0.0) c.amounts-then-is_row-2.ensures.range c.in_err-account-2.ensures.err))
+    (subst (λ r. numbers_fault c.args.words.now (accounts ∷ r ∷ []) ≡ Some c.in_err-account-2.field-0.0) c.amounts-then-is_row-2.ensures.range
+    c.in_err-account-2.ensures.err))
 
 -- the numbers of the line, and the line by them
-withdraw_read : (c : In_ok-account-2) → (IsWithin 1 GREATEST_ACCOUNT c.in_ok-account-2.account × IsWithin 1 (greatest_amount c.args.version) c.in_ok-account-2.amount)
+withdraw_read : (c : In_ok-account-2) → (IsWithin 1 GREATEST_ACCOUNT c.in_ok-account-2.account
+    × IsWithin 1 (greatest_amount c.args.version) c.in_ok-account-2.amount)
     × (c.args.words.now ≡ codes "withdraw" ∷ number c.in_ok-account-2.account ∷ number c.in_ok-account-2.amount ∷ [])
 withdraw_read c =
     let found = c.in_ok-account-2.ensures.found in
-    row_two (codes "withdraw") c.args.words.now accounts (amounts c.args.version) (sym c.is_row-2.ensures ∙ c.if-is_row-2.true) (lit< tt) (amount_small c.args.version)
+    row_two (codes "withdraw") c.args.words.now accounts (amounts c.args.version) (sym c.is_row-2.ensures ∙ c.if-is_row-2.true) (lit< tt)
+    (amount_small c.args.version)
     (subst (λ r. HasNumbers c.args.words.now (accounts ∷ r ∷ [])) c.amounts-then-is_row-2.ensures.range found.0, found.1, found.2)
 
 pub overflow_cast-result-then-is_row-2 : goal.overflow_cast-result-then-is_row-2
@@ -57,7 +63,8 @@ returns-then-is_row-2-clause-found c = withdraw_read (goal.at.returns-then-is_ro
 pub returns-in_err-account-3-clause-err : goal.returns-in_err-account-3-clause-err
 returns-in_err-account-3-clause-err c =
     let p = err_from_is_err_and c.from_residual-in_err-account-3.result c.from_residual-in_err-account-3.ensures.1 in
-    rw (p.1, p.2) (two_wrong (operation_forms c.args.version c.args.books.now.instruments) c.args.words.now (codes "margin") accounts (1, GREATEST_RATE) _ (λ a b. refl)
+    rw (p.1, p.2) (two_wrong (operation_forms c.args.version c.args.books.now.instruments) c.args.words.now (codes "margin") accounts (1, GREATEST_RATE) _
+    (λ a b. refl)
     (sym c.is_row-4.ensures ∙ c.if-is_row-4.true) c.in_err-account-3.ensures.err)
 
 pub overflow_cast-result-then-is_row-4 : goal.overflow_cast-result-then-is_row-4

@@ -36,7 +36,8 @@ returns-in_err-script-clause-fault g c why e subs left made are is =
     let same : c.in_err-script.field-0.0 ≡ refusal.LineFault why = cc (p.1, p.2, e) in
     let found = c.in_ok-name.ensures.found in
     let room = sym (ap (λ l. is_beyond_in l c.in_ok-name.name.now) made) ∙ sym c.is_full_for.ensures ∙ c.if-is_full_for.false in
-    behind_script language g.met.L.Language.lawful ns c.requires.sized subs c.in_ok-name.name.now c.args.words.now left c.args.lines.now c.script_of.new.lines why found.0 found.1 room is
+    behind_script language g.met.L.Language.lawful ns c.requires.sized subs c.in_ok-name.name.now c.args.words.now left c.args.lines.now c.script_of.new.lines
+    why found.0 found.1 room is
     (c.script_of.ensures.fault why (c.in_err-script.was ∙ ap Err same) subs c.in_ok-name.name.now)
 
 pub returns-clause-added : goal.returns-clause-added

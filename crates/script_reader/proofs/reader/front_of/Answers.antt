@@ -16,7 +16,8 @@ pub returns-in_err-callers-clause-fault : goal.returns-in_err-callers-clause-fau
 returns-in_err-callers-clause-fault g c why e =
     let p = err_from_is_err_and c.from_residual-in_err-callers.result c.from_residual-in_err-callers.ensures.1 in
     let same : c.in_err-callers.field-0.0 ≡ refusal.LineFault why = cc (p.1, p.2, e) in
-    behind_front g.L.Language.language g.met.L.Language.lawful (g.L.Language.sizes_of c.in_ok-sizes.sizes) c.in_ok-sizes.ensures.sized c.args.lines.now c.sizes_of.new.lines
+    behind_front g.L.Language.language g.met.L.Language.lawful (g.L.Language.sizes_of c.in_ok-sizes.sizes) c.in_ok-sizes.ensures.sized c.args.lines.now
+    c.sizes_of.new.lines
     c.scripts_of.new.lines why c.in_ok-sizes.ensures.text (c.scripts_of.ensures.fault why (c.in_err-callers.was ∙ ap Err same))
 
 pub returns-clause-found : goal.returns-clause-found

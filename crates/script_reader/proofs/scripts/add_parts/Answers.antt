@@ -25,7 +25,8 @@ returns-in_err-words-clause-fault c why e subs name =
     let v = c.loop-words.invariant in
     let p = err_from_is_err_and c.from_residual.result c.from_residual.ensures.1 in
     let same : c.in_err-words.field-0.0 ≡ why = cc (p.1, p.2, e) in
-    behind_parts_read c.args.version c.args.books.now c.ranges-2.ensures subs name c.loop-words.script c.args.lines.now c.loop-words.lines c.words.new.self why v.range v.text
+    behind_parts_read c.args.version c.args.books.now c.ranges-2.ensures subs name c.loop-words.script c.args.lines.now c.loop-words.lines c.words.new.self why
+    v.range v.text
     (behind_end fault_of (lines_inside c.args.version c.args.books.now subs name c.loop-words.script BetweenParts) c.loop-words.lines c.words.new.self why
     (sym same ∙ c.in_err-words.ensures.end.0, c.in_err-words.ensures.end.1, c.in_err-words.ensures.end.2))
 
@@ -39,7 +40,8 @@ pub returns-then-alternatives-ge-MOST_ALTERNATIVES-clause-fault : goal.returns-t
 returns-then-alternatives-ge-MOST_ALTERNATIVES-clause-fault c why e subs name =
     let v = c.loop-words.invariant in
     let same : fault.Limit ≡ why = cc in
-    behind_parts_read c.args.version c.args.books.now c.ranges-2.ensures subs name c.loop-words.script c.args.lines.now c.loop-words.lines c.words.new.self why v.range v.text
+    behind_parts_read c.args.version c.args.books.now c.ranges-2.ensures subs name c.loop-words.script c.args.lines.now c.loop-words.lines c.words.new.self why
+    v.range v.text
     (behind_line fault_of (lines_inside c.args.version c.args.books.now subs name c.loop-words.script BetweenParts) c.loop-words.lines c.words.new.self
     c.in_ok-words.words why c.in_ok-words.ensures.found.0 c.in_ok-words.ensures.found.1
     (try_limit c.args.version c.args.books.now c.ranges-2.ensures subs name c.loop-words.script c.in_ok-words.words
@@ -50,8 +52,10 @@ returns-in_err-first-clause-fault c why e subs name =
     let v = c.loop-words.invariant in
     let p = err_from_is_err_and c.from_residual-in_err-first.result c.from_residual-in_err-first.ensures.1 in
     let same : c.in_err-first.field-0.0 ≡ refusal.LineFault why = cc (p.1, p.2, e) in
-    behind_parts_read c.args.version c.args.books.now c.ranges-2.ensures subs name c.loop-words.script c.args.lines.now c.loop-words.lines c.alternative_of.new.lines why v.range v.text
-    (behind_try c.args.version c.args.books.now c.ranges-2.ensures subs name c.loop-words.script c.in_ok-words.words c.loop-words.lines c.words.new.self c.alternative_of.new.lines why
+    behind_parts_read c.args.version c.args.books.now c.ranges-2.ensures subs name c.loop-words.script c.args.lines.now c.loop-words.lines
+    c.alternative_of.new.lines why v.range v.text
+    (behind_try c.args.version c.args.books.now c.ranges-2.ensures subs name c.loop-words.script c.in_ok-words.words c.loop-words.lines c.words.new.self
+    c.alternative_of.new.lines why
     (sym c.is_only-in-loop-words.ensures ∙ c.if-is_only-2.true) (omega (arith, v.alternatives, c.if-alternatives-ge-MOST_ALTERNATIVES.false))
     c.in_ok-words.ensures.found.1
     (c.alternative_of.ensures.fault why (c.in_err-first.was ∙ ap Err same) subs name c.loop-words.script (sym v.operations)))
@@ -76,7 +80,8 @@ loop-words-preserved-in-Continue-branch-3 c =
       );
       alternatives = omega (arith, v.alternatives, sum_by-append alternatives_in c.loop-words.script (q ∷ []));
       text = v.text
-          ∙ ap (λ l. script_lines c.loop-words.script ++ l) (c.in_ok-words.ensures.found.1 ∙ ap (λ w. line w ++ c.words.new.self) tries ∙ c.in_ok-first.ensures.text)
+          ∙ ap (λ l. script_lines c.loop-words.script ++ l) (c.in_ok-words.ensures.found.1 ∙ ap (λ w. line w ++ c.words.new.self) tries
+          ∙ c.in_ok-first.ensures.text)
           ∙ sym (append_assoc (script_lines c.loop-words.script) (flat_map line (part_words q)) c.alternative_of.new.lines)
           ∙ ap (λ l. l ++ c.alternative_of.new.lines) (sym (script_text_more c.loop-words.script q));
     })
@@ -86,10 +91,12 @@ returns-in_err-operation-clause-fault c why e subs name =
     let v = c.loop-words.invariant in
     let p = err_from_is_err_and c.from_residual-in_err-operation.result c.from_residual-in_err-operation.ensures.1 in
     let same : c.in_err-operation.field-0.0 ≡ why = cc (p.1, p.2, e) in
-    behind_parts_read c.args.version c.args.books.now c.ranges-2.ensures subs name c.loop-words.script c.args.lines.now c.loop-words.lines c.words.new.self why v.range v.text
+    behind_parts_read c.args.version c.args.books.now c.ranges-2.ensures subs name c.loop-words.script c.args.lines.now c.loop-words.lines c.words.new.self why
+    v.range v.text
     (behind_line fault_of (lines_inside c.args.version c.args.books.now subs name c.loop-words.script BetweenParts) c.loop-words.lines c.words.new.self
     c.in_ok-words.words why c.in_ok-words.ensures.found.0 c.in_ok-words.ensures.found.1
-    (part_fault c.args.version c.args.books.now c.ranges-2.ensures subs name c.loop-words.script c.in_ok-words.words why (sym c.is_only.ensures ∙ c.if-is_only.false)
+    (part_fault c.args.version c.args.books.now c.ranges-2.ensures subs name c.loop-words.script c.in_ok-words.words why (sym c.is_only.ensures
+    ∙ c.if-is_only.false)
     (sym c.is_only-in-loop-words.ensures ∙ c.if-is_only-2.false) (c.in_err-operation.ensures.err ∙ ap Some same)))
 
 pub returns-then-operations-ge-MOST_OPERATIONS-clause-fault : goal.returns-then-operations-ge-MOST_OPERATIONS-clause-fault
@@ -97,7 +104,8 @@ returns-then-operations-ge-MOST_OPERATIONS-clause-fault c why e subs name =
     let v = c.loop-words.invariant in
     let same : fault.Limit ≡ why = cc in
     let found = c.in_ok-operation.ensures.found in
-    behind_parts_read c.args.version c.args.books.now c.ranges-2.ensures subs name c.loop-words.script c.args.lines.now c.loop-words.lines c.words.new.self why v.range v.text
+    behind_parts_read c.args.version c.args.books.now c.ranges-2.ensures subs name c.loop-words.script c.args.lines.now c.loop-words.lines c.words.new.self why
+    v.range v.text
     (behind_line fault_of (lines_inside c.args.version c.args.books.now subs name c.loop-words.script BetweenParts) c.loop-words.lines c.words.new.self
     c.in_ok-words.words why c.in_ok-words.ensures.found.0 c.in_ok-words.ensures.found.1
     (part_limit c.args.version c.args.books.now c.ranges-2.ensures subs name c.loop-words.script c.in_ok-words.words c.in_ok-operation.operation found.0 found.1

@@ -37,7 +37,8 @@ returns-in_err-script-clause-fault c why e subs left made are is =
     let room = sym (beyond_is subs c.in_ok-name.name.now)
     ∙ sym (ap (λ l. nat_le MOST_SCRIPTS (count_scripts l) || (not (is_caller c.in_ok-name.name.now l) && nat_le
     MOST_CALLERS (length l))) made) ∙ sym c.is_full_for.ensures ∙ c.if-is_full_for.false in
-    behind_script c.args.version c.args.books.now subs c.in_ok-name.name.now c.args.words.now left c.args.lines.now c.script_of.new.lines why found.0 found.1 room is
+    behind_script c.args.version c.args.books.now subs c.in_ok-name.name.now c.args.words.now left c.args.lines.now c.script_of.new.lines why found.0 found.1
+    room is
     (c.script_of.ensures.fault why (c.in_err-script.was ∙ ap Err same) subs c.in_ok-name.name.now)
 
 pub returns-clause-added : goal.returns-clause-added

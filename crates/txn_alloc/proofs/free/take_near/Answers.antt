@@ -61,7 +61,8 @@ returns-clause-nearest g c =
 pub returns-clause-none_if : goal.returns-clause-none_if
 returns-clause-none_if g c =
     let a = c.args.arena.now in
-    let some = some_from g.W.Words g.W.Shape.Shape c.args.w.now c.write.new.self (c.in_ok-write.ensures.shape ∙ c.in_ok-next.ensures.shape ∙ c.in_ok-number.ensures.goes_on.shape)
+    let some = some_from g.W.Words g.W.Shape.Shape c.args.w.now c.write.new.self
+    (c.in_ok-write.ensures.shape ∙ c.in_ok-next.ensures.shape ∙ c.in_ok-number.ensures.goes_on.shape)
     (g.met.W.Words.fits c.write.new.self c.in_ok-write.ensures.sound) in
     λ none. taken_from_some a _ _ _ _ c.of.result some
     (leads_plain g.W.Words g.W.Shape.Shape _ _ (Takes a (Some c.of.result)) (returns-clause-taken g c))

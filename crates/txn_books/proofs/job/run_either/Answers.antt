@@ -45,7 +45,8 @@ gone g c writes marked back =
     let kept = c.in_ok-values.ensures.hands_on.shape ∙ c.mark-before.ensures.shape in
     let front = begins_marked (words.trace c.run_operations.new.w) c.mark-before.ensures.trace c.in_ok-values.ensures.hands_on.begins in
     gone_back c.args.number c.args.first.now c.in_ok-values.field-0 c.in_default.not-Done
-    (marked_runs (run_from c.args.number c.args.first.now) c.mark-before.ensures.shape c.mark-before.ensures.trace c.in_ok-named.ensures c.in_ok-values.ensures.runs)
+    (marked_runs (run_from c.args.number c.args.first.now)
+    c.mark-before.ensures.shape c.mark-before.ensures.trace c.in_ok-named.ensures c.in_ok-values.ensures.runs)
     front c.in_ok-back_to.ensures.begins (c.in_ok-back_to.ensures.shape ∙ kept)
     (same_as_at_mark words shapes c.args.w.now c.run_operations.new.w c.back_to.new.self kept front
     c.in_ok-back_to.ensures.begins
@@ -57,7 +58,8 @@ returns-in-Done-clause-runs g c =
     first_done c.args.number c.args.first.now c.args.second.now c.in-Done.values
     (subst (λ answer. LeadsTo g.W.Words g.W.Shape.Shape c.args.w.now c.run_operations.new.w
     (Runs c.args.shape.now (λ books. after_values (value.First ∷ []) (run_from c.args.number c.args.first.now books)) answer))
-    c.in-Done.is (marked_runs (run_from c.args.number c.args.first.now) c.mark-before.ensures.shape c.mark-before.ensures.trace c.in_ok-named.ensures c.in_ok-values.ensures.runs))
+    c.in-Done.is (marked_runs (run_from c.args.number c.args.first.now)
+    c.mark-before.ensures.shape c.mark-before.ensures.trace c.in_ok-named.ensures c.in_ok-values.ensures.runs))
 
 pub back_to-requires : goal.back_to-requires
 back_to-requires g c =

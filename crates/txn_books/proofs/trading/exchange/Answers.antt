@@ -1,13 +1,12 @@
 use Rattle.std.proofs.Common.{if◌then◌else◌, IsSome, sym, ap, subst, ◌∙◌, rules}
-use Rattle.std.specs.Cmp.{nat_cmp_total}
 use Rattle.std.specs.FinMap as map
 use Rattle.std.proofs.lemmas.Result.{IfOk-from_err}
 use Rattle.txn_words.specs.Calls.{GoesOn}
 use Rattle.txn_words.proofs.CallLaws.{goes_then, goes_as}
 use Rattle.books_model.specs.Books.{put_cash}
 use Rattle.books_model.specs.Interpreter.{put_position}
-use Rattle.books_model.proofs.Maps.Trees.{stays_after_insert}
 use Rattle.txn_books.specs.Inner.Trading.{sold}
+use Rattle.txn_books.proofs.OnBooks.Accounts.{held_kept}
 use Rattle.txn_books.proofs.OnBooks.Turning.{turn_then, turned_less, of_change, each_turned}
 use Rattle.txn_books.proofs.OnBooks.TradeSides.{has_sold, has_bought, bought, exchanges}
 use Rattle.txn_books.proofs.trading.exchange.Goals as goal
@@ -21,7 +20,7 @@ set_quantity-requires-clause-price g c = record { at = λ s fit books stand. (c.
 pub set_quantity-requires-2-clause-account : goal.set_quantity-requires-2-clause-account
 set_quantity-requires-2-clause-account g c =
     each_turned (has_sold c.requires.may c.in_ok-set_quantity.ensures.goes_on c.in_ok-set_quantity.ensures.held) c.requires.stands
-    (λ books after sized k. subst (λ z. IsSome (map.get z.accounts c.args.buys.account)) (sym k.1) k.0.buyer)
+    (λ books after sized k. subst (λ z. IsSome (map.get z.accounts c.args.buys.side.account)) (sym k.1) k.0.buyer)
 
 pub set_quantity-requires-2-clause-price : goal.set_quantity-requires-2-clause-price
 set_quantity-requires-2-clause-price g c =
@@ -36,49 +35,51 @@ returns-then-not-branch g c = record {
       (λ books after sized k. (
         sym c.if-not-branch.true ∙ k.1,
         k.2
-            ∙ ap (λ t. if t then put_position (sold c.args.instrument c.args.sells books) c.args.buys.account
-            c.args.instrument c.args.buys.held else sold c.args.instrument c.args.sells books) c.if-not-branch.true,
+            ∙ ap (λ t. if t then put_position (sold c.args.instrument c.args.sells.side books) c.args.buys.side.account
+            c.args.instrument c.args.buys.side.held else sold c.args.instrument c.args.sells.side books) c.if-not-branch.true,
       )));
   stands = c.in_ok-set_quantity-2.ensures.stands;
   goes_on = goes_as (goes_then c.in_ok-set_quantity.ensures.goes_on c.in_ok-set_quantity-2.ensures.goes_on) (search rules);
 }
 
-pub set_cash-requires-clause-account : goal.set_cash-requires-clause-account
-set_cash-requires-clause-account g c =
-    each_turned (turned_less (has_bought (has_sold c.requires.may c.in_ok-set_quantity.ensures.goes_on
-    c.in_ok-set_quantity.ensures.held) c.in_ok-set_quantity-2.ensures.goes_on c.in_ok-set_quantity-2.ensures.held)
-    (λ books after sized k. bought (c.args.instrument) c.args.buys c.args.sells books after _ c.if-not-branch.false k)) c.requires.stands
-    (λ books after sized k. subst (λ z. IsSome (map.get z.accounts c.args.buys.account)) (sym k.2) k.0.buyer)
+pub set_balance-requires-clause-held : goal.set_balance-requires-clause-held
+set_balance-requires-clause-held g c =
+    let first = c.in_ok-set_quantity.ensures in
+    let second = c.in_ok-set_quantity-2.ensures in
+    let shape = c.args.shape.now in
+    held_kept g.W.Words g.W.Shape.Shape shape _ _ c.args.buys.side.account c.args.buys.block second.goes_on.shape second.goes_on.begins
+    (held_kept g.W.Words g.W.Shape.Shape shape _ _ c.args.buys.side.account c.args.buys.block first.goes_on.shape first.goes_on.begins
+    c.requires.buyer_held first.blocks) second.blocks
 
-pub set_cash-requires-2-clause-account : goal.set_cash-requires-2-clause-account
-set_cash-requires-2-clause-account g c =
-    each_turned (turn_then c.in_ok-set_cash.ensures.goes_on
-    (turned_less (has_bought (has_sold c.requires.may c.in_ok-set_quantity.ensures.goes_on
-    c.in_ok-set_quantity.ensures.held) c.in_ok-set_quantity-2.ensures.goes_on c.in_ok-set_quantity-2.ensures.held)
-    (λ books after sized k. bought (c.args.instrument) c.args.buys c.args.sells books after _ c.if-not-branch.false k))
-    (of_change c.in_ok-set_cash.ensures.changed)) c.requires.stands
-    (λ books last sized k. subst (λ z. IsSome (map.get z.accounts c.args.sells.account))
-    (sym (k.2 ∙ ap (λ z. put_cash z c.args.buys.account c.args.buys.cash) k.1.2))
-    (stays_after_insert nat_cmp_total books.accounts c.args.buys.account c.args.sells.account c.args.buys.cash k.1.0.seller))
+pub set_balance-requires-2-clause-held : goal.set_balance-requires-2-clause-held
+set_balance-requires-2-clause-held g c =
+    let first = c.in_ok-set_quantity.ensures in
+    let second = c.in_ok-set_quantity-2.ensures in
+    let third = c.in_ok-set_balance.ensures in
+    let shape = c.args.shape.now in
+    held_kept g.W.Words g.W.Shape.Shape shape _ _ c.args.sells.side.account c.args.sells.block third.goes_on.shape third.goes_on.begins
+    (held_kept g.W.Words g.W.Shape.Shape shape _ _ c.args.sells.side.account c.args.sells.block second.goes_on.shape second.goes_on.begins
+    (held_kept g.W.Words g.W.Shape.Shape shape _ _ c.args.sells.side.account c.args.sells.block first.goes_on.shape first.goes_on.begins
+    c.requires.seller_held first.blocks) second.blocks) third.blocks
 
 pub returns : goal.returns
 returns g c = record {
   exchanged =
-      exchanges (turned_less (turn_then c.in_ok-set_cash-2.ensures.goes_on
-      (turn_then c.in_ok-set_cash.ensures.goes_on
+      exchanges (turned_less (turn_then c.in_ok-set_balance-2.ensures.goes_on
+      (turn_then c.in_ok-set_balance.ensures.goes_on
       (turned_less (has_bought (has_sold c.requires.may c.in_ok-set_quantity.ensures.goes_on
       c.in_ok-set_quantity.ensures.held) c.in_ok-set_quantity-2.ensures.goes_on c.in_ok-set_quantity-2.ensures.held)
-      (λ books after sized k. bought (c.args.instrument) c.args.buys c.args.sells books after _
-      c.if-not-branch.false k)) (of_change c.in_ok-set_cash.ensures.changed)) (of_change c.in_ok-set_cash-2.ensures.changed))
+      (λ books after sized k. bought (c.args.instrument) c.args.buys.side c.args.sells.side books after _
+      c.if-not-branch.false k)) (of_change c.in_ok-set_balance.ensures.changed)) (of_change c.in_ok-set_balance-2.ensures.changed))
       (λ books last sized k. (
         k.1.1.1,
-        k.2 ∙ ap (λ z. put_cash z c.args.sells.account c.args.sells.cash) (k.1.2
-            ∙ ap (λ z. put_cash z c.args.buys.account c.args.buys.cash) k.1.1.2),
+        k.2 ∙ ap (λ z. put_cash z c.args.sells.side.account c.args.sells.side.cash) (k.1.2
+            ∙ ap (λ z. put_cash z c.args.buys.side.account c.args.buys.side.cash) k.1.1.2),
       )));
-  stands = c.in_ok-set_cash-2.ensures.stands;
+  stands = c.in_ok-set_balance-2.ensures.stands;
   goes_on = goes_as (goes_then (goes_then
       (goes_then c.in_ok-set_quantity.ensures.goes_on c.in_ok-set_quantity-2.ensures.goes_on)
-      c.in_ok-set_cash.ensures.goes_on) c.in_ok-set_cash-2.ensures.goes_on) (search rules);
+      c.in_ok-set_balance.ensures.goes_on) c.in_ok-set_balance-2.ensures.goes_on) (search rules);
 }
 
 pub returns-in_err-set_quantity : goal.returns-in_err-set_quantity
@@ -94,18 +95,18 @@ returns-in_err-set_quantity-2 g c =
     goes_as (goes_then c.in_ok-set_quantity.ensures.goes_on c.in_err-set_quantity-2.ensures.goes_on) (search rules) in
     search IfOk-from_err
 
-pub returns-in_err-set_cash : goal.returns-in_err-set_cash
-returns-in_err-set_cash g c =
-    let failed = c.from_residual-in_err-set_cash.ensures.0 in
-    let on : GoesOn g.W.Words c.args.w.now c.set_cash.new.w c.from_residual-in_err-set_cash.result =
+pub returns-in_err-set_balance : goal.returns-in_err-set_balance
+returns-in_err-set_balance g c =
+    let failed = c.from_residual-in_err-set_balance.ensures.0 in
+    let on : GoesOn g.W.Words c.args.w.now c.set_balance.new.w c.from_residual-in_err-set_balance.result =
     goes_as (goes_then (goes_then c.in_ok-set_quantity.ensures.goes_on c.in_ok-set_quantity-2.ensures.goes_on)
-    c.in_err-set_cash.ensures.goes_on) (search rules) in
+    c.in_err-set_balance.ensures.goes_on) (search rules) in
     search IfOk-from_err
 
-pub returns-in_err-set_cash-2 : goal.returns-in_err-set_cash-2
-returns-in_err-set_cash-2 g c =
-    let failed = c.from_residual-in_err-set_cash-2.ensures.0 in
-    let on : GoesOn g.W.Words c.args.w.now c.set_cash-2.new.w c.from_residual-in_err-set_cash-2.result =
+pub returns-in_err-set_balance-2 : goal.returns-in_err-set_balance-2
+returns-in_err-set_balance-2 g c =
+    let failed = c.from_residual-in_err-set_balance-2.ensures.0 in
+    let on : GoesOn g.W.Words c.args.w.now c.set_balance-2.new.w c.from_residual-in_err-set_balance-2.result =
     goes_as (goes_then (goes_then (goes_then c.in_ok-set_quantity.ensures.goes_on
-    c.in_ok-set_quantity-2.ensures.goes_on) c.in_ok-set_cash.ensures.goes_on) c.in_err-set_cash-2.ensures.goes_on) (search rules) in
+    c.in_ok-set_quantity-2.ensures.goes_on) c.in_ok-set_balance.ensures.goes_on) c.in_err-set_balance-2.ensures.goes_on) (search rules) in
     search IfOk-from_err

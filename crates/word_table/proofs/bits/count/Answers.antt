@@ -6,4 +6,5 @@ use Rattle.word_table.proofs.bits.count.Goals as goal
 -- sixteen words of 64 bits
 pub sum-requires-clause-fits : goal.sum-requires-clause-fits
 sum-requires-clause-fits c = let few : length c.args.row.now ≤ 16 = omega arith in
-    fits_from_length _ _ 16 (2 ^ 32) (at_most_from_yields_List (YieldsList-from_slice c.args.row.now cc) few) c.map.ensures.closure (omega arith) (λ x r q k. search rules)
+    fits_from_length _ _ 16 (2 ^ 32) (at_most_from_yields_List (YieldsList-from_slice c.args.row.now cc) few) c.map.ensures.closure (omega arith)
+    (λ x r q k. search rules)

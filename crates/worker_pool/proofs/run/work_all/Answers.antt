@@ -21,7 +21,8 @@ for_each_mut-requires-clause-accepts g c κs within i p lt is =
 
 pub returns-clause-ended : goal.returns-clause-ended
 returns-clause-ended g c =
-    let ended = λ (apart : CachePadded Worker). HasEndedItsPart c.args.shop.now.thieves.now c.args.shop.now.desk.now c.args.shop.now.input.now (padded_value apart) in
+    let ended = λ (apart : CachePadded Worker). HasEndedItsPart c.args.shop.now.thieves.now c.args.shop.now.desk.now c.args.shop.now.input.now
+    (padded_value apart) in
     All-map (HasEndedItsPart c.args.shop.now.thieves.now c.args.shop.now.desk.now c.args.shop.now.input.now) padded_value c.for_each_mut.new.s
     (λ k d lt. let x = (c.for_each_mut.ensures k d (omega (arith, lt, c.for_each_mut.auto.s))).1 in subst ended x.left x.call.0)
 

@@ -33,7 +33,8 @@ pub returns-clause-step : goal.returns-clause-step
 returns-clause-step c =
     elim c.match-remove.branch [
       | in-Some w ↦ is_gone c.args.self.now c.args.id w.in-Some.field-0 (found c ∙ w.in-Some.is)
-          ∙ ap (λ records. Gives value.Gone records) (sym (records_after c)) ∙ ap (λ o. step_with o (finite.from_entries c.remove.new.self.entries)) (sym w.result-is)
+          ∙ ap (λ records. Gives value.Gone records) (sym (records_after c))
+          ∙ ap (λ o. step_with o (finite.from_entries c.remove.new.self.entries)) (sym w.result-is)
       | in-None w ↦ is_absent c.args.self.now c.args.id (found c ∙ w.in-None.is)
           ∙ ap (λ o. step_with o (finite.from_entries c.remove.new.self.entries)) (sym w.result-is)
     ]

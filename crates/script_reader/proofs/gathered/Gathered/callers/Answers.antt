@@ -4,4 +4,5 @@ use Rattle.script_reader.proofs.Listed.Gathering.{count_callers}
 use Rattle.script_reader.proofs.gathered.Gathered.callers.Goals as goal
 
 pub returns : goal.returns
-returns g c = c.len.ensures.len ∙ sym (count_callers string_bytes (λ v. v.items) c.self.inside.gathering.names.keys c.self.inside.gathering.scripts.items c.self.invariant.beside) ∙ ap length c.self.view_is
+returns g c = c.len.ensures.len ∙ sym (count_callers string_bytes (λ v. v.items) c.self.inside.gathering.names.keys c.self.inside.gathering.scripts.items
+    c.self.invariant.beside) ∙ ap length c.self.view_is

@@ -113,8 +113,10 @@ returns-in_ok-put_in-in-Some-2 g c =
     let i = put_new g.W.Words g.W.Shape.Shape (tree_part m) key c.args.value c.args.w.now c.put_in.new.w goes.shape goes.begins c.requires.order some
     (inserts_new m key c.args.value _ _ _ _ order missing _ take.goes_on.begins b taken kept _ last.goes_on.begins put)
     (takes_new m key c.args.value _ _ _ _ order missing _ take.goes_on.begins b taken kept _ last.goes_on.begins put nearest)
-    (owns_new m key c.args.value _ _ _ _ order missing _ take.goes_on.begins b taken kept _ last.goes_on.begins put heads.appended (within_from g.W.Words g.W.Shape.Shape c.args.w.now c.take_near.new.w c.put_in.new.w _ same own))
-    (sees_new m key c.args.value _ _ _ _ order missing _ take.goes_on.begins b taken kept _ last.goes_on.begins put names (reads_from g.W.Words g.W.Shape.Shape c.args.w.now c.take_near.new.w c.put_in.new.w _ same seen)) in
+    (owns_new m key c.args.value _ _ _ _ order missing _ take.goes_on.begins b taken kept _ last.goes_on.begins put
+    heads.appended (within_from g.W.Words g.W.Shape.Shape c.args.w.now c.take_near.new.w c.put_in.new.w _ same own))
+    (sees_new m key c.args.value _ _ _ _ order missing _ take.goes_on.begins b taken kept _ last.goes_on.begins put names
+    (reads_from g.W.Words g.W.Shape.Shape c.args.w.now c.take_near.new.w c.put_in.new.w _ same seen)) in
     record {
       put = i.put;
       nearest = i.nearest;

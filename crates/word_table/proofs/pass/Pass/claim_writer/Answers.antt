@@ -19,7 +19,8 @@ invariant_of-self g c = let i = c.self.invariant in let p = c.self.inside in let
     ((claim_writer_action p.call.who k c.args.a p.seat.me.0).view w) c.exchange-found.ensures.seat t.0.view t.1
     (claim_same p.call.who k c.args.a p.seat.me.0 w) (claim_phase p.call.who k c.args.a p.seat.me.0 w ∙ i.call_is.phase_is)
     (claim_copy (record p.locks { claims = c.raise_if.new.row; scans = c.forget_if.new.masks }) p.call.who k c.args.a
-    p.seat.me.0 w l.bits_are l.reads_are (c.raise_if.ensures p.seat.me.0.claims l.claims_are) (c.forget_if.ensures p.seat.me.0.scans l.scans_are) l.versions_are)
+    p.seat.me.0 w l.bits_are l.reads_are (c.raise_if.ensures p.seat.me.0.claims l.claims_are)
+    (c.forget_if.ensures p.seat.me.0.scans l.scans_are) l.versions_are)
     (busy ((claim_writer_action p.call.who k c.args.a p.seat.me.0).view w)
     (runs_on p.seat.me.0 ((claim_writer_action p.call.who k c.args.a p.seat.me.0).view w)
     (claim_phase p.call.who k c.args.a p.seat.me.0 w) (ap (λ (x : PassView). x.view.phase) c.self.view_is ∙ c.requires.phase)))

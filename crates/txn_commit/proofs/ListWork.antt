@@ -1,0 +1,158 @@
+-- What one worker ran: a job more, a list more, and the callers so far.
+use Rattle.std.proofs.Common.{◌≡◌, ◌≢◌, ℕ, zero, suc, ◌+◌, ◌<◌, ◌≤◌, ◌%◌, ◌==◌, Bool, true, false, cond, ⊎_elim, List, [], ◌∷◌, ◌++◌, All, AllPairs}
+use Rattle.std.proofs.Common.{map, length, refl, sym, ap, ◌∙◌, subst, arith, append_assoc, length-append}
+use Rattle.std.specs.Prelude.{sum_by}
+use Rattle.std.specs.List.{filter, range_with_len}
+use Rattle.std.proofs.lemmas.Bool.Decides.{eqb_tells}
+use Rattle.std.proofs.lemmas.List.{append-nil, length-map, map-append, map-id, map_push}
+use Rattle.std.proofs.lemmas.List.Elements.{All-append, All-head, All-nil, All-push, All-tail, All-weaker, filter-append}
+use Rattle.std.proofs.lemmas.List.FromFn.{length-range_with_len, map-range_with_len_more}
+use Rattle.std.proofs.lemmas.List.Quantifiers.{all_pairs_push}
+use Rattle.std.proofs.lemmas.List.Sums.{sum_by_push}
+use mathlib.Core.Logic.{dite}
+use native.Mathlib.Decide.{dec_lt}
+use Rattle.history_model.specs.declared.view.View.{View}
+use Rattle.history_model.specs.Views.{number}
+use Rattle.txn_commit.specs.declared.lists.Ran.{Ran}
+use Rattle.txn_commit.specs.Lists.{indexes_of, jobs_of_first}
+use Rattle.txn_commit.specs.Inner.ListWork.{HasRun, IsMade, Made, RanFirst, RanList, RanOne}
+
+-- one number more
+pub range_more : (n : ℕ) → range_with_len 0 (n + 1) ≡ range_with_len 0 n ++ n ∷ []
+range_more n = sym (map-id (range_with_len 0 (n + 1))) ∙ map-range_with_len_more (λ (k : ℕ). k) 0 n n (omega arith)
+    ∙ ap (λ l. l ++ n ∷ []) (map-id (range_with_len 0 n))
+
+-- the jobs of one caller more
+pub jobs_more : (jobs : ℕ → ℕ) (n : ℕ) → jobs_of_first jobs (n + 1) ≡ jobs_of_first jobs n + jobs n
+jobs_more jobs n = ap (sum_by jobs) (range_more n) ∙ sum_by_push jobs (range_with_len 0 n) n
+
+pub jobs_within : (jobs : ℕ → ℕ) (n m : ℕ) → n ≤ m → jobs_of_first jobs n ≤ jobs_of_first jobs m
+jobs_within jobs n zero le = let none : n ≡ 0 = omega (arith, le) in omega (arith, ap (jobs_of_first jobs) none)
+jobs_within jobs n (suc m) le = dite (dec_lt n (suc m))
+    (λ lt.
+    let next : m + 1 ≡ suc m = omega arith in
+    omega (arith, jobs_within jobs n m (omega (arith, lt)), jobs_more jobs m, ap (jobs_of_first jobs) next))
+    (λ no. let same : n ≡ suc m = omega (arith, le, no) in omega (arith, ap (jobs_of_first jobs) same))
+
+module _ {A : Type 0} where
+  -- the indexes of items of one caller, and of others
+  own_indexes : (c : ℕ) (done : List (Ran A)) → All (λ (r : Ran A). r.caller ≡ c) done → indexes_of c done ≡ map (λ (r : Ran A). r.index) done
+  own_indexes c [] all = refl
+  own_indexes c (r ∷ done) all =
+      let test : (r.caller == c) ≡ true = ⊎_elim (λ t. t.0) (λ t. absurd (t.1 (All-head (λ (x : Ran A). x.caller ≡ c) r done all))) (eqb_tells r.caller c) in
+      ap (λ b. map (λ (x : Ran A). x.index) (cond b (r ∷ filter (λ (x : Ran A). x.caller == c) done) (filter (λ (x : Ran A). x.caller == c) done))) test
+      ∙ ap (λ l. r.index ∷ l) (own_indexes c done (All-tail (λ (x : Ran A). x.caller ≡ c) r done all))
+
+  pub no_indexes : (c : ℕ) (done : List (Ran A)) → All (λ (r : Ran A). r.caller ≢ c) done → indexes_of c done ≡ []
+  no_indexes c [] all = refl
+  no_indexes c (r ∷ done) all =
+      let test : (r.caller == c) ≡ false = ⊎_elim (λ t. absurd (All-head (λ (x : Ran A). x.caller ≢ c) r done all t.1)) (λ t. t.0) (eqb_tells r.caller c) in
+      ap (λ b. map (λ (x : Ran A). x.index) (cond b (r ∷ filter (λ (x : Ran A). x.caller == c) done) (filter (λ (x : Ran A). x.caller == c) done))) test
+      ∙ no_indexes c done (All-tail (λ (x : Ran A). x.caller ≢ c) r done all)
+
+  pub both_indexes : (c : ℕ) (first second : List (Ran A)) → indexes_of c (first ++ second) ≡ indexes_of c first ++ indexes_of c second
+  both_indexes c first second = ap (map (λ (x : Ran A). x.index)) (filter-append (λ (x : Ran A). x.caller == c) first second)
+      ∙ map-append (λ (x : Ran A). x.index) (filter (λ (x : Ran A). x.caller == c) first) (filter (λ (x : Ran A). x.caller == c) second)
+
+  -- the first jobs of a list
+  pub list_none : (caller : ℕ) (old : List (Ran A)) → RanList caller 0 old old
+  list_none caller old = record { more = []; behind = sym (append-nil old); of_caller = All-nil (λ (r : Ran A). r.caller ≡ caller); indexes = refl }
+
+  pub list_more : (caller n : ℕ) (old mid new : List (Ran A)) (ran : Ran A) → RanList caller n old mid → ran.caller ≡ caller → ran.index ≡ n
+      → new ≡ mid ++ ran ∷ [] → RanList caller (n + 1) old new
+  list_more caller n old mid new ran list its index is = record {
+    more = list.more ++ ran ∷ [];
+    behind = is ∙ ap (λ l. l ++ ran ∷ []) list.behind ∙ append_assoc old list.more (ran ∷ []);
+    of_caller = All-push (λ (r : Ran A). r.caller ≡ caller) list.more ran list.of_caller its;
+    indexes = map_push (λ (r : Ran A). r.index) list.more ran ∙ ap (λ l. l ++ ran.index ∷ []) list.indexes
+        ∙ ap (λ i. range_with_len 0 n ++ i ∷ []) index ∙ sym (range_more n);
+  }
+
+  pub list_count : (caller n : ℕ) (old new : List (Ran A)) → RanList caller n old new → length new ≡ length old + n
+  list_count caller n old new list = omega (
+    arith,
+    ap (λ l. length l) list.behind,
+    length-append old list.more,
+    length-map list.more (λ (r : Ran A). r.index),
+    ap (λ l. length l) list.indexes,
+    length-range_with_len 0 n,
+  )
+
+  -- of no callers, and of one caller more
+  pub first_none : (jobs : ℕ → ℕ) (workers seat : ℕ) (done : List (Ran A)) → done ≡ [] → RanFirst jobs workers seat 0 done
+  first_none jobs workers seat done none = record {
+    own = λ c lt turn. absurd (omega (arith, lt));
+    only = subst (All (λ (r : Ran A). (r.caller < 0) × (r.caller % workers ≡ seat))) (sym none)
+        (All-nil (λ (r : Ran A). (r.caller < 0) × (r.caller % workers ≡ seat)));
+  }
+
+  module _ (jobs : ℕ → ℕ) (workers seat n : ℕ) (done : List (Ran A)) (first : RanFirst jobs workers seat n done) where
+    later : All (λ (r : Ran A). (r.caller < n + 1) × (r.caller % workers ≡ seat)) done
+    later = All-weaker (λ (r : Ran A). (r.caller < n) × (r.caller % workers ≡ seat)) (λ (r : Ran A). (r.caller < n + 1) × (r.caller % workers ≡ seat))
+        (λ r t. (omega (arith, t.0), t.1)) done first.only
+
+    pub first_passes : n % workers ≢ seat → RanFirst jobs workers seat (n + 1) done
+    first_passes other = record {
+      own = λ c lt turn. dite (dec_lt c n) (λ less. first.own c less turn)
+          (λ no. let same : c ≡ n = omega (arith, lt, no) in absurd (other (ap (λ k. k % workers) (sym same) ∙ turn)));
+      only = later;
+    }
+
+    pub first_runs : (new : List (Ran A)) → n % workers ≡ seat → RanList n (jobs n) done new → RanFirst jobs workers seat (n + 1) new
+    first_runs new turn list = subst (λ (l : List (Ran A)). RanFirst jobs workers seat (n + 1) l) (sym list.behind) (record {
+      own = λ c lt its. both_indexes c done list.more ∙ indexes c lt its;
+      only = All-append (λ (r : Ran A). (r.caller < n + 1) × (r.caller % workers ≡ seat)) done list.more later
+          (All-weaker (λ (r : Ran A). r.caller ≡ n) (λ (r : Ran A). (r.caller < n + 1) × (r.caller % workers ≡ seat))
+          (λ r is. (omega (arith, is), ap (λ k. k % workers) is ∙ turn)) list.more list.of_caller);
+    })
+      where
+        others : (c : ℕ) → c < n → All (λ (r : Ran A). r.caller ≢ c) list.more
+        others c less = All-weaker (λ (r : Ran A). r.caller ≡ n) (λ (r : Ran A). r.caller ≢ c) (λ r is same. absurd (omega (arith, is, same, less)))
+            list.more list.of_caller
+
+        before : (c : ℕ) → c ≡ n → All (λ (r : Ran A). r.caller ≢ c) done
+        before c same = All-weaker (λ (r : Ran A). (r.caller < n) × (r.caller % workers ≡ seat)) (λ (r : Ran A). r.caller ≢ c)
+            (λ r t is. absurd (omega (arith, t.0, is, same))) done first.only
+
+        indexes : (c : ℕ) → c < n + 1 → c % workers ≡ seat → indexes_of c done ++ indexes_of c list.more ≡ range_with_len 0 (jobs c)
+        indexes c lt its = dite (dec_lt c n)
+            (λ less. ap (λ l. indexes_of c done ++ l) (no_indexes c list.more (others c less)) ∙ append-nil (indexes_of c done) ∙ first.own c less its)
+            (λ no.
+            let same : c ≡ n = omega (arith, lt, no) in
+            ap (λ l. l ++ indexes_of c list.more) (no_indexes c done (before c same))
+            ∙ own_indexes c list.more (subst (λ k. All (λ (r : Ran A). r.caller ≡ k) list.more) (sym same) list.of_caller)
+            ∙ list.indexes ∙ ap (λ k. range_with_len 0 (jobs k)) (sym same))
+
+  module _ (good : List ℕ → Type 0) (means : ℕ → ℕ → List ℕ → Bool → A → List ℕ → Type 0) (seats seat : ℕ) where
+    -- a pass that has run nothing
+    pub run_none : (view : View) (done : List (Ran A)) → view.call ≡ 0 → view.seen ≡ [] → done ≡ [] → HasRun good means seats seat view done
+    run_none view done calls seen none = record {
+      made = [];
+      items_are = none;
+      seen_are = seen;
+      each = All-nil (IsMade good means seats seat);
+      calls = calls ∙ sym (ap (λ l. length l) none);
+      rising = subst (AllPairs (λ (x y : Ran A). x.call < y.call)) (sym none) (λ i j d lt short. absurd (omega arith));
+      late = subst (λ (l : List (Ran A)). All (λ (x : Ran A). x.call ≤ length l) l) (sym none) (All-nil (λ (x : Ran A). x.call ≤ 0));
+    }
+
+    -- a pass that has run one job more
+    pub run_more : (old now : View) (done new : List (Ran A)) (ran : Ran A) → HasRun good means seats seat old done → number old ≡ seat
+        → RanOne good means seats old now ran → new ≡ done ++ ran ∷ [] → HasRun good means seats seat now new
+    run_more old now done new ran h named one is = subst (λ (l : List (Ran A)). HasRun good means seats seat now l) (sym is) (record {
+      made = h.made ++ last ∷ [];
+      items_are = ap (λ l. l ++ ran ∷ []) h.items_are ∙ sym (map_push (λ (x : Made A). x.ran) h.made last);
+      seen_are = one.seen ∙ ap (λ l. l ++ one.entry ∷ []) h.seen_are ∙ sym (map_push (λ (x : Made A). x.entry) h.made last);
+      each = All-push (IsMade good means seats seat) h.made last h.each (record { by_entry = one.made; seat_is = one.seat_is ∙ named; few = one.few });
+      calls = omega (arith, one.called, h.calls, long);
+      rising = all_pairs_push (λ (x y : Ran A). x.call < y.call) done ran h.rising (λ k d lt. omega (arith, h.late k d lt, one.call_is, h.calls));
+      late = All-push (λ (x : Ran A). x.call ≤ length (done ++ ran ∷ [])) done ran
+          (All-weaker (λ (x : Ran A). x.call ≤ length done) (λ (x : Ran A). x.call ≤ length (done ++ ran ∷ [])) (λ x le. omega (arith, le, long)) done h.late)
+          (omega (arith, one.call_is, h.calls, long));
+    })
+      where
+        last : Made A
+        last = record { ran = ran; entry = one.entry }
+
+        long : length (done ++ ran ∷ []) ≡ length done + 1
+        long = length-append done (ran ∷ [])

@@ -1,0 +1,8 @@
+use Rattle.word_table.specs.Desks.{AreGoodWords}
+use Rattle.txn_commit.specs.Inner.ListWork.{IsUnderWay}
+use Rattle.txn_commit.proofs.list_worker.run_own.Given as goal
+
+-- of the callers before this one those of the pass were run
+abbrev pub invariant-loop-caller : goal.invariant-loop-caller
+invariant-loop-caller g l = IsUnderWay (AreGoodWords g.L.Shape.Shape l.desk) (g.L.Lists.means l.lists) (g.L.Lists.jobs l.lists)
+    l.workers l.desk.seats l.fn.pass l.caller l.pass l.done.items

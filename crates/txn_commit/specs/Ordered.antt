@@ -1,0 +1,80 @@
+-- What was run over a table, in the order that is rebuilt from what it used.
+use Rattle.std.specs.Prelude.{◌≡◌, ◌≢◌, ◌↔◌, ◌<◌, ◌≤◌, ℕ, AllPairs, Bool, true, false, List, [], ◌∷◌, map, length, take, Some, slice_get}
+use Rattle.history_model.specs.declared.entry.Entry.{Entry}
+use Rattle.history_model.specs.declared.placed.Spot.{Spot}
+use Rattle.history_model.specs.Histories.{replay}
+use Rattle.history_model.specs.Legal.{IsIn}
+use Rattle.history_model.specs.Traces.{IsLegalTrace, after}
+use Rattle.order_rebuild.specs.Order.{IsOrder, Orderable}
+use Rattle.word_table.specs.Closing.{ClosedView}
+use Rattle.txn_commit.specs.declared.lists.Ran.{Ran}
+use Rattle.txn_commit.specs.Lists.{IsEntryOf}
+
+-- the second list is what stands at the places in the first
+pub record AreAt {X : Type 0} (xs : List X) (places : List ℕ) (ys : List X) : Type 0 where
+  pub count : length ys ≡ length places
+  pub each : (i p : ℕ) → slice_get places i ≡ Some p → slice_get ys i ≡ slice_get xs p
+
+-- the items stand in the order that is rebuilt from what they used
+pub record IsRebuilt {X : Type 0} (spot : X → Spot) (done : List X) : Type 0 where
+  pub given : List X
+  pub places : List ℕ
+  pub orderable : Orderable (map spot given)
+  pub order : IsOrder (map spot given) places
+  pub are : AreAt given places done
+
+-- what the order of jobs is made by: a job's caller, its place among the caller's jobs, and what it used
+abbrev pub spot_of : {A : Type 0} → Ran A → Spot
+spot_of ran = record { caller = ran.caller; index = ran.index; uses = ran.uses.items }
+
+-- the jobs stand in the order that is rebuilt from what they used, each beside its entry, and the closed records are these
+-- entries: down them each finds good words, on which its trace is legal and its job's meaning holds, and the closed words
+-- are those that the last leaves
+pub record IsRunInOrder {A S : Type 0} (good : List ℕ → Type 0) (means : ℕ → ℕ → List ℕ → Bool → A → List ℕ → Type 0)
+    (closed : ClosedView S) (done : List (Ran A)) : Type 0 where
+  pub rebuilt : IsRebuilt spot_of done
+  pub entries : List Entry
+  pub as_many : length done ≡ length entries
+  pub of_items : (k : ℕ) (ran : Ran A) (e : Entry) → slice_get done k ≡ Some ran → slice_get entries k ≡ Some e → IsEntryOf ran e
+  pub of_records : (e : Entry) → IsIn e entries ↔ IsIn e closed.records
+  pub good_words : (k : ℕ) → k ≤ length entries → good (replay closed.base (take k entries))
+  pub legal : (k : ℕ) (e : Entry) → slice_get entries k ≡ Some e → IsLegalTrace e.trace (replay closed.base (take k entries))
+  pub meaning : (k : ℕ) (ran : Ran A) (e : Entry) → slice_get done k ≡ Some ran → slice_get entries k ≡ Some e
+      → means ran.caller ran.index (replay closed.base (take k entries)) e.kept ran.answer
+      (after e.trace (replay closed.base (take k entries)))
+  pub words : closed.words ≡ replay closed.base entries
+
+-- what an interpreter answers down jobs, each on the state that those before it leave
+unfoldable pub answers_down : {A X : Type 0} → (ℕ → ℕ → X → A) → (ℕ → ℕ → X → X) → List (Ran A) → X → List A
+answers_down reply left [] x = []
+answers_down reply left (job ∷ jobs) x = reply job.caller job.index x ∷ answers_down reply left jobs (left job.caller job.index x)
+
+-- the state that they leave
+unfoldable pub state_down : {A X : Type 0} → (ℕ → ℕ → X → X) → List (Ran A) → X → X
+state_down left [] x = x
+state_down left (job ∷ jobs) x = state_down left jobs (left job.caller job.index x)
+
+-- a job's meaning is one step of an interpreter: of words that stand for a state it answers what the interpreter replies,
+-- and what it keeps stands for the state that this leaves; where it keeps nothing, the state is as it was
+pub record IsStep {A X : Type 0} (means : ℕ → ℕ → List ℕ → Bool → A → List ℕ → Type 0) (stands : List ℕ → X → Type 0)
+    (reply : ℕ → ℕ → X → A) (left : ℕ → ℕ → X → X) : Type 0 where
+  pub replies : (c i : ℕ) (s t : List ℕ) (kept : Bool) (answer : A) (x : X) → means c i s kept answer t → stands s x
+      → answer ≡ reply c i x
+  pub keeps : (c i : ℕ) (s t : List ℕ) (kept : Bool) (answer : A) (x : X) → means c i s kept answer t → stands s x → kept ≡ true
+      → stands t (left c i x)
+  pub reverts : (c i : ℕ) (s t : List ℕ) (kept : Bool) (answer : A) (x : X) → means c i s kept answer t → stands s x → kept ≡ false
+      → left c i x ≡ x
+
+-- each item beside the entry of its call, and the closed records are these entries: on all good words on which its trace is
+-- legal the meaning of the item's job holds. Of one caller they are later and later jobs, by later and later calls of one
+-- seat, and no two are of one call
+pub record AreRun {A S : Type 0} (good : List ℕ → Type 0) (means : ℕ → ℕ → List ℕ → Bool → A → List ℕ → Type 0)
+    (closed : ClosedView S) (done : List (Ran A)) : Type 0 where
+  pub entries : List Entry
+  pub as_many : length done ≡ length entries
+  pub of_items : (k : ℕ) (ran : Ran A) (e : Entry) → slice_get done k ≡ Some ran → slice_get entries k ≡ Some e → IsEntryOf ran e
+  pub meaning : (k : ℕ) (ran : Ran A) (e : Entry) → slice_get done k ≡ Some ran → slice_get entries k ≡ Some e
+      → (s : List ℕ) → good s → IsLegalTrace e.trace s → means ran.caller ran.index s e.kept ran.answer (after e.trace s)
+  pub of_records : (e : Entry) → IsIn e entries ↔ IsIn e closed.records
+  pub in_order : AllPairs (λ x y. x.caller ≡ y.caller → (x.index < y.index) × ((x.seat ≡ y.seat) × (x.call < y.call))) done
+  pub apart : AllPairs (λ x y. x.seat ≡ y.seat → x.call ≢ y.call) done
