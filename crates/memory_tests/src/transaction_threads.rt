@@ -185,7 +185,7 @@ fn open_pair(alloc: Global) -> Result<(Desk<Pair>, Pass<Pair>, Pass<Pair>), OutO
 type Ended = (Pass<Pair>, Result<u32, OutOfMemory>);
 
 // Two threads, each with a pass that makes so many calls, in crossed orders.
-fn cross<R: Threads + Wait + Sync, G: Gate>(
+fn cross<R: Threads + Wait + Sync, G: Gate + Sync>(
     rt: &R,
     alloc: Global,
     desk: &Desk<Pair>,

@@ -5,7 +5,7 @@ ghost use Rattle.std.specs.String.{string_bytes};
 ghost use Rattle.std.specs.List.{flat_map};
 ghost use Rattle.books_report.specs.Lines.{place_of_line};
 ghost use Rattle.record_text.specs.Journal.{IsRecordPlace};
-ghost use Rattle.record_text.specs.Lines.{ran_of_line, scripts_of};
+ghost use Rattle.record_text.specs.Lines.{lent, ran_of_line, scripts_of};
 ghost use Rattle.record_text.specs.Output.{AreByRank, AreRun, IsRecordOutput, closing_of, header_line, journal_line, journal_lines, record_line, text_of};
 
 use crate::input::RecordInput;
@@ -38,12 +38,12 @@ fn write_lines(
     text: &mut String,
     input: &RecordInput,
     lines: &[Line],
-    replies: &[RecordReply],
+    replies: &[&RecordReply],
 ) -> Result<(), AllocError>
     requires beside { length lines.now ≡ length replies.now }
     requires places { All (λ l. IsRecordPlace input.now (place_of_line l)) lines.now }
     ensures { OnOk result (string_bytes text.new ≡ string_bytes text.old
-        ++ journal_lines input.now 1 (scripts_of lines.now replies.now)) }
+        ++ journal_lines input.now 1 (scripts_of lines.now (lent replies.now))) }
 {
     let mut serial = 1;
     for (line, reply) in lines.iter().zip(replies) {
@@ -85,22 +85,22 @@ fn write_records(text: &mut String, closing: &[(u32, u32, u64)]) -> Result<(), A
 }
 
 /// The whole output: a journal line for each line and reply, in their order, the closing records, each with its identifier,
-/// its rank and its data, and `finish`.
+/// its rank and its data, and `finish`. The records of a store are by rank as its index lists them (`printed_of`).
 pub fn records_text(
     alloc: Global,
     input: &RecordInput,
     lines: &[Line],
-    replies: &[RecordReply],
+    replies: &[&RecordReply],
     closing: &[(u32, u32, u64)],
 ) -> Result<Vec<u8>, OutOfMemory>
     requires beside { length lines.now ≡ length replies.now }
     requires places { All (λ l. IsRecordPlace input.now (place_of_line l)) lines.now }
     requires by_rank { AreByRank closing.now }
     ensures text { IfOk result (λ text. text.items
-        ≡ text_of input.now (scripts_of lines.now replies.now) closing.now) }
+        ≡ text_of input.now (scripts_of lines.now (lent replies.now)) closing.now) }
     ensures output { IfOk result (λ text. (limit : ℕ)
-        → AreRun input.now limit (scripts_of lines.now replies.now)
-        → closing.now ≡ closing_of input.now (scripts_of lines.now replies.now)
+        → AreRun input.now limit (scripts_of lines.now (lent replies.now))
+        → closing.now ≡ closing_of input.now (scripts_of lines.now (lent replies.now))
         → IsRecordOutput input.now limit text.items) }
 {
     let mut text = String::from_str(alloc, "journal\n")?;

@@ -17,6 +17,8 @@ mod model;
 #[cfg(test)]
 mod orders;
 #[cfg(test)]
+mod orders_report;
+#[cfg(test)]
 mod reader;
 #[cfg(test)]
 mod records;

@@ -374,7 +374,8 @@ fn is_printed(
         return Ok(false);
     };
     let lines = lines_of(rt, alloc, &input, replies.len())?;
-    let printed = records_text(alloc, &input, &lines, replies, closing)?;
+    let lent: Vec<&RecordReply> = replies.iter().collect(alloc)?;
+    let printed = records_text(alloc, &input, &lines, &lent, closing)?;
     Ok(printed.as_slice() == output.as_bytes())
 }
 

@@ -1,4 +1,6 @@
--- what a teller's calls did
-pub mod Doing
--- what all tellers did together
+-- how many jobs lists of moves have
+pub mod Counting
+-- what one of them means, and its receipt
+pub mod Meaning
+-- what all of them came to
 pub mod Serving

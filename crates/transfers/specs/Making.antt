@@ -1,33 +1,31 @@
--- Which entries of a teller's seat are its moves, and which its audits.
-use Rattle.std.specs.Prelude.{◌≡◌, ℕ, ◌+◌, ◌*◌, ◌<◌, Bool, List, length, get_or}
+-- What the jobs of lists of moves mean.
+use Rattle.std.specs.Prelude.{◌≡◌, ℕ, ◌+◌, ◌*◌, Bool, List, [], Vec, Some, get_or, length, map, slice_get}
+use Rattle.std.specs.Global.{Global}
 use Rattle.std.specs.List.{sum}
-use Rattle.history_model.specs.declared.entry.Entry.{Entry}
 use Rattle.history_model.specs.Fitting.{IsGood}
-use Rattle.history_model.specs.Legal.{IsIn}
-use Rattle.history_model.specs.Traces.{IsLegalTrace, after}
 use Rattle.transfer_jobs.specs.Moving.{HasSum, Moves, TellsSum}
-use Rattle.transfers.specs.declared.teller.Move.{Move}
+use Rattle.transfers.specs.declared.moves.Answer.{Answer}
+use Rattle.transfers.specs.declared.moves.Answer.TheVariants.{Made, Told}
+use Rattle.transfers.specs.declared.moves.Move.{Move}
 
 -- as many words as these, with the same sum
 abbrev pub HaveSumOf : List ℕ → List ℕ → Type 0
 HaveSumOf base s = IsGood (length base) (HasSum (sum base)) s
 
--- an entry of the seat has this call's number, and does so to all words with the sum of the base on which its trace is legal
-pub record IsDone (Does : List ℕ → Bool → List ℕ → Type 0) (base : List ℕ) (records : List Entry) (who call : ℕ) : Type 0 where
-  pub entry : Entry
-  pub there : IsIn entry records
-  pub by_seat : entry.who ≡ who
-  pub call_is : entry.call ≡ call
-  pub does : (s : List ℕ) → HaveSumOf base s → IsLegalTrace entry.trace s → Does s entry.kept (after entry.trace s)
+-- the moves of each list
+abbrev pub moves_of : List (Vec Move Global) → List (List Move)
+moves_of lists = map (λ (list : Vec Move Global). list.items) lists
+
+-- those of a caller
+abbrev pub list_at : List (List Move) → ℕ → List Move
+list_at lists caller = get_or lists caller []
 
 -- what a move makes of the words
 abbrev pub Makes : Move → List ℕ → Bool → List ℕ → Type 0
 Makes move s kept t = Moves move.from move.to move.amount s kept t
 
--- the first n moves were made in their order, each by every second call of this seat
-abbrev pub AreMade : List ℕ → List Entry → ℕ → List Move → ℕ → Type 0
-AreMade base records who moves n = (k : ℕ) (move : Move) → k < n → IsDone (Makes (get_or moves k move)) base records who (2 * k + 1)
-
--- and behind each of them an audit told the sum of the base
-abbrev pub AreAudited : List ℕ → List Entry → ℕ → ℕ → Type 0
-AreAudited base records who n = (k : ℕ) → k < n → IsDone (λ s kept t. TellsSum s kept (sum base) t) base records who (2 * k + 2)
+-- what a job of a list means, among words with this total: job 2k makes move k, and job 2k + 1 is an audit, which tells the
+-- total
+pub record Means (total : ℕ) (moves : List Move) (index : ℕ) (s : List ℕ) (kept : Bool) (answer : Answer) (t : List ℕ) : Type 0 where
+  pub makes : (k : ℕ) (move : Move) → index ≡ 2 * k → slice_get moves k ≡ Some move → (answer ≡ Made) × Makes move s kept t
+  pub audits : (k : ℕ) → index ≡ 2 * k + 1 → (answer ≡ Told total) × TellsSum s kept total t

@@ -2,10 +2,11 @@
 
 ghost use Rattle.std.specs.Prelude.{◌≡◌, IfOk, vec_len};
 
-use crate::{Move, run_transfers};
+use crate::{Answer, Move, run_transfers};
 use io_ends::OutOfMemory;
 use std::alloc::Global;
 use std::test::Fail;
+use txn_commit::{ListsEnd, Ran};
 
 // A hundred moves of one: there, back, there, and so on.
 fn there_and_back(alloc: Global, from: u64, to: u64) -> Result<Vec<Move>, OutOfMemory>
@@ -28,6 +29,19 @@ fn there_and_back(alloc: Global, from: u64, to: u64) -> Result<Vec<Move>, OutOfM
     Ok(moves)
 }
 
+// What the audits of a list told, in their order.
+fn told_to(alloc: Global, done: &[Ran<Answer>], caller: u32) -> Result<Vec<u64>, OutOfMemory> {
+    let mut told = Vec::new(alloc);
+    for ran in done {
+        if let Answer::Told(total) = ran.answer
+            && ran.caller == caller
+        {
+            told.push(total)?;
+        }
+    }
+    Ok(told)
+}
+
 // With a hundred in each word, and four threads that have no more than one on its way each, all moves are covered. So
 // each list leaves the words as they were, whatever the threads do when.
 #[test]
@@ -40,10 +54,11 @@ fn four_threads_that_move_there_and_back_leave_the_words(rt: HostRuntime) -> Res
         there_and_back(alloc, 2, 0)?,
         there_and_back(alloc, 1, 0)?,
     ]?;
-    let ended = run_transfers(&rt, alloc, accounts, lists)?;
-    assert_eq!(rt; ended.closed.words(), [100, 100, 100].as_slice());
-    for teller in &ended.clients {
-        assert_eq!(rt; teller.told.len(), 100);
+    let ListsEnd { closed, done } = run_transfers(&rt, alloc, accounts, lists)?;
+    assert_eq!(rt; closed.words(), [100, 100, 100].as_slice());
+    for list in 0..4 {
+        let told = told_to(alloc, done.as_slice(), list)?;
+        assert_eq!(rt; told.len(), 100);
     }
     Ok(())
 }
@@ -76,10 +91,11 @@ fn what_is_not_covered_changes_nothing(rt: HostRuntime) -> Result<(), Fail> {
         Vec::from_slice(alloc, &[too_much, no_such_word])?,
         Vec::from_slice(alloc, &[itself, covered])?,
     ]?;
-    let ended = run_transfers(&rt, alloc, accounts, lists)?;
-    assert_eq!(rt; ended.closed.words(), [5, 7, 0].as_slice());
-    for teller in &ended.clients {
-        assert_eq!(rt; teller.told.as_slice(), [12, 12].as_slice());
+    let ListsEnd { closed, done } = run_transfers(&rt, alloc, accounts, lists)?;
+    assert_eq!(rt; closed.words(), [5, 7, 0].as_slice());
+    for list in 0..2 {
+        let told = told_to(alloc, done.as_slice(), list)?;
+        assert_eq!(rt; told.as_slice(), [12, 12].as_slice());
     }
     Ok(())
 }

@@ -8,8 +8,8 @@ use Rattle.script_reader.specs.Number.{IsNumber}
 use Rattle.script_reader.specs.Text.{number}
 use Rattle.script_reader.proofs.Tokens.Numerals.{read_is, greatest_u64}
 use Rattle.txn_cells.specs.declared.limits.TheConstants.{MOST_ROUNDS}
-use Rattle.twoplsf.specs.Command.{IsRunCommand, IsMakeCommand, IsDrillCommand, IsCellsCommand}
-use Rattle.twoplsf.specs.Commands.{ArePlanned}
+use Rattle.twoplsf.specs.Command.{IsMakeCommand, IsDrillCommand, IsCellsCommand}
+use Rattle.twoplsf.specs.Commands.{ArePlanned, HasWorkersBehind}
 
 -- a list of a known length is its elements
 pub one_of : {A : Type 0} (f : A → List ℕ) (xs : List A) (x : A) → length xs ≡ 1 → x ≡ get_or xs 0 x → map f xs ≡ f x ∷ []
@@ -47,13 +47,13 @@ number_of r word w reads is few = by_some (subst (λ o. SomeIff o (IsNumber word
     by_some : IsNumber word × (w ≡ min (digits_value 10 word) greatest_u64) → word ≡ number w
     by_some h = read_is word w (h.0, sym h.1) few
 
--- the words of `run`, and of commands that make their input
-pub run_command : (words : List (List ℕ)) (word : List ℕ) → words ≡ codes "run" ∷ word ∷ [] → (w : ℕ)
-    → (word ≡ number w) × IsWithin 1 MOST_WORKERS w → IsRunCommand words w
-run_command words word are w h = record { words_are = are ∙ (λ i. codes "run" ∷ h.0 i ∷ []); range = h.1 }
+-- words with a number of workers behind the first, and those of commands that make their input
+module _ (words : List (List ℕ)) (command word : List ℕ) (are : words ≡ command ∷ word ∷ []) where
+  pub workers_there : (w : ℕ) → (word ≡ number w) × IsWithin 1 MOST_WORKERS w → HasWorkersBehind words command w
+  workers_there w h = record { words_are = are ∙ (λ i. command ∷ h.0 i ∷ []); range = h.1 }
 
-pub run_word : (words : List (List ℕ)) (word : List ℕ) → words ≡ codes "run" ∷ word ∷ [] → (w : ℕ) → IsRunCommand words w → word ≡ number w
-run_word words word are w is = let same : codes "run" ∷ word ∷ [] ≡ codes "run" ∷ number w ∷ [] = sym are ∙ is.words_are in cc
+  pub workers_word : (w : ℕ) → HasWorkersBehind words command w → word ≡ number w
+  workers_word w is = let same : command ∷ word ∷ [] ≡ command ∷ number w ∷ [] = sym are ∙ is.words_are in cc
 
 module _ (words : List (List ℕ)) (seed callers scripts : List ℕ) where
   pub make_command : words ≡ codes "make" ∷ seed ∷ callers ∷ scripts ∷ [] → (s c n : ℕ) → ArePlanned seed callers scripts s c n → IsMakeCommand words s c n

@@ -13,12 +13,14 @@ use Rattle.books_report.specs.Checking.{IsFirstWrongLine}
 use Rattle.script_reader.specs.declared.limits.TheConstants.{MOST_INPUT_BYTES}
 use Rattle.twoplsf.specs.declared.status.Status.{Status}
 use Rattle.twoplsf.specs.declared.status.Status.TheVariants as status
-use Rattle.twoplsf.specs.Command.{IsAnyRunCommand, IsCheck, IsMaking, IsReading, IsValidCommand}
+use Rattle.twoplsf.specs.Command.{IsAnyRunCommand, IsCheck, IsMaking, IsReading, IsRecords, IsValidCommand}
 use Rattle.twoplsf.specs.Check.{differs_line}
 use Rattle.twoplsf.specs.Made.{IsMadeText, PrintsMade}
 use Rattle.twoplsf.specs.Answer.{IsDoneText, IsDifferenceFor, IsRefusalFor, HaveInputFor, OfBytesRead, PrintsOutput, TookText, refused_line}
 use Rattle.twoplsf.proofs.Served.{of_left, run_not_check, read_not_made, output_of_run, done_input, difference_input, done_is_output, refused_none}
-use Rattle.twoplsf.proofs.Served.{first_refused, front_refused, wrong_is_none, wrong_is_first}
+use Rattle.twoplsf.proofs.Served.{check_not_records, first_refused, front_refused, output_of_records, record_refused, wrong_is_none, wrong_is_first}
+use Rattle.twoplsf.specs.Records.{IsRecordsText, PrintsRecordOutput}
+use Rattle.record_text.specs.Grammar.{IsRecordFault}
 
 -- the status stands for trouble outside
 abbrev pub Failed : Status → Type 0
@@ -89,7 +91,7 @@ module _ (result : Status) (words : List (List ℕ)) (bytes : List ℕ) where
   on_no_output check (IsDone is few text h) within input other two none = absurd (none (done_is_output words bytes text check h input other two))
   on_no_output check (IsOther is few text h) within input other two none = inl is
   on_no_output check (IsRefused is few text h) within input other two none =
-      absurd (refused_none words bytes text h (inr (check, record { input = input; text = other; two = two })))
+      absurd (refused_none words bytes text h (inr (inl (check, record { input = input; text = other; two = two }))))
   on_no_output check (IsTooLarge is above) within input other two none = absurd (omega arith)
   on_no_output check (HasFailed failed) within input other two none = inr failed
 
@@ -111,6 +113,14 @@ module _ (result : Status) (words : List (List ℕ)) (bytes : List ℕ) where
   on_run only run (inl is) = inl is
   on_run only run (inr (inl is)) = absurd (run_not_check words run (only is))
   on_run only run (inr (inr memory)) = inr memory
+
+  -- and for `records W`
+  on_records : (result ≡ status.Differs → IsCheck words) → IsRecords words
+      → (result ≡ status.Done) ⊎ (result ≡ status.Differs) ⊎ (result ≡ status.OutOfMemory)
+      → (result ≡ status.Done) ⊎ (result ≡ status.OutOfMemory)
+  on_records only records (inl is) = inl is
+  on_records only records (inr (inl is)) = absurd (check_not_records words (only is) records)
+  on_records only records (inr (inr memory)) = inr memory
 
 -- a command that reads nothing ends so where no fault came
 makes : (result : Status) (words : List (List ℕ)) (left now before after : Option (List ℕ))
@@ -153,6 +163,21 @@ module _ {result : Status} {words : List (List ℕ)} {left now before after : Op
           }
       by (text, inr made, printed) = absurd (read_not_made words (inl run) (made_text_is words text made))
 
+  -- for `records W`
+  pub headline_records : IsRecords words → result ≡ status.Done → OfBytesRead left (λ bytes. PrintsRecordOutput words bytes before after)
+  headline_records records is = by (text_of status.Done is)
+    where
+      by : TookText status.Done words left now before after → OfBytesRead left (λ bytes. PrintsRecordOutput words bytes before after)
+      by (text, inl t, printed) =
+          let read = t.2 in
+          record {
+            bytes = read.bytes;
+            told = read.told;
+            holds =
+                record { text = text; output = output_of_records words read.bytes text records read.holds.1; printed = printed };
+          }
+      by (text, inr made, printed) = absurd (read_not_made words (inr (inr records)) (made_text_is words text made))
+
   -- and by a command that reads nothing
   pub made : IsMaking words → result ≡ status.Done → PrintsMade words before after
   made making is = by (text_of status.Done is)
@@ -185,6 +210,13 @@ module _ {result : Status} {words : List (List ℕ)} {left now before after : Op
       let t = text_of status.BadInput is in
       of_left left t.1.2 (λ bytes refused number why fault. subst (Appends before after) (front_refused words bytes t.0 check refused.1 number why fault) t.2)
 
+  pub first_record_fault : IsRecords words → result ≡ status.BadInput → IfSome left (λ bytes. (number : ℕ) (why : Fault)
+      → IsRecordFault bytes number why → Appends before after (refused_line number why))
+  first_record_fault records is =
+      let t = text_of status.BadInput is in
+      of_left left t.1.2 (λ bytes refused number why fault.
+      subst (Appends before after) (record_refused words bytes t.0 records refused.1 number why fault) t.2)
+
   pub bad_input : result ≡ status.BadInput → IfSome left (λ bytes. HaveInputFor words bytes → ⊥)
   bad_input is = let t = text_of status.BadInput is in of_left left t.1.2 (λ bytes refused. refused_none words bytes t.0 refused.1)
 
@@ -208,7 +240,7 @@ module _ {result : Status} {words : List (List ℕ)} {left now before after : Op
   pub no_output : IsCheck words
       → IfSome left (λ bytes. length bytes ≤ MOST_INPUT_BYTES → (input : ClearingInput) (other : List ℕ)
       → AreTwoTexts bytes input other → (IsOutput input RESTARTS_BELOW other → ⊥) → (result ≡ status.Differs) ⊎ Failed result)
-  no_output check = IfSome_then left (ends result words left now before after h.text h.taken (inr check)) (λ bytes. on_no_output result words bytes check)
+  no_output check = IfSome_then left (ends result words left now before after h.text h.taken (inr (inl check))) (λ bytes. on_no_output result words bytes check)
 
   -- no command but `check` finds that a text differs
   pub only_check : result ≡ status.Differs → IsCheck words
@@ -226,8 +258,16 @@ module _ {result : Status} {words : List (List ℕ)} {left now before after : Op
       → IfSome left (λ bytes. length bytes ≤ MOST_INPUT_BYTES → BeginWithInput bytes → (Read → ⊥) → (Write → ⊥)
       → (result ≡ status.Done) ⊎ (result ≡ status.Differs) ⊎ (result ≡ status.OutOfMemory))
   complete_check check =
-      IfSome_then left (ends result words left now before after h.text h.taken (inr check))
-      (λ bytes end within begins read write. on_input result words bytes end within (inr (check, begins)) (λ is. read (h.read is).1) (λ is. write (h.write is)))
+      IfSome_then left (ends result words left now before after h.text h.taken (inr (inl check)))
+      (λ bytes end within begins read write. on_input result words bytes end within (inr (inl (check, begins)))
+      (λ is. read (h.read is).1) (λ is. write (h.write is)))
+
+  pub complete_records : IsRecords words → IfSome left (λ bytes. length bytes ≤ MOST_INPUT_BYTES → IsRecordsText bytes → (Read → ⊥)
+      → (Write → ⊥) → (result ≡ status.Done) ⊎ (result ≡ status.OutOfMemory))
+  complete_records records =
+      IfSome_then left (ends result words left now before after h.text h.taken (inr (inr records)))
+      (λ bytes end within spelled read write. on_records result words bytes only_check records
+      (on_input result words bytes end within (inr (inr (records, spelled))) (λ is. read (h.read is).1) (λ is. write (h.write is))))
 
   pub complete_making : IsMaking words → (Write → ⊥) → (result ≡ status.Done) ⊎ (result ≡ status.OutOfMemory)
   complete_making making write = makes result words left now before after h.text (λ is. (h.read is).0) (λ is. write (h.write is)) making

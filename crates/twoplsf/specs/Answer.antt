@@ -8,7 +8,7 @@ use Rattle.script_reader.specs.FaultWords.{fault_word}
 use Rattle.script_reader.specs.Input.{ClearingInput}
 use Rattle.script_reader.specs.Grammar.{Spells, IsValidInput, BeginWithInput}
 use Rattle.script_reader.specs.Faults.{IsFirstFault, IsFrontFault}
-use Rattle.twoplsf.specs.Command.{IsAnyRunCommand, IsRunCommand, IsCheck, IsReading, IsValidCommand}
+use Rattle.twoplsf.specs.Command.{IsAnyRunCommand, IsRunCommand, IsCheck, IsReading, IsRecords, IsValidCommand}
 use Rattle.books_report.specs.declared.limits.TheConstants.{RESTARTS_BELOW}
 use Rattle.books_report.specs.Output.{IsOutput, output_of}
 use Rattle.books_report.specs.Checking.{IsFirstWrongLine}
@@ -20,9 +20,13 @@ use Rattle.twoplsf.specs.declared.command.Reading.TheVariants as reading
 use Rattle.twoplsf.specs.declared.status.Status.{Status}
 use Rattle.twoplsf.specs.declared.status.Status.TheVariants as status
 use Rattle.twoplsf.specs.declared.answer.Answer.{Answer}
-use Rattle.twoplsf.specs.declared.answer.Answer.TheVariants.{Output, Agrees, Difference, Refusal}
+use Rattle.twoplsf.specs.declared.answer.Answer.TheVariants.{Output, Agrees, Difference, Refusal, Records}
 use Rattle.twoplsf.specs.Check.{HoldOutput, HoldWrongLine, agrees_line, differs_line}
 use Rattle.twoplsf.specs.Made.{IsMadeText}
+use Rattle.record_text.specs.Grammar.{SpellsRecords, IsRecordFault}
+use Rattle.record_text.specs.Input.{StoreInput}
+use Rattle.txn_records.specs.declared.done.RecordDay.{RecordDay}
+use Rattle.twoplsf.specs.Records.{IsRecordOutputFor, IsRecordsDayOf, IsRecordsText}
 
 -- this holds of the bytes that were read, which are those that were left, where the source tells them
 pub record OfBytesRead (left : Option (List ℕ)) (P : List ℕ → Type 0) : Type 0 where
@@ -70,6 +74,7 @@ status_of (Output text day) = status.Done
 status_of (Agrees text) = status.Done
 status_of (Difference text) = status.Differs
 status_of (Refusal text) = status.BadInput
+status_of (Records day) = status.Done
 
 -- its text
 abbrev pub text_of_answer : Answer → List ℕ
@@ -77,6 +82,7 @@ text_of_answer (Output text day) = text.items
 text_of_answer (Agrees text) = text.items
 text_of_answer (Difference text) = text.items
 text_of_answer (Refusal text) = text.items
+text_of_answer (Records day) = day.text.items
 
 -- its day, which an output alone has
 abbrev pub day_of : Answer → Option DayEnd
@@ -84,6 +90,15 @@ day_of (Output text day) = Some day
 day_of (Agrees text) = None
 day_of (Difference text) = None
 day_of (Refusal text) = None
+day_of (Records day) = None
+
+-- its day of a record store, which an output of one alone has
+abbrev pub records_of : Answer → Option RecordDay
+records_of (Output text day) = None
+records_of (Agrees text) = None
+records_of (Difference text) = None
+records_of (Refusal text) = None
+records_of (Records day) = Some day
 
 -- a day of the input by so many workers, and the output for its items
 pub record TellsOfDay (input : ClearingInput) (workers : ℕ) (text : List ℕ) (day : DayEnd) : Type 0 where
@@ -97,6 +112,7 @@ IsAnswerTo workers bytes (Output text day) =
 IsAnswerTo workers bytes (Agrees text) = ⊥
 IsAnswerTo workers bytes (Difference text) = ⊥
 IsAnswerTo workers bytes (Refusal text) = IsRefusalOf bytes text.items
+IsAnswerTo workers bytes (Records day) = ⊥
 
 -- the day of a run: that of the input that the bytes spell, by as many workers as the words say; and what was printed
 -- is the output for its items, in their order and with their restarts
@@ -123,6 +139,7 @@ IsComparison input read (Agrees text) = IsOutput input RESTARTS_BELOW read × (t
 IsComparison input read (Difference text) =
     (n : ℕ) × IsFirstWrongLine input RESTARTS_BELOW read n × (text.items ≡ differs_line n)
 IsComparison input read (Refusal text) = ⊥
+IsComparison input read (Records day) = ⊥
 
 -- the answer to bytes that are to be an input and an output of it
 abbrev pub IsCheckOf : List ℕ → Answer → Type 0
@@ -130,15 +147,36 @@ IsCheckOf bytes (Output text day) = ⊥
 IsCheckOf bytes (Agrees text) = HoldOutput bytes × (text.items ≡ agrees_line)
 IsCheckOf bytes (Difference text) = (n : ℕ) × HoldWrongLine bytes n × (text.items ≡ differs_line n)
 IsCheckOf bytes (Refusal text) = IsRefusalOfFront bytes text.items
+IsCheckOf bytes (Records day) = ⊥
+
+-- the text refuses the first faulty line of a text of a record store
+pub record IsRefusalOfRecords (bytes text : List ℕ) : Type 0 where
+  pub number : ℕ
+  pub why : Fault
+  pub first : IsRecordFault bytes number why
+  pub text_is : text ≡ refused_line number why
+
+-- the answer to the bytes of a record store: a day of the input that they spell, or the refusal of their first fault
+abbrev pub IsRecordsAnswer : ℕ → List ℕ → Answer → Type 0
+IsRecordsAnswer workers bytes (Output text day) = ⊥
+IsRecordsAnswer workers bytes (Agrees text) = ⊥
+IsRecordsAnswer workers bytes (Difference text) = ⊥
+IsRecordsAnswer workers bytes (Refusal text) = IsRefusalOfRecords bytes text.items
+IsRecordsAnswer workers bytes (Records day) =
+    (input : StoreInput) × SpellsRecords bytes input × IsRecordsDayOf input workers day
 
 -- the answer of a command to bytes
 abbrev pub IsAnswerBy : Reading → List ℕ → Answer → Type 0
 IsAnswerBy (reading.Run workers) bytes answer = IsAnswerTo workers bytes answer
 IsAnswerBy reading.Check bytes answer = IsCheckOf bytes answer
+IsAnswerBy (reading.Records workers) bytes answer = IsRecordsAnswer workers bytes answer
 
--- what a command that did its work prints: an output, or that the text behind the input is one
+-- what a command that did its work prints: an output, or that the text behind the input is one, or an output of a record
+-- store
 abbrev pub IsDoneText : List (List ℕ) → List ℕ → List ℕ → Type 0
-IsDoneText words bytes text = IsOutputFor words bytes text ⊎ (IsCheck words × HoldOutput bytes × (text ≡ agrees_line))
+IsDoneText words bytes text =
+    IsOutputFor words bytes text ⊎ (IsCheck words × HoldOutput bytes × (text ≡ agrees_line))
+    ⊎ IsRecordOutputFor words bytes text
 
 -- what is printed for a text behind an input that is no output of it
 abbrev pub IsDifferenceFor : List (List ℕ) → List ℕ → List ℕ → Type 0
@@ -148,10 +186,13 @@ IsDifferenceFor words bytes text = IsCheck words × ((n : ℕ) × HoldWrongLine 
 abbrev pub IsRefusalFor : List (List ℕ) → List ℕ → List ℕ → Type 0
 IsRefusalFor words bytes text =
     (IsAnyRunCommand words × IsRefusalOf bytes text) ⊎ (IsCheck words × IsRefusalOfFront bytes text)
+    ⊎ (IsRecords words × IsRefusalOfRecords bytes text)
 
 -- the bytes have the input that the command reads: all of them are one, or they begin with one
 abbrev pub HaveInputFor : List (List ℕ) → List ℕ → Type 0
-HaveInputFor words bytes = (IsAnyRunCommand words × IsValidInput bytes) ⊎ (IsCheck words × BeginWithInput bytes)
+HaveInputFor words bytes =
+    (IsAnyRunCommand words × IsValidInput bytes) ⊎ (IsCheck words × BeginWithInput bytes)
+    ⊎ (IsRecords words × IsRecordsText bytes)
 
 -- a text goes with a status, by the words and by what the source had left and has left now
 abbrev pub IsTextFor : Status → List (List ℕ) → Option (List ℕ) → Option (List ℕ) → List ℕ → Type 0

@@ -28,9 +28,18 @@ pub record IsCellsCommand (words : List (List ℕ)) (workers rounds : ℕ) : Typ
   pub workers_range : IsWithin 1 MOST_WORKERS workers
   pub rounds_range : IsWithin 1 MOST_ROUNDS rounds
 
+-- `records W`
+pub record IsRecordsCommand (words : List (List ℕ)) (workers : ℕ) : Type 0 where
+  pub words_are : words ≡ codes "records" ∷ number workers ∷ []
+  pub range : IsWithin 1 MOST_WORKERS workers
+
 -- `run W`, for some number of workers
 abbrev pub IsAnyRunCommand : List (List ℕ) → Type 0
 IsAnyRunCommand words = (workers : ℕ) × IsRunCommand words workers
+
+-- `records W`, for some number of workers
+abbrev pub IsRecords : List (List ℕ) → Type 0
+IsRecords words = (workers : ℕ) × IsRecordsCommand words workers
 
 -- `check`
 abbrev pub IsCheck : List (List ℕ) → Type 0
@@ -50,7 +59,7 @@ IsCells words = (workers rounds : ℕ) × IsCellsCommand words workers rounds
 
 -- a command that reads a text
 abbrev pub IsReading : List (List ℕ) → Type 0
-IsReading words = IsAnyRunCommand words ⊎ IsCheck words
+IsReading words = IsAnyRunCommand words ⊎ IsCheck words ⊎ IsRecords words
 
 -- a command that reads nothing
 abbrev pub IsMaking : List (List ℕ) → Type 0

@@ -3,6 +3,7 @@ pub mod Commands
 pub mod Day
 pub mod Check
 pub mod Cells
+pub mod Records
 pub mod Made
 pub mod Making
 pub mod Answer

@@ -5,7 +5,7 @@ ghost use Rattle.books_model.specs.Ranges.{IsWithin};
 ghost use Rattle.books_report.specs.Lines.{lent};
 ghost use Rattle.books_report.specs.Output.{output_of};
 ghost use Rattle.script_reader.specs.declared.limits.TheConstants.{MOST_WORKERS};
-ghost use Rattle.twoplsf.specs.Answer.{IsAnswerTo, day_of, refused_line, status_of, text_of_answer};
+ghost use Rattle.twoplsf.specs.Answer.{IsAnswerTo, day_of, records_of, refused_line, status_of, text_of_answer};
 ghost use Rattle.twoplsf.specs.Day.{IsDayOf, closing_books, journal_of, line_of};
 
 use crate::day::run_day;
@@ -19,6 +19,7 @@ use std::sync::Wait;
 use std::thread::Threads;
 use txn_books::laws::one_books;
 use txn_books::{BooksShape, read_books};
+use txn_records::RecordDay;
 use worker_gate::Gate;
 use worker_pool::{DayEnd, Done};
 
@@ -33,20 +34,44 @@ pub enum Answer {
     Difference(Vec<u8>),
     /// A faulty line and its fault.
     Refusal(Vec<u8>),
+    /// A day of a record store, with the text that tells of it.
+    Records(RecordDay),
 }
 
 impl Answer {
-    // The status that it is printed with, its text, and its day, which an output alone has.
-    pub(crate) fn into_parts(self) -> (Status, Vec<u8>, Option<DayEnd>)
-        ensures status { result.0 ≡ status_of self }
-        ensures text { result.1.items ≡ text_of_answer self }
-        ensures day { result.2 ≡ day_of self }
+    // The status that it is printed with.
+    pub(crate) fn status(&self) -> Status
+        ensures { result ≡ status_of self.now }
     {
         match self {
-            Answer::Output { text, day } => (Status::Done, text, Some(day)),
-            Answer::Agrees(text) => (Status::Done, text, None),
-            Answer::Difference(text) => (Status::Differs, text, None),
-            Answer::Refusal(text) => (Status::BadInput, text, None),
+            Answer::Output { .. } | Answer::Agrees(_) | Answer::Records(_) => Status::Done,
+            Answer::Difference(_) => Status::Differs,
+            Answer::Refusal(_) => Status::BadInput,
+        }
+    }
+
+    // Its text.
+    pub(crate) fn text(&self) -> &[u8]
+        ensures { result.now ≡ text_of_answer self.now }
+    {
+        match self {
+            Answer::Output { text, .. }
+            | Answer::Agrees(text)
+            | Answer::Difference(text)
+            | Answer::Refusal(text) => text,
+            Answer::Records(day) => &day.text,
+        }
+    }
+
+    // Its day, which an output alone has, and its day of a record store.
+    pub(crate) fn into_days(self) -> (Option<DayEnd>, Option<RecordDay>)
+        ensures day { result.0 ≡ day_of self }
+        ensures records { result.1 ≡ records_of self }
+    {
+        match self {
+            Answer::Output { day, .. } => (Some(day), None),
+            Answer::Records(day) => (None, Some(day)),
+            Answer::Agrees(_) | Answer::Difference(_) | Answer::Refusal(_) => (None, None),
         }
     }
 }
@@ -120,7 +145,7 @@ pub(crate) fn output_of(
 }
 
 // Runs the scripts of an input by so many workers, and makes the text of the journal.
-fn day_and_text<R: Threads + Wait + Sync, G: Gate>(
+fn day_and_text<R: Threads + Wait + Sync, G: Gate + Sync>(
     rt: &R,
     alloc: Global,
     input: &Input,
@@ -139,7 +164,7 @@ fn day_and_text<R: Threads + Wait + Sync, G: Gate>(
 
 /// Reads an input, runs its scripts by so many workers and makes the text of the journal; or makes the text of a
 /// refusal.
-pub fn answer_to<R: Threads + Wait + Sync, G: Gate>(
+pub fn answer_to<R: Threads + Wait + Sync, G: Gate + Sync>(
     rt: &R,
     alloc: Global,
     bytes: &[u8],

@@ -41,7 +41,7 @@ fn text_of_cells(alloc: Global, words: &[u64]) -> Result<Vec<u8>, OutOfMemory>
 }
 
 /// Has so many workers add to cells, in so many rounds each: the lines of the cells, and the closed table.
-pub fn add_to_cells<R: Threads + Wait + Sync, G: Gate>(
+pub fn add_to_cells<R: Threads + Wait + Sync, G: Gate + Sync>(
     rt: &R,
     alloc: Global,
     workers: u32,

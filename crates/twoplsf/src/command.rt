@@ -4,8 +4,8 @@ ghost use Rattle.std.specs.Prelude.{◌≡◌, ℕ, map, IfSome, IfNone};
 ghost use Rattle.std.specs.String.{string_bytes};
 ghost use Rattle.books_model.specs.Ranges.{IsWithin};
 ghost use Rattle.script_reader.specs.Text.{number};
-ghost use Rattle.twoplsf.specs.Command.{IsCells, IsCellsCommand, IsDrill, IsDrillCommand, IsMake, IsMakeCommand, IsMaking, IsReading, IsAnyRunCommand, IsRunCommand, IsValidCommand};
-ghost use Rattle.twoplsf.specs.Commands.{ArePlanned, IsCommand, IsMakingBy, IsReadingBy};
+ghost use Rattle.twoplsf.specs.Command.{IsCells, IsCellsCommand, IsDrill, IsDrillCommand, IsMake, IsMakeCommand, IsMaking, IsReading, IsRecords, IsRecordsCommand, IsAnyRunCommand, IsRunCommand, IsValidCommand};
+ghost use Rattle.twoplsf.specs.Commands.{ArePlanned, HasWorkersBehind, IsCommand, IsMakingBy, IsReadingBy};
 
 use input_maker::limits::GREATEST_SEED;
 use script_reader::limits::{MOST_CALLERS, MOST_SCRIPTS, MOST_WORKERS};
@@ -30,6 +30,8 @@ pub enum Reading {
     Run(u32),
     /// A text behind an input is compared with it.
     Check,
+    /// The input of a record store is run by so many workers.
+    Records(u32),
 }
 
 /// What is to be done where nothing is read.
@@ -72,6 +74,9 @@ pub fn reading_of(words: &[String]) -> Option<Reading>
     if let Some(workers) = workers_of(words) {
         return Some(Reading::Run(workers));
     }
+    if let Some(workers) = record_workers_of(words) {
+        return Some(Reading::Records(workers));
+    }
     match words {
         [check] if check.as_str() == "check" => Some(Reading::Check),
         _ => None,
@@ -98,10 +103,27 @@ pub fn workers_of(words: &[String]) -> Option<u32>
     ensures some { IfSome result (IsRunCommand (map string_bytes words.now)) }
     ensures none { IfNone result (¬ IsAnyRunCommand (map string_bytes words.now)) }
 {
-    let [run, workers] = words else {
+    workers_behind(words, "run")
+}
+
+/// The number of workers of a `records` command. It takes no memory.
+pub fn record_workers_of(words: &[String]) -> Option<u32>
+    ensures some { IfSome result (IsRecordsCommand (map string_bytes words.now)) }
+    ensures none { IfNone result (¬ IsRecords (map string_bytes words.now)) }
+{
+    workers_behind(words, "records")
+}
+
+// The number of workers that stands behind this word, where there are no other words. It takes no memory.
+fn workers_behind(words: &[String], command: &str) -> Option<u32>
+    ensures some { IfSome result (HasWorkersBehind (map string_bytes words.now) command.now) }
+    ensures none { IfNone result ((w : ℕ)
+        → ¬ HasWorkersBehind (map string_bytes words.now) command.now w) }
+{
+    let [first, workers] = words else {
         return None;
     };
-    if run.as_str() != "run" {
+    if first.as_str() != command {
         return None;
     }
     number_within(workers.as_bytes(), 1, MOST_WORKERS)

@@ -16,7 +16,7 @@ use worker_gate::Gate;
 use worker_pool::{DayEnd, run_callers};
 
 /// Runs each script once, as one transaction, by so many workers.
-pub fn run_day<R: Threads + Wait + Sync, G: Gate>(
+pub fn run_day<R: Threads + Wait + Sync, G: Gate + Sync>(
     rt: &R,
     alloc: Global,
     input: &Input,

@@ -9,6 +9,7 @@ pub mod command;
 pub mod day;
 pub mod making;
 pub mod program;
+pub mod records;
 pub mod serve;
 pub mod status;
 pub mod sums;
@@ -52,6 +53,8 @@ mod cells_tests;
 mod faults_tests;
 #[cfg(test)]
 mod hostile_tests;
+#[cfg(test)]
+mod records_tests;
 #[cfg(test)]
 mod refused_tests;
 #[cfg(test)]

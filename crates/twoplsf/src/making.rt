@@ -106,7 +106,7 @@ fn summary_of_day(
 }
 
 /// Runs the input of a plan by so many workers, makes its output and checks that, and sums up the closing books.
-pub fn drill<R: Threads + Wait + Sync, G: Gate>(
+pub fn drill<R: Threads + Wait + Sync, G: Gate + Sync>(
     rt: &R,
     alloc: Global,
     workers: u32,
@@ -127,7 +127,7 @@ pub fn drill<R: Threads + Wait + Sync, G: Gate>(
 }
 
 /// The text of a command that reads nothing, with the day of a drill, or the closed table of a run over cells.
-pub fn made_answer<R: Threads + Wait + Sync, G: Gate>(
+pub fn made_answer<R: Threads + Wait + Sync, G: Gate + Sync>(
     rt: &R,
     alloc: Global,
     making: Making,

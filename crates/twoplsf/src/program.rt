@@ -6,7 +6,8 @@ ghost use Rattle.io_ends.specs.Counts.{Rose};
 ghost use Rattle.io_ends.specs.Taken.{TakesAtMost};
 ghost use Rattle.script_reader.specs.Grammar.{BeginWithInput, IsValidInput};
 ghost use Rattle.twoplsf.specs.Answer.{OfBytesRead, PrintsOutput};
-ghost use Rattle.twoplsf.specs.Command.{IsCheck, IsMaking, IsAnyRunCommand, IsValidCommand};
+ghost use Rattle.twoplsf.specs.Command.{IsCheck, IsMaking, IsAnyRunCommand, IsRecords, IsValidCommand};
+ghost use Rattle.twoplsf.specs.Records.{IsRecordsText, PrintsRecordOutput};
 ghost use Rattle.twoplsf.specs.Ending.{EndsWith, exit_status};
 ghost use Rattle.twoplsf.specs.declared.status.Status.{Status};
 
@@ -21,7 +22,7 @@ use worker_gate::Gate;
 
 /// Serves the words, and gives the number of the status that this came to, from 0 to 7. Where there was no memory for the
 /// words, it is that of out of memory.
-pub fn run_program<R: Threads + Wait + Sync, S: Source, K: Sink, G: Gate>(
+pub fn run_program<R: Threads + Wait + Sync, S: Source, K: Sink, G: Gate + Sync>(
     rt: &R,
     alloc: Global,
     words: Result<Vec<String>, OutOfMemory>,
@@ -33,6 +34,12 @@ pub fn run_program<R: Threads + Wait + Sync, S: Source, K: Sink, G: Gate>(
     ensures headline { IfOk words (λ list. IsAnyRunCommand (map string_bytes list.items)
         → result ≡ exit_status Status.Done → OfBytesRead (S.left source.old)
         (λ bytes. PrintsOutput (map string_bytes list.items) bytes
+        (K.taken sink.old) (K.taken sink.new))) }
+
+    // The same of a record store.
+    ensures headline_records { IfOk words (λ list. IsRecords (map string_bytes list.items)
+        → result ≡ exit_status Status.Done → OfBytesRead (S.left source.old)
+        (λ bytes. PrintsRecordOutput (map string_bytes list.items) bytes
         (K.taken sink.old) (K.taken sink.new))) }
 
     // The number is that of a status, which goes with what was printed, and comes where it may.
@@ -54,6 +61,12 @@ pub fn run_program<R: Threads + Wait + Sync, S: Source, K: Sink, G: Gate>(
     ensures complete { IfOk words (λ list. IsAnyRunCommand (map string_bytes list.items)
         → IfSome (S.left source.old) (λ bytes. length bytes ≤ MOST_INPUT_BYTES
         → IsValidInput bytes
+        → (¬ Rose (S.faults source.old) (S.faults source.new))
+        → (¬ Rose (K.faults sink.old) (K.faults sink.new))
+        → (result ≡ exit_status Status.Done) ⊎ (result ≡ exit_status Status.OutOfMemory))) }
+    ensures complete_records { IfOk words (λ list. IsRecords (map string_bytes list.items)
+        → IfSome (S.left source.old) (λ bytes. length bytes ≤ MOST_INPUT_BYTES
+        → IsRecordsText bytes
         → (¬ Rose (S.faults source.old) (S.faults source.new))
         → (¬ Rose (K.faults sink.old) (K.faults sink.new))
         → (result ≡ exit_status Status.Done) ⊎ (result ≡ exit_status Status.OutOfMemory))) }

@@ -9,20 +9,23 @@ ghost use Rattle.script_reader.specs.Grammar.{AreTwoTexts, BeginWithInput, IsVal
 ghost use Rattle.script_reader.specs.declared.fault.Fault.{Fault};
 ghost use Rattle.script_reader.specs.Faults.{IsFirstFault, IsFrontFault};
 ghost use Rattle.script_reader.specs.Input.{ClearingInput};
-ghost use Rattle.twoplsf.specs.Command.{IsAnyRunCommand, IsCells, IsCheck, IsDrill, IsMaking, IsReading, IsValidCommand};
+ghost use Rattle.twoplsf.specs.Command.{IsAnyRunCommand, IsCells, IsCheck, IsDrill, IsMaking, IsReading, IsRecords, IsValidCommand};
 ghost use Rattle.books_report.specs.Output.{IsOutput};
 ghost use Rattle.books_report.specs.Checking.{IsFirstWrongLine};
 ghost use Rattle.twoplsf.specs.Commands.{IsMakingBy, IsReadingBy};
 ghost use Rattle.twoplsf.specs.Cells.{IsCellsRunFor};
+ghost use Rattle.record_text.specs.Grammar.{IsRecordFault};
 ghost use Rattle.twoplsf.specs.Check.{differs_line};
 ghost use Rattle.twoplsf.specs.Made.{IsDrillDay, PrintsMade};
 ghost use Rattle.twoplsf.specs.Making.{AddsToCells, IsMakingDay, IsMakingRun, RunsScripts, making_text};
-ghost use Rattle.twoplsf.specs.Answer.{HaveInputFor, OfBytesRead, IsAnswerBy, IsDayFor, PrintsOutput, TookText, day_of, refused_line, status_of, text_of_answer};
+ghost use Rattle.twoplsf.specs.Answer.{HaveInputFor, OfBytesRead, IsAnswerBy, IsDayFor, PrintsOutput, TookText, day_of, records_of, refused_line, status_of, text_of_answer};
+ghost use Rattle.twoplsf.specs.Records.{IsRecordsDayFor, IsRecordsText, PrintsRecordOutput};
 
 use crate::answer::{Answer, answer_to};
 use crate::check::check_answer;
 use crate::command::{Command, Making, Reading, command_of};
 use crate::making::made_answer;
+use crate::records::records_answer;
 use crate::status::Status;
 use books_report::limits::RESTARTS_BELOW;
 use io_ends::{OutOfMemory, ReadStop, Sink, Source, read_all, write_all_of};
@@ -31,6 +34,7 @@ use std::alloc::Global;
 use std::sync::Wait;
 use std::thread::Threads;
 use txn_cells::{CellsShape, Coded};
+use txn_records::RecordDay;
 use word_table::Closed;
 use worker_gate::Gate;
 use worker_pool::DayEnd;
@@ -43,19 +47,23 @@ pub struct Served {
     pub day: Option<DayEnd>,
     /// The closed table of a run over cells, where their values were written whole.
     pub cells: Option<Closed<CellsShape<u128>>>,
+    /// What the workers did on a record store, where their output was written whole.
+    pub records: Option<RecordDay>,
 }
 
 impl Served {
-    // What serving came to where neither a day nor a run over cells is told.
+    // What serving came to where nothing is told of what was done.
     fn without_day(status: Status) -> Served
         ensures status { result.status ≡ status }
         ensures day { result.day ≡ None }
         ensures cells { result.cells ≡ None }
+        ensures records { result.records ≡ None }
     {
         Served {
             status,
             day: None,
             cells: None,
+            records: None,
         }
     }
 }
@@ -89,19 +97,23 @@ fn print_answer<K: Sink>(sink: &mut K, answer: Answer) -> Served
     ensures done { result.status ≡ Status.Done → result.day ≡ day_of answer }
     ensures other { result.status ≢ Status.Done → result.day ≡ None }
     ensures cells { result.cells ≡ None }
+    ensures done_records { result.status ≡ Status.Done → result.records ≡ records_of answer }
+    ensures other_records { result.status ≢ Status.Done → result.records ≡ None }
 {
-    let (status, text, day) = answer.into_parts();
-    let status = finish(sink, &text, status);
+    let status = finish(sink, answer.text(), answer.status());
+    let (day, records) = answer.into_days();
     let day = told_after(status, day);
+    let records = told_after(status, records);
     Served {
         status,
         day,
         cells: None,
+        records,
     }
 }
 
 // What a command has to say of the bytes that were read.
-fn answer_by<R: Threads + Wait + Sync, G: Gate>(
+fn answer_by<R: Threads + Wait + Sync, G: Gate + Sync>(
     rt: &R,
     alloc: Global,
     reading: Reading,
@@ -114,11 +126,12 @@ fn answer_by<R: Threads + Wait + Sync, G: Gate>(
     match reading {
         Reading::Run(workers) => answer_to(rt, alloc, bytes, workers, gate),
         Reading::Check => check_answer(alloc, bytes),
+        Reading::Records(workers) => records_answer(rt, alloc, bytes, workers, gate),
     }
 }
 
 // Does what a command that reads nothing asks for: prints the text, which is all made before the first write.
-fn serve_making<R: Threads + Wait + Sync, K: Sink, G: Gate>(
+fn serve_making<R: Threads + Wait + Sync, K: Sink, G: Gate + Sync>(
     rt: &R,
     alloc: Global,
     making: Making,
@@ -136,20 +149,26 @@ fn serve_making<R: Threads + Wait + Sync, K: Sink, G: Gate>(
     ensures cells { IfSome result.cells (IsMakingRun ⟦<u128 as Coded>⟧ making) }
     ensures has_cells { IsSome result.cells
         ↔ (AddsToCells making × (result.status ≡ Status.Done)) }
+    ensures records { result.records ≡ None }
 {
     match made_answer(rt, alloc, making, gate) {
         Ok(made) => {
             let status = finish(sink, &made.text, Status::Done);
             let day = told_after(status, made.day);
             let cells = told_after(status, made.cells);
-            Served { status, day, cells }
+            Served {
+                status,
+                day,
+                cells,
+                records: None,
+            }
         }
         Err(_) => Served::without_day(Status::OutOfMemory),
     }
 }
 
 // Does the whole work of `serve`. Its clauses are those from which the contract of `serve` follows.
-fn serve_words<R: Threads + Wait + Sync, S: Source, K: Sink, G: Gate>(
+fn serve_words<R: Threads + Wait + Sync, S: Source, K: Sink, G: Gate + Sync>(
     rt: &R,
     alloc: Global,
     words: &[String],
@@ -175,6 +194,12 @@ fn serve_words<R: Threads + Wait + Sync, S: Source, K: Sink, G: Gate>(
         (map string_bytes words.now) (K.taken sink.old) (K.taken sink.new)) }
     ensures has_cells { IsSome result.cells
         ↔ (IsCells (map string_bytes words.now) × (result.status ≡ Status.Done)) }
+    ensures records { IfSome result.records
+        (λ day. OfBytesRead (S.left source.old)
+        (λ bytes. IsRecordsDayFor (map string_bytes words.now) bytes
+        (K.taken sink.old) (K.taken sink.new) day)) }
+    ensures has_records { IsSome result.records
+        ↔ (IsRecords (map string_bytes words.now) × (result.status ≡ Status.Done)) }
 
     // What is read, and when nothing is.
     ensures unread { (¬ IsReading (map string_bytes words.now)) → source.new ≡ source.old }
@@ -218,13 +243,14 @@ fn serve_words<R: Threads + Wait + Sync, S: Source, K: Sink, G: Gate>(
 }
 
 /// Does what the words say: `run W` reads an input from the source, runs each of its scripts as one transaction on one
-/// of W threads, and writes the journal and the closing books to the sink; `check` reads an input and a text behind it,
-/// and writes whether that is an output of the input, or its first wrong line. `make`, `drill` and `cells` read
-/// nothing: the first writes the input that a seed gives, the second runs it, checks the output, and writes what the
-/// closing books come to, and the third has threads add to cells of 128 bits, and writes what these come to. `run`,
-/// `drill` and `cells` may wait: that a wait ends, no clause says. Every text is made before the first write. Faults
-/// are looked for in the order words, read, size, input; out of memory may come before any of them but words.
-pub fn serve<R: Threads + Wait + Sync, S: Source, K: Sink, G: Gate>(
+/// of W threads, and writes the journal and the closing books to the sink; `records W` does the same for the input of a
+/// record store, with the closing records; `check` reads an input and a text behind it, and writes whether that is an
+/// output of the input, or its first wrong line. `make`, `drill` and `cells` read nothing: the first writes the input
+/// that a seed gives, the second runs it, checks the output, and writes what the closing books come to, and the third
+/// has threads add to cells of 128 bits, and writes what these come to. `run`, `records`, `drill` and `cells` may wait:
+/// that a wait ends, no clause says. Every text is made before the first write. Faults are looked for in the order
+/// words, read, size, input; out of memory may come before any of them but words.
+pub fn serve<R: Threads + Wait + Sync, S: Source, K: Sink, G: Gate + Sync>(
     rt: &R,
     alloc: Global,
     words: &[String],
@@ -258,6 +284,19 @@ pub fn serve<R: Threads + Wait + Sync, S: Source, K: Sink, G: Gate>(
         (map string_bytes words.now) (K.taken sink.old) (K.taken sink.new)) }
     ensures has_cells { IsSome result.cells
         ↔ (IsCells (map string_bytes words.now) × (result.status ≡ Status.Done)) }
+
+    // The same of a record store: its scripts from a store with no record, and the records at the end.
+    // (`headline_records` follows from `text`.)
+    ensures headline_records { IsRecords (map string_bytes words.now)
+        → result.status ≡ Status.Done → OfBytesRead (S.left source.old)
+        (λ bytes. PrintsRecordOutput (map string_bytes words.now) bytes
+        (K.taken sink.old) (K.taken sink.new)) }
+    ensures records { IfSome result.records
+        (λ day. OfBytesRead (S.left source.old)
+        (λ bytes. IsRecordsDayFor (map string_bytes words.now) bytes
+        (K.taken sink.old) (K.taken sink.new) day)) }
+    ensures has_records { IsSome result.records
+        ↔ (IsRecords (map string_bytes words.now) × (result.status ≡ Status.Done)) }
 
     // These commands read nothing, and print their one text: the input that is made, what became of it in a drill, or
     // what the cells come to. (`made` follows from `text`.)
@@ -307,6 +346,10 @@ pub fn serve<R: Threads + Wait + Sync, S: Source, K: Sink, G: Gate>(
         → result.status ≡ Status.BadInput → IfSome (S.left source.old)
         (λ bytes. (number : ℕ) (why : Fault) → IsFrontFault bytes number why
         → Appends (K.taken sink.old) (K.taken sink.new) (refused_line number why)) }
+    ensures first_record_fault { IsRecords (map string_bytes words.now)
+        → result.status ≡ Status.BadInput → IfSome (S.left source.old)
+        (λ bytes. (number : ℕ) (why : Fault) → IsRecordFault bytes number why
+        → Appends (K.taken sink.old) (K.taken sink.new) (refused_line number why)) }
     ensures bad_input { result.status ≡ Status.BadInput → IfSome (S.left source.old)
         (λ bytes. ¬ HaveInputFor (map string_bytes words.now) bytes) }
     ensures no_input { IsReading (map string_bytes words.now) → IfSome (S.left source.old)
@@ -344,6 +387,12 @@ pub fn serve<R: Threads + Wait + Sync, S: Source, K: Sink, G: Gate>(
         → (¬ Rose (K.faults sink.old) (K.faults sink.new))
         → (result.status ≡ Status.Done) ⊎ (result.status ≡ Status.Differs)
         ⊎ (result.status ≡ Status.OutOfMemory)) }
+
+    ensures complete_records { IsRecords (map string_bytes words.now) → IfSome (S.left source.old)
+        (λ bytes. length bytes ≤ MOST_INPUT_BYTES → IsRecordsText bytes
+        → (¬ Rose (S.faults source.old) (S.faults source.new))
+        → (¬ Rose (K.faults sink.old) (K.faults sink.new))
+        → (result.status ≡ Status.Done) ⊎ (result.status ≡ Status.OutOfMemory)) }
 
     ensures complete_making { IsMaking (map string_bytes words.now)
         → (¬ Rose (K.faults sink.old) (K.faults sink.new))

@@ -6,10 +6,11 @@ ghost use Rattle.std.specs.String.{string_bytes};
 ghost use Rattle.script_reader.specs.Grammar.{AreTwoTexts, BeginWithInput, IsValidInput};
 ghost use Rattle.script_reader.specs.Input.{ClearingInput};
 ghost use Rattle.books_report.specs.Output.{IsOutput};
-ghost use Rattle.twoplsf.specs.Command.{IsAnyRunCommand, IsCells, IsCheck, IsDrill, IsMaking, IsReading, IsValidCommand};
+ghost use Rattle.twoplsf.specs.Command.{IsAnyRunCommand, IsCells, IsCheck, IsDrill, IsMaking, IsReading, IsRecords, IsValidCommand};
 ghost use Rattle.twoplsf.specs.Cells.{IsCellsRunFor};
 ghost use Rattle.twoplsf.specs.Made.{IsDrillDay};
 ghost use Rattle.twoplsf.specs.Answer.{HaveInputFor, IsDayFor};
+ghost use Rattle.twoplsf.specs.Records.{IsRecordsDayFor, IsRecordsText};
 
 use crate::serve::{Served, serve};
 use crate::status::Status;
@@ -23,7 +24,7 @@ use txn_cells::Coded;
 use worker_gate::Gate;
 
 /// Serves a command whose source gives exactly these bytes, and whose sink takes all that it is given. Neither can fail.
-pub fn serve_surely<R: Threads + Wait + Sync, G: Gate>(
+pub fn serve_surely<R: Threads + Wait + Sync, G: Gate + Sync>(
     rt: &R,
     alloc: Global,
     words: &[String],
@@ -42,6 +43,10 @@ pub fn serve_surely<R: Threads + Wait + Sync, G: Gate>(
         → BeginWithInput bytes.items
         → (result.status ≡ Status.Done) ⊎ (result.status ≡ Status.Differs)
         ⊎ (result.status ≡ Status.OutOfMemory) }
+    ensures run_records { IsRecords (map string_bytes words.now)
+        → length bytes.items ≤ MOST_INPUT_BYTES
+        → IsRecordsText bytes.items
+        → (result.status ≡ Status.Done) ⊎ (result.status ≡ Status.OutOfMemory) }
     ensures making { IsMaking (map string_bytes words.now)
         → (result.status ≡ Status.Done) ⊎ (result.status ≡ Status.OutOfMemory) }
 
@@ -68,6 +73,10 @@ pub fn serve_surely<R: Threads + Wait + Sync, G: Gate>(
     ensures has_day { IsSome result.day
         ↔ ((IsAnyRunCommand (map string_bytes words.now) ⊎ IsDrill (map string_bytes words.now))
         × (result.status ≡ Status.Done)) }
+    ensures records { IfSome result.records
+        (IsRecordsDayFor (map string_bytes words.now) bytes.items None None) }
+    ensures has_records { IsSome result.records
+        ↔ (IsRecords (map string_bytes words.now) × (result.status ≡ Status.Done)) }
     ensures cells { IfSome result.cells
         (IsCellsRunFor ⟦<u128 as Coded>⟧ (map string_bytes words.now) None None) }
     ensures has_cells { IsSome result.cells

@@ -35,17 +35,17 @@ fn await_mark(mark: &AtomicCell<u64>, gave_up: &AtomicCell<bool>) {
 
 // Holds the first caller's script at its first lock until another script, by its tag, is committed.
 #[derive(Drop)]
-struct OtherFirst {
+pub(crate) struct OtherFirst {
     other: u64,
     // The seat that committed the other script.
     seat: AtomicCell<u32>,
     // Which of the seat's calls that was, once it is committed.
     call: AtomicCell<u64>,
-    gave_up: AtomicCell<bool>,
+    pub(crate) gave_up: AtomicCell<bool>,
 }
 
 impl OtherFirst {
-    fn new(other: u64) -> OtherFirst {
+    pub(crate) fn new(other: u64) -> OtherFirst {
         OtherFirst {
             other,
             seat: AtomicCell::new(0),
@@ -117,7 +117,7 @@ impl Gate for BothWrite {
 }
 
 // What a run prints of an input, which comes in parts.
-fn printed<R: Abort + Threads + Wait + Sync, G: Gate>(
+fn printed<R: Abort + Threads + Wait + Sync, G: Gate + Sync>(
     rt: &R,
     alloc: Global,
     command: &str,

@@ -16,7 +16,7 @@ use crate::price::{price, put_price};
 use crate::quantity::{holds_any, worth};
 use crate::queue::{queue_call, take_front};
 use crate::shape::BooksShape;
-use crate::trading::{Found, Side, exchange, side_at};
+use crate::trading::{exchange, side_at};
 use books_model::limits::{GREATEST_CASH, GREATEST_QUANTITY};
 use books_model::{Decline, Op, Value};
 use txn_words::{Stop, Words};
@@ -250,24 +250,8 @@ pub fn trade<W: Words>(
     if sells.side.cash + cost > GREATEST_CASH || buys.side.held + amount > GREATEST_QUANTITY {
         return Ok(Outcome::Declines(Decline::Limit));
     }
-    let bought = Side {
-        account: buyer,
-        cash: buys.side.cash - cost,
-        held: buys.side.held + amount,
-    };
-    let sold = Side {
-        account: seller,
-        cash: sells.side.cash + cost,
-        held: sells.side.held - amount,
-    };
-    let buys = Found {
-        side: bought,
-        block: buys.block,
-    };
-    let sells = Found {
-        side: sold,
-        block: sells.block,
-    };
+    let buys = buys.left_with(buyer, buys.side.cash - cost, buys.side.held + amount);
+    let sells = sells.left_with(seller, sells.side.cash + cost, sells.side.held - amount);
     if !exchange(w, shape, instrument, buys, sells)? {
         return Ok(Outcome::FindsNoBlock);
     }

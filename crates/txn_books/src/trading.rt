@@ -1,6 +1,6 @@
 //! The two sides of a trade on words that stand for books.
 
-ghost use Rattle.std.specs.Prelude.{IfOk, IfSome, OnOk};
+ghost use Rattle.std.specs.Prelude.{◌≡◌, IfOk, IfSome, OnOk};
 ghost use Rattle.books_model.specs.Ranges.{IsAccountNumber, IsWithin};
 ghost use Rattle.txn_words.specs.Calls.{IsReady, GoesOn, InEachState, LeadsTo};
 ghost use Rattle.txn_tree_map.specs.Stored.{HasKeyIn};
@@ -27,6 +27,26 @@ pub(crate) struct Side {
 pub(crate) struct Found {
     pub(crate) side: Side,
     pub(crate) block: u32,
+}
+
+impl Found {
+    /// What a trade leaves of a side: this account with this cash and this holding, in the block where it stands.
+    pub(crate) fn left_with(self, account: u32, cash: u64, held: u64) -> Self
+        ensures { result ≡ record {
+          side = record { account = account; cash = cash; held = held };
+          block = self.block;
+        } }
+    {
+        let side = Side {
+            account,
+            cash,
+            held,
+        };
+        Found {
+            side,
+            block: self.block,
+        }
+    }
 }
 
 /// One side of a trade, where its account is there.

@@ -26,7 +26,7 @@ use worker_gate::Gate;
 type Made = Result<Pass<CellsShape<u128>>, OutOfMemory>;
 
 // The rounds with each pass, on a thread of its own.
-fn work_all<G: Gate, R: Threads + Wait + Sync>(
+fn work_all<G: Gate + Sync, R: Threads + Wait + Sync>(
     rt: &R,
     alloc: Global,
     desk: &Desk<CellsShape<u128>>,
@@ -75,7 +75,7 @@ fn all_made(alloc: Global, made: Vec<Made>) -> Result<Vec<Pass<CellsShape<u128>>
 /// The gate is told of each point that a transaction comes to; its tag is the worker times 65,536, and the round, both
 /// from 0. Which transaction comes first depends on the threads; what the cells come to does not. It may wait for other
 /// threads: that a wait ends, no clause says.
-pub fn run_cells<G: Gate, R: Threads + Wait + Sync>(
+pub fn run_cells<G: Gate + Sync, R: Threads + Wait + Sync>(
     rt: &R,
     alloc: Global,
     workers: u32,

@@ -1,10 +1,14 @@
 -- What all workers ran, put together, over the closed table.
 use Rattle.std.proofs.Common.{◌≡◌, ◌≢◌, ℕ, zero, suc, ◌+◌, ◌<◌, ◌≤◌, ◌%◌, Bool, true, false, ⊎_elim, List, [], ◌∷◌, ◌++◌, All, AllPairs, flat_map, map, length}
 use Rattle.std.proofs.Common.{take, get_or, slice_get, slice_index, Some, refl, sym, ap, ◌∙◌, subst, subst₂, arith}
+use Rattle.std.specs.List.{range_with_len}
+use Rattle.std.proofs.lemmas.List.{length-map}
 use Rattle.std.proofs.lemmas.List.Concat.{flat_map-cons}
 use Rattle.std.proofs.lemmas.List.Elements.{All-weaker}
 use Rattle.std.proofs.lemmas.Nat.{mod_below}
-use Rattle.std.proofs.lemmas.Option.{get_or_from_slice_get, slice_get_within}
+use Rattle.std.proofs.lemmas.Option.{get_or_from_slice_get, slice_get-get_or, slice_get_within}
+use mathlib.Core.Logic.{dite}
+use native.Mathlib.Decide.{dec_lt}
 use Rattle.history_model.specs.declared.entry.Entry.{Entry}
 use Rattle.history_model.specs.declared.item.Item.{Item}
 use Rattle.history_model.specs.Arrangements.{IsArrangement}
@@ -21,11 +25,11 @@ use Rattle.word_table.specs.Closing.{AreRecords, AreSeenBy, ClosedView, IsCohere
 use Rattle.word_table.specs.Copies.{PassView}
 use Rattle.word_table.specs.Desks.{DeskView}
 use Rattle.txn_commit.specs.declared.lists.Ran.{Ran}
-use Rattle.txn_commit.specs.Lists.{indexes_of, AreDealt, AreMeant, AreOnceInOrder, HaveRecords}
+use Rattle.txn_commit.specs.Lists.{calls_of, indexes_of, AreCounted, AreDealt, AreMeant, AreOnceInOrder, HaveRecords}
 use Rattle.txn_commit.specs.Ordered.{AreRun}
 use Rattle.txn_commit.specs.Inner.ListWork.{HasRun, IsMade, IsMadeBy, Made, RanFirst}
 use Rattle.txn_commit.proofs.Flattened.{all_in, beside_flat, beside_images, in_flat, into_flat, of_in, one_flat, pairs_flat, AreBeside}
-use Rattle.txn_commit.proofs.ListWork.{both_indexes, no_indexes}
+use Rattle.txn_commit.proofs.ListWork.{both_values, caller_of, in_range, index_of, no_values, own_values, values_of}
 use Rattle.txn_commit.proofs.Orders.Once.{later_index}
 use Rattle.txn_commit.proofs.Recorded.{have_records}
 
@@ -49,6 +53,7 @@ pub record AreWhole {S A : Type 0} (good : List ℕ → Type 0) (means : ℕ →
   pub once : AreOnceInOrder callers jobs ran
   pub dealt : AreDealt workers ran
   pub recorded : HaveRecords closed.records ran
+  pub counted : AreCounted ran
   pub below : All (λ (x : Ran A). x.restarts < workers) ran
   pub meant : AreMeant means closed ran
   pub run : AreRun good means closed ran
@@ -101,10 +106,12 @@ module _ {S A X : Type 0} (good : List ℕ → Type 0) (means : ℕ → ℕ → 
   all_below : All (λ (ran : Ran A). ran.restarts < workers) done
   all_below = of_each (λ (ran : Ran A). ran.restarts < workers) its_few
 
-  flat_indexes : (c : ℕ) (xs : List X) → indexes_of c (flat_map items_of xs) ≡ flat_map (λ x. indexes_of c (items_of x)) xs
-  flat_indexes c [] = refl
-  flat_indexes c (x ∷ xs) = ap (indexes_of c) (flat_map-cons items_of x xs) ∙ both_indexes c (items_of x) (flat_map items_of xs)
-      ∙ ap (λ l. indexes_of c (items_of x) ++ l) (flat_indexes c xs) ∙ sym (flat_map-cons (λ y. indexes_of c (items_of y)) x xs)
+  flat_values : (key value : Ran A → ℕ) (c : ℕ) (xs : List X) → values_of key value c (flat_map items_of xs)
+      ≡ flat_map (λ x. values_of key value c (items_of x)) xs
+  flat_values key value c [] = refl
+  flat_values key value c (x ∷ xs) = ap (values_of key value c) (flat_map-cons items_of x xs)
+      ∙ both_values key value c (items_of x) (flat_map items_of xs) ∙ ap (λ l. values_of key value c (items_of x) ++ l) (flat_values key value c xs)
+      ∙ sym (flat_map-cons (λ y. values_of key value c (items_of y)) x xs)
 
   all_once : AreOnceInOrder callers jobs done
   all_once = record {
@@ -112,17 +119,43 @@ module _ {S A X : Type 0} (good : List ℕ → Type 0) (means : ℕ → ℕ → 
     each = λ c lt.
         let j : ℕ = c % workers in
         let x = below_get j clients (omega (arith, many, mod_below c workers some)) in
-        flat_indexes c clients
+        flat_values caller_of index_of c clients
         ∙ one_flat (λ y. indexes_of c (items_of y)) clients j x.0 x.1 (λ k y at off.
-        no_indexes c (items_of y) (All-weaker (λ (r : Ran A). (r.caller < callers) × (r.caller % workers ≡ k)) (λ (r : Ran A). r.caller ≢ c)
+        no_values caller_of index_of c (items_of y) (All-weaker (λ (r : Ran A). (r.caller < callers) × (r.caller % workers ≡ k)) (λ (r : Ran A). r.caller ≢ c)
         (λ r t same. off (sym t.1 ∙ ap (λ n. n % workers) same)) (items_of y) (first k y at).only))
         ∙ (first j x.0 x.1).own c lt refl;
   }
 
+  -- all items of a worker are of its seat, and no others
+  abbrev seat_of : Ran A → ℕ
+  seat_of ran = ran.seat
+
+  abbrev call_of : Ran A → ℕ
+  call_of ran = ran.call
+
+  all_counted : AreCounted done
+  all_counted seat = dite (dec_lt seat workers)
+      (λ lt.
+      let x = below_get seat clients (omega (arith, lt, many)) in
+      let its : List (Ran A) = items_of x.0 in
+      let own : calls_of seat done ≡ map call_of its = flat_values seat_of call_of seat clients
+      ∙ one_flat (λ y. calls_of seat (items_of y)) clients seat x.0 x.1 (λ k y at off. no_values seat_of call_of seat (items_of y)
+      (all_in (λ (r : Ran A). r.seat ≢ seat) (items_of y) (λ r t same. off (sym (its_seat k y at r t) ∙ same))))
+      ∙ own_values seat_of call_of seat its (all_in (λ (r : Ran A). r.seat ≡ seat) its (its_seat seat x.0 x.1)) in
+      own ∙ (run seat x.0 x.1).counted ∙ ap (range_with_len 1) (sym (ap (λ l. length l) own ∙ length-map its call_of)))
+      (λ no.
+      let none : calls_of seat done ≡ [] = no_values seat_of call_of seat done (of_each (λ (r : Ran A). r.seat ≢ seat)
+      (λ k x at r t same. no (omega (arith, slice_get_within clients k x at, many, its_seat k x at r t, same)))) in
+      subst (λ l. l ≡ range_with_len 1 (length l)) (sym none) refl)
+
   -- of one seat they are later and later calls
   later_call : AllPairs (λ (x y : Ran A). x.seat ≡ y.seat → x.call < y.call) done
   later_call = pairs_flat (λ (x y : Ran A). x.seat ≡ y.seat → x.call < y.call) items_of clients
-      (λ k x at i j d lt short seat. (run k x at).rising i j d lt short)
+      (λ k x at i j d lt short seat.
+      let at_place = λ (p : ℕ) (within : p < length (items_of x)).
+      in_range call_of 1 (length (items_of x)) (items_of x) (run k x at).counted p (get_or (items_of x) p d)
+      (slice_get-get_or (items_of x) p d within) in
+      omega (arith, lt, at_place i (omega (arith, lt, short)), at_place j short))
       (λ i j x y at_x at_y lt a b in_a in_b seat. absurd (omega (arith, lt, seat, its_seat i x at_x a in_a, its_seat j y at_y b in_b)))
 
   -- each item stands beside the entry of its call
@@ -170,7 +203,7 @@ module _ {S A X : Type 0} (good : List ℕ → Type 0) (means : ℕ → ℕ → 
       (subst (λ (z : Item). IsLegalTrace z.trace s) (sym item_is) (legal.placed order arranged p x at).legal))
 
   pub whole : AreWhole good means callers jobs workers closed done
-  whole = record { once = all_once; dealt = all_dealt; recorded = all_recorded; below = all_below; meant = all_meant; run = all_run }
+  whole = record { once = all_once; dealt = all_dealt; recorded = all_recorded; counted = all_counted; below = all_below; meant = all_meant; run = all_run }
 
 -- the same of workers who did their work
 module _ {S A X L : Type 0} (good : S → List ℕ → Type 0) (means : L → ℕ → ℕ → List ℕ → Bool → A → List ℕ → Type 0) (callers : L → ℕ)

@@ -1,26 +1,36 @@
 -- What one worker ran: a job more, a list more, and the callers so far.
-use Rattle.std.proofs.Common.{◌≡◌, ◌≢◌, ℕ, zero, suc, ◌+◌, ◌<◌, ◌≤◌, ◌%◌, ◌==◌, Bool, true, false, cond, ⊎_elim, List, [], ◌∷◌, ◌++◌, All, AllPairs}
-use Rattle.std.proofs.Common.{map, length, refl, sym, ap, ◌∙◌, subst, arith, append_assoc, length-append}
+use Rattle.std.proofs.Common.{◌≡◌, ◌≢◌, ℕ, zero, suc, ◌+◌, ◌<◌, ◌≤◌, ◌%◌, ◌==◌, Bool, true, false, cond, ⊎_elim, List, [], ◌∷◌, ◌++◌, All}
+use Rattle.std.proofs.Common.{map, get_or, slice_get, Some, length, refl, sym, ap, ◌∙◌, subst, arith, append_assoc, length-append}
 use Rattle.std.specs.Prelude.{sum_by}
 use Rattle.std.specs.List.{filter, range_with_len}
 use Rattle.std.proofs.lemmas.Bool.Decides.{eqb_tells}
 use Rattle.std.proofs.lemmas.List.{append-nil, length-map, map-append, map-id, map_push}
 use Rattle.std.proofs.lemmas.List.Elements.{All-append, All-head, All-nil, All-push, All-tail, All-weaker, filter-append}
-use Rattle.std.proofs.lemmas.List.FromFn.{length-range_with_len, map-range_with_len_more}
-use Rattle.std.proofs.lemmas.List.Quantifiers.{all_pairs_push}
+use Rattle.std.proofs.lemmas.List.FromFn.{get_or-range_with_len, length-range_with_len, map-range_with_len_more}
 use Rattle.std.proofs.lemmas.List.Sums.{sum_by_push}
+use Rattle.std.proofs.lemmas.Option.{get_or_from_slice_get, slice_get_within}
 use mathlib.Core.Logic.{dite}
 use native.Mathlib.Decide.{dec_lt}
 use Rattle.history_model.specs.declared.view.View.{View}
 use Rattle.history_model.specs.Views.{number}
+use Rattle.history_model.proofs.ListPlaces.{at_map}
 use Rattle.txn_commit.specs.declared.lists.Ran.{Ran}
 use Rattle.txn_commit.specs.Lists.{indexes_of, jobs_of_first}
 use Rattle.txn_commit.specs.Inner.ListWork.{HasRun, IsMade, Made, RanFirst, RanList, RanOne}
 
 -- one number more
+pub range_on : (a n j : ℕ) → a + n ≡ j → range_with_len a (n + 1) ≡ range_with_len a n ++ j ∷ []
+range_on a n j is = sym (map-id (range_with_len a (n + 1))) ∙ map-range_with_len_more (λ (k : ℕ). k) a n j is
+    ∙ ap (λ l. l ++ j ∷ []) (map-id (range_with_len a n))
+
 pub range_more : (n : ℕ) → range_with_len 0 (n + 1) ≡ range_with_len 0 n ++ n ∷ []
-range_more n = sym (map-id (range_with_len 0 (n + 1))) ∙ map-range_with_len_more (λ (k : ℕ). k) 0 n n (omega arith)
-    ∙ ap (λ l. l ++ n ∷ []) (map-id (range_with_len 0 n))
+range_more n = range_on 0 n n (omega arith)
+
+-- where a list's numbers are a range, each is that of its place
+pub in_range : {X : Type 0} (f : X → ℕ) (a n : ℕ) (xs : List X) → map f xs ≡ range_with_len a n → (p : ℕ) (x : X) → slice_get xs p ≡ Some x → f x ≡ a + p
+in_range f a n xs is p x at =
+    let within : p < n = omega (arith, slice_get_within xs p x at, ap (λ l. length l) is, length-map xs f, length-range_with_len a n) in
+    sym (get_or_from_slice_get (map f xs) p (f x) 0 (at_map f xs p x at)) ∙ ap (λ l. get_or l p 0) is ∙ get_or-range_with_len a n p 0 within
 
 -- the jobs of one caller more
 pub jobs_more : (jobs : ℕ → ℕ) (n : ℕ) → jobs_of_first jobs (n + 1) ≡ jobs_of_first jobs n + jobs n
@@ -34,25 +44,35 @@ jobs_within jobs n (suc m) le = dite (dec_lt n (suc m))
     omega (arith, jobs_within jobs n m (omega (arith, lt)), jobs_more jobs m, ap (jobs_of_first jobs) next))
     (λ no. let same : n ≡ suc m = omega (arith, le, no) in omega (arith, ap (jobs_of_first jobs) same))
 
+-- what a list's items of one key have in their order
+module _ {A : Type 0} (key value : Ran A → ℕ) where
+  abbrev pub values_of : ℕ → List (Ran A) → List ℕ
+  values_of c done = map value (filter (λ (ran : Ran A). key ran == c) done)
+
+  pub own_values : (c : ℕ) (done : List (Ran A)) → All (λ (r : Ran A). key r ≡ c) done → values_of c done ≡ map value done
+  own_values c [] all = refl
+  own_values c (r ∷ done) all =
+      let test : (key r == c) ≡ true = ⊎_elim (λ t. t.0) (λ t. absurd (t.1 (All-head (λ (x : Ran A). key x ≡ c) r done all))) (eqb_tells (key r) c) in
+      ap (λ b. map value (cond b (r ∷ filter (λ (x : Ran A). key x == c) done) (filter (λ (x : Ran A). key x == c) done))) test
+      ∙ ap (λ l. value r ∷ l) (own_values c done (All-tail (λ (x : Ran A). key x ≡ c) r done all))
+
+  pub no_values : (c : ℕ) (done : List (Ran A)) → All (λ (r : Ran A). key r ≢ c) done → values_of c done ≡ []
+  no_values c [] all = refl
+  no_values c (r ∷ done) all =
+      let test : (key r == c) ≡ false = ⊎_elim (λ t. absurd (All-head (λ (x : Ran A). key x ≢ c) r done all t.1)) (λ t. t.0) (eqb_tells (key r) c) in
+      ap (λ b. map value (cond b (r ∷ filter (λ (x : Ran A). key x == c) done) (filter (λ (x : Ran A). key x == c) done))) test
+      ∙ no_values c done (All-tail (λ (x : Ran A). key x ≢ c) r done all)
+
+  pub both_values : (c : ℕ) (first second : List (Ran A)) → values_of c (first ++ second) ≡ values_of c first ++ values_of c second
+  both_values c first second = ap (map value) (filter-append (λ (x : Ran A). key x == c) first second)
+      ∙ map-append value (filter (λ (x : Ran A). key x == c) first) (filter (λ (x : Ran A). key x == c) second)
+
 module _ {A : Type 0} where
-  -- the indexes of items of one caller, and of others
-  own_indexes : (c : ℕ) (done : List (Ran A)) → All (λ (r : Ran A). r.caller ≡ c) done → indexes_of c done ≡ map (λ (r : Ran A). r.index) done
-  own_indexes c [] all = refl
-  own_indexes c (r ∷ done) all =
-      let test : (r.caller == c) ≡ true = ⊎_elim (λ t. t.0) (λ t. absurd (t.1 (All-head (λ (x : Ran A). x.caller ≡ c) r done all))) (eqb_tells r.caller c) in
-      ap (λ b. map (λ (x : Ran A). x.index) (cond b (r ∷ filter (λ (x : Ran A). x.caller == c) done) (filter (λ (x : Ran A). x.caller == c) done))) test
-      ∙ ap (λ l. r.index ∷ l) (own_indexes c done (All-tail (λ (x : Ran A). x.caller ≡ c) r done all))
+  abbrev pub caller_of : Ran A → ℕ
+  caller_of ran = ran.caller
 
-  pub no_indexes : (c : ℕ) (done : List (Ran A)) → All (λ (r : Ran A). r.caller ≢ c) done → indexes_of c done ≡ []
-  no_indexes c [] all = refl
-  no_indexes c (r ∷ done) all =
-      let test : (r.caller == c) ≡ false = ⊎_elim (λ t. absurd (All-head (λ (x : Ran A). x.caller ≢ c) r done all t.1)) (λ t. t.0) (eqb_tells r.caller c) in
-      ap (λ b. map (λ (x : Ran A). x.index) (cond b (r ∷ filter (λ (x : Ran A). x.caller == c) done) (filter (λ (x : Ran A). x.caller == c) done))) test
-      ∙ no_indexes c done (All-tail (λ (x : Ran A). x.caller ≢ c) r done all)
-
-  pub both_indexes : (c : ℕ) (first second : List (Ran A)) → indexes_of c (first ++ second) ≡ indexes_of c first ++ indexes_of c second
-  both_indexes c first second = ap (map (λ (x : Ran A). x.index)) (filter-append (λ (x : Ran A). x.caller == c) first second)
-      ∙ map-append (λ (x : Ran A). x.index) (filter (λ (x : Ran A). x.caller == c) first) (filter (λ (x : Ran A). x.caller == c) second)
+  abbrev pub index_of : Ran A → ℕ
+  index_of ran = ran.index
 
   -- the first jobs of a list
   pub list_none : (caller : ℕ) (old : List (Ran A)) → RanList caller 0 old old
@@ -100,7 +120,7 @@ module _ {A : Type 0} where
 
     pub first_runs : (new : List (Ran A)) → n % workers ≡ seat → RanList n (jobs n) done new → RanFirst jobs workers seat (n + 1) new
     first_runs new turn list = subst (λ (l : List (Ran A)). RanFirst jobs workers seat (n + 1) l) (sym list.behind) (record {
-      own = λ c lt its. both_indexes c done list.more ∙ indexes c lt its;
+      own = λ c lt its. both_values caller_of index_of c done list.more ∙ indexes c lt its;
       only = All-append (λ (r : Ran A). (r.caller < n + 1) × (r.caller % workers ≡ seat)) done list.more later
           (All-weaker (λ (r : Ran A). r.caller ≡ n) (λ (r : Ran A). (r.caller < n + 1) × (r.caller % workers ≡ seat))
           (λ r is. (omega (arith, is), ap (λ k. k % workers) is ∙ turn)) list.more list.of_caller);
@@ -116,11 +136,12 @@ module _ {A : Type 0} where
 
         indexes : (c : ℕ) → c < n + 1 → c % workers ≡ seat → indexes_of c done ++ indexes_of c list.more ≡ range_with_len 0 (jobs c)
         indexes c lt its = dite (dec_lt c n)
-            (λ less. ap (λ l. indexes_of c done ++ l) (no_indexes c list.more (others c less)) ∙ append-nil (indexes_of c done) ∙ first.own c less its)
+            (λ less. ap (λ l. indexes_of c done ++ l) (no_values caller_of index_of c list.more (others c less))
+            ∙ append-nil (indexes_of c done) ∙ first.own c less its)
             (λ no.
             let same : c ≡ n = omega (arith, lt, no) in
-            ap (λ l. l ++ indexes_of c list.more) (no_indexes c done (before c same))
-            ∙ own_indexes c list.more (subst (λ k. All (λ (r : Ran A). r.caller ≡ k) list.more) (sym same) list.of_caller)
+            ap (λ l. l ++ indexes_of c list.more) (no_values caller_of index_of c done (before c same))
+            ∙ own_values caller_of index_of c list.more (subst (λ k. All (λ (r : Ran A). r.caller ≡ k) list.more) (sym same) list.of_caller)
             ∙ list.indexes ∙ ap (λ k. range_with_len 0 (jobs k)) (sym same))
 
   module _ (good : List ℕ → Type 0) (means : ℕ → ℕ → List ℕ → Bool → A → List ℕ → Type 0) (seats seat : ℕ) where
@@ -132,8 +153,7 @@ module _ {A : Type 0} where
       seen_are = seen;
       each = All-nil (IsMade good means seats seat);
       calls = calls ∙ sym (ap (λ l. length l) none);
-      rising = subst (AllPairs (λ (x y : Ran A). x.call < y.call)) (sym none) (λ i j d lt short. absurd (omega arith));
-      late = subst (λ (l : List (Ran A)). All (λ (x : Ran A). x.call ≤ length l) l) (sym none) (All-nil (λ (x : Ran A). x.call ≤ 0));
+      counted = subst (λ (l : List (Ran A)). map (λ (x : Ran A). x.call) l ≡ range_with_len 1 (length l)) (sym none) refl;
     }
 
     -- a pass that has run one job more
@@ -145,10 +165,8 @@ module _ {A : Type 0} where
       seen_are = one.seen ∙ ap (λ l. l ++ one.entry ∷ []) h.seen_are ∙ sym (map_push (λ (x : Made A). x.entry) h.made last);
       each = All-push (IsMade good means seats seat) h.made last h.each (record { by_entry = one.made; seat_is = one.seat_is ∙ named; few = one.few });
       calls = omega (arith, one.called, h.calls, long);
-      rising = all_pairs_push (λ (x y : Ran A). x.call < y.call) done ran h.rising (λ k d lt. omega (arith, h.late k d lt, one.call_is, h.calls));
-      late = All-push (λ (x : Ran A). x.call ≤ length (done ++ ran ∷ [])) done ran
-          (All-weaker (λ (x : Ran A). x.call ≤ length done) (λ (x : Ran A). x.call ≤ length (done ++ ran ∷ [])) (λ x le. omega (arith, le, long)) done h.late)
-          (omega (arith, one.call_is, h.calls, long));
+      counted = map_push (λ (x : Ran A). x.call) done ran ∙ ap (λ l. l ++ ran.call ∷ []) h.counted
+          ∙ sym (range_on 1 (length done) ran.call (omega (arith, one.call_is, h.calls))) ∙ ap (range_with_len 1) (sym long);
     })
       where
         last : Made A

@@ -25,6 +25,14 @@ module _ {A : Type 0} where
     pub of_callers : All (λ ran. ran.caller < callers) done
     pub each : (caller : ℕ) → caller < callers → indexes_of caller done ≡ range_with_len 0 (jobs caller)
 
+  -- which of a seat's calls were made, in the order of their items
+  abbrev pub calls_of : ℕ → List (Ran A) → List ℕ
+  calls_of seat done = map (λ (ran : Ran A). ran.call) (filter (λ (ran : Ran A). ran.seat == seat) done)
+
+  -- the items of each seat are of its calls 1, 2, and so on, in this order
+  abbrev pub AreCounted : List (Ran A) → Type 0
+  AreCounted done = (seat : ℕ) → calls_of seat done ≡ range_with_len 1 (length (calls_of seat done))
+
   -- each caller's jobs were run by the seat of its number modulo the workers
   abbrev pub AreDealt : ℕ → List (Ran A) → Type 0
   AreDealt workers done = All (λ ran. ran.seat ≡ ran.caller % workers) done

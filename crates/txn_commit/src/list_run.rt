@@ -5,7 +5,7 @@ ghost use Rattle.std.specs.List.{flat_map};
 ghost use Rattle.history_model.specs.Fitting.{IsGood};
 ghost use Rattle.word_table.specs.declared.limits.TheConstants.{LAST_CALL, MOST_PASSES, MOST_WORDS};
 ghost use Rattle.word_table.specs.Closing.{AreRecords, IsCoherent, IsLegalInEachOrder};
-ghost use Rattle.txn_commit.specs.Lists.{jobs_of_first, AreDealt, AreMeant, AreOnceInOrder, HaveRecords};
+ghost use Rattle.txn_commit.specs.Lists.{jobs_of_first, AreCounted, AreDealt, AreMeant, AreOnceInOrder, HaveRecords};
 ghost use Rattle.txn_commit.specs.Ordered.{AreRun};
 
 use crate::list_worker::ListWorker;
@@ -93,6 +93,8 @@ where
         AreOnceInOrder (L.callers lists.now) (L.jobs lists.now) end.done.items) }
     ensures seats { IfOk result (λ end. AreDealt workers end.done.items) }
     ensures entries { IfOk result (λ end. HaveRecords end.closed.records end.done.items) }
+    // A seat made no other calls than these, and its items stand in the order in which it made them.
+    ensures calls { IfOk result (λ end. AreCounted end.done.items) }
     ensures below { IfOk result (λ end. All (λ ran. ran.restarts < workers) end.done.items) }
     // In every arrangement each did, of the words that what stands before it left, what its job means.
     ensures meant { IfOk result (λ end. AreMeant (L.means lists.now) end.closed end.done.items) }

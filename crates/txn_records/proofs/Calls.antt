@@ -16,9 +16,9 @@ use Rattle.txn_records.specs.declared.shape.RecordShape.{RecordShape}
 use Rattle.txn_records.specs.declared.layout.TheConstants.{RANK_STEP}
 use Rattle.txn_records.specs.Layout.{index_key_of}
 use Rattle.txn_records.specs.Standing.{Trees, HasTrees, HasSomeTrees, HoldRecords, IsGoodFor, Stands, rank_in}
-use Rattle.txn_records.specs.Access.{first_in, PutsRecord, UnlessFull}
-use Rattle.txn_records.specs.Inner.Listing.{first_key}
-use Rattle.txn_records.proofs.Keys.{key_told, key_first}
+use Rattle.txn_records.specs.Access.{first_in, first_key_in, PutsRecord, UnlessFull}
+use Rattle.txn_records.specs.Inner.Listing.{first_key, first_entry}
+use Rattle.txn_records.proofs.Keys.{key_first, entry_first}
 use Rattle.txn_records.proofs.Turning.{Turns}
 use Rattle.txn_records.proofs.Held.{rank_range, no_record, some_record, removed_here, removed_there, range_removed, cut_held, dropped, dropped_held}
 
@@ -35,12 +35,20 @@ module _ (shape : RecordShape) where
       → Tells (Stands shape) (λ records. data_at_rank rank (finite.get records id)) answer x y
   tells_data rank id lt answer x y t = record { same = t.same; told = λ records stand. t.told stand.trees stand.parts ∙ stand.held.index rank id lt }
 
-  -- the first key from one on, from the first entry
-  pub tells_key : (key : ℕ) (answer : Option (ℕ × ℕ)) (x y : List ℕ) → Tells (HasTrees shape) (λ trees. first_in key trees.index) answer x y
-      → Tells (Stands shape) (first_key key) (key_told answer) x y
+  -- the first key from one on
+  pub tells_key : (key : ℕ) (answer : Option ℕ) (x y : List ℕ) → Tells (HasTrees shape) (λ trees. first_key_in key trees.index) answer x y
+      → Tells (Stands shape) (first_key key) answer x y
   tells_key key answer x y t = record {
     same = t.same;
-    told = λ records stand. key_first key records stand.trees stand.range stand.held answer (t.told stand.trees stand.parts);
+    told = λ records stand. t.told stand.trees stand.parts ∙ key_first key records stand.trees stand.range stand.held;
+  }
+
+  -- the first entry from a key on
+  pub tells_entry : (key : ℕ) (answer : Option (ℕ × ℕ)) (x y : List ℕ) → Tells (HasTrees shape) (λ trees. first_in key trees.index) answer x y
+      → Tells (Stands shape) (first_entry key) answer x y
+  tells_entry key answer x y t = record {
+    same = t.same;
+    told = λ records stand. t.told stand.trees stand.parts ∙ entry_first key records stand.trees stand.range stand.held;
   }
 
   -- a rank that is told is in range

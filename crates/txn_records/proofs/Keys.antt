@@ -23,8 +23,8 @@ use Rattle.txn_alloc.specs.EntryMaps.{Entries}
 use Rattle.txn_records.specs.declared.layout.TheConstants.{RANK_STEP}
 use Rattle.txn_records.specs.Layout.{index_key_of}
 use Rattle.txn_records.specs.Standing.{Trees, HoldRecords, AreInRange}
-use Rattle.txn_records.specs.Access.{first_in}
-use Rattle.txn_records.specs.Inner.Listing.{keys_of, first_key}
+use Rattle.txn_records.specs.Access.{first_in, first_key_in}
+use Rattle.txn_records.specs.Inner.Listing.{keys_of, entries_of, first_key, first_entry}
 use Rattle.txn_records.proofs.Held.{id_below, keys_differ}
 use Rattle.txn_records.proofs.Lengths.{as_key, key_rest}
 
@@ -162,56 +162,59 @@ module _ (records : Records) (range : AreInRange records) where
     entries_keyed = ap finite.entries (finite.same_map nat_cmp_total nat_cmp-IsAntisymmetric trees.index as_map get_as)
         ∙ entries-from_sorted nat_cmp (keyed (finite.entries (index_of records))) sorted
 
--- the key of an entry that is told
-abbrev pub key_told : Option (ℕ × ℕ) → Option ℕ
-key_told None = None
-key_told (Some e) = Some e.0
+-- their keys are those of the places
+keys_keyed : (es : List Entry) → map (λ (e : ℕ × ℕ). e.0) (keyed es) ≡ map (λ e. key_of e.0) es
+keys_keyed [] = refl
+keys_keyed (e ∷ es) = ap (λ ks. key_of e.0 ∷ ks) (keys_keyed es)
 
-first_told : (key : ℕ) (es : List Entry) → key_told (first (λ (e : ℕ × ℕ). nat_le key e.0) (keyed es)) ≡ first (λ k. nat_le key k) (map (λ e. key_of e.0) es)
-first_told key [] = refl
-first_told key (e ∷ es) = at (nat_le key (key_of e.0)) refl (first_told key es)
-  where
-    rest : Option (ℕ × ℕ)
-    rest = first (λ (p : ℕ × ℕ). nat_le key p.0) (keyed es)
+-- the first key of the index
+pub key_first : (key : ℕ) (records : Records) (trees : Trees) → AreInRange records → HoldRecords trees records
+    → first_key_in key trees.index ≡ first_key key records
+key_first key records trees range held =
+    ap (λ es. first (λ k. nat_le key k) (map (λ (e : ℕ × ℕ). e.0) es)) (entries_keyed records range trees held)
+    ∙ ap (first (λ k. nat_le key k)) (keys_keyed (finite.entries (index_of records)))
 
-    keys : Option ℕ
-    keys = first (λ k. nat_le key k) (map (λ (e : Entry). key_of e.0) es)
+-- the first entry of the index
+pub entry_first : (key : ℕ) (records : Records) (trees : Trees) → AreInRange records → HoldRecords trees records
+    → first_in key trees.index ≡ first_entry key records
+entry_first key records trees range held = ap (first (λ (e : ℕ × ℕ). nat_le key e.0)) (entries_keyed records range trees held)
 
-    at : (b : Bool) → nat_le key (key_of e.0) ≡ b → key_told rest ≡ keys
-        → key_told (cond b (Some (key_of e.0, e.1)) rest) ≡ cond b (Some (key_of e.0)) keys
-    at true is behind = refl
-    at false is behind = behind
+-- items whose keys rise
+abbrev pub AreRising : {X : Type 0} → (X → ℕ) → List X → Type 0
+AreRising at [] = Unit {0}
+AreRising at (x ∷ xs) = AllByRecursion (λ y. at x < at y) xs × AreRising at xs
 
--- the first key of the index, from its first entry
-pub key_first : (key : ℕ) (records : Records) (trees : Trees) → AreInRange records → HoldRecords trees records → (answer : Option (ℕ × ℕ))
-    → answer ≡ first_in key trees.index → key_told answer ≡ first_key key records
-key_first key records trees range held answer told =
-    ap key_told (told ∙ ap (λ es. first (λ (e : ℕ × ℕ). nat_le key e.0) es) (entries_keyed records range trees held))
-    ∙ first_told key (finite.entries (index_of records))
+-- what is made of the entries, each with the key of its place
+module _ {X : Type 0} (at : X → ℕ) (make : Entry → X) (same : (e : Entry) → at (make e) ≡ key_of e.0) where
+  above_all : (e : Entry) → IsPlace e.0 → (es : List Entry) → ArePlaces es → T (below_all index_cmp e.0 es)
+      → AllByRecursion (λ y. at (make e) < at y) (map make es)
+  above_all e p [] h below = tt
+  above_all e p (f ∷ es) h below =
+      let rises : key_of e.0 < key_of f.0 = key_rises e.0 f.0 p h.0 (below_first index_cmp e.0 f es below) in
+      (omega (arith, rises, same e, same f), above_all e p es h.1 (below_rest index_cmp e.0 f es below))
 
--- keys that rise
-abbrev pub AreRising : List ℕ → Type 0
-AreRising [] = Unit {0}
-AreRising (k ∷ ks) = AllByRecursion (λ n. k < n) ks × AreRising ks
+  rising : (es : List Entry) → ArePlaces es → T (is_sorted index_cmp es) → AreRising at (map make es)
+  rising [] h order = tt
+  rising (e ∷ es) h order =
+      (above_all e h.0 es h.1 (sorted_first index_cmp e es order), rising es h.1 (sorted_rest index_cmp e es order))
 
-above_all : (x : ℕ × ℕ) → IsPlace x → (es : List Entry) → ArePlaces es → T (below_all index_cmp x es)
-    → AllByRecursion (λ n. key_of x < n) (map (λ e. key_of e.0) es)
-above_all x p [] h below = tt
-above_all x p (e ∷ es) h below =
-    (key_rises x e.0 p h.0 (below_first index_cmp x e es below), above_all x p es h.1 (below_rest index_cmp x e es below))
+pub keys_rise : (records : Records) → AreInRange records → AreRising (λ k. k) (keys_of records)
+keys_rise records range = rising (λ k. k) (λ e. key_of e.0) (λ e. refl) (finite.entries (index_of records)) (are_places records range)
+    (entries_sorted (index_of records))
 
-rising : (es : List Entry) → ArePlaces es → T (is_sorted index_cmp es) → AreRising (map (λ e. key_of e.0) es)
-rising [] h order = tt
-rising (e ∷ es) h order =
-    (above_all e.0 h.0 es h.1 (sorted_first index_cmp e es order), rising es h.1 (sorted_rest index_cmp e es order))
-
-pub keys_rise : (records : Records) → AreInRange records → AreRising (keys_of records)
-keys_rise records range = rising (finite.entries (index_of records)) (are_places records range) (entries_sorted (index_of records))
-
-keys_below : (es : List Entry) → ArePlaces es → AllByRecursion (λ n. n < RANK_STEP * RANK_STEP) (map (λ e. key_of e.0) es)
-keys_below [] h = tt
-keys_below (e ∷ es) h = (omega (arith, h.0.0, h.0.1), keys_below es h.1)
+pub entries_rise : (records : Records) → AreInRange records → AreRising (λ (e : ℕ × ℕ). e.0) (entries_of records)
+entries_rise records range = rising (λ (e : ℕ × ℕ). e.0) (λ e. (key_of e.0, e.1)) (λ e. refl) (finite.entries (index_of records))
+    (are_places records range) (entries_sorted (index_of records))
 
 -- no key has more than 64 bits
-pub keys_fit : (records : Records) → AreInRange records → AllByRecursion (λ n. n < RANK_STEP * RANK_STEP) (keys_of records)
-keys_fit records range = keys_below (finite.entries (index_of records)) (are_places records range)
+module _ {X : Type 0} (at : X → ℕ) (make : Entry → X) (same : (e : Entry) → at (make e) ≡ key_of e.0) where
+  fitting : (es : List Entry) → ArePlaces es → AllByRecursion (λ x. at x < RANK_STEP * RANK_STEP) (map make es)
+  fitting [] h = tt
+  fitting (e ∷ es) h = (omega (arith, h.0.0, h.0.1, same e), fitting es h.1)
+
+pub keys_fit : (records : Records) → AreInRange records → AllByRecursion (λ k. k < RANK_STEP * RANK_STEP) (keys_of records)
+keys_fit records range = fitting (λ k. k) (λ e. key_of e.0) (λ e. refl) (finite.entries (index_of records)) (are_places records range)
+
+pub entries_fit : (records : Records) → AreInRange records → AllByRecursion (λ (e : ℕ × ℕ). e.0 < RANK_STEP * RANK_STEP) (entries_of records)
+entries_fit records range = fitting (λ (e : ℕ × ℕ). e.0) (λ e. (key_of e.0, e.1)) (λ e. refl) (finite.entries (index_of records))
+    (are_places records range)

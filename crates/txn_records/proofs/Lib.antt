@@ -24,3 +24,5 @@ pub mod Listed
 pub mod Scripted
 -- the words of a store with no record
 pub mod Emptied
+-- a day, from what was run in order
+pub mod Days

@@ -1,75 +1,93 @@
--- Identifiers listed one by one, down the keys of the index.
-use Rattle.std.proofs.Common.{◌≡◌, ℕ, suc, ◌+◌, ◌*◌, ◌<◌, ◌≤◌, Bool, true, false, cond, nat_le, List, [], ◌∷◌, ◌++◌, map, take}
+-- Items listed one by one, down the keys of the index: identifiers from a rank on, and all records.
+use Rattle.std.proofs.Common.{◌≡◌, ℕ, suc, ◌+◌, ◌*◌, ◌<◌, ◌≤◌, Bool, true, false, cond, nat_le, List, [], ◌∷◌, ◌++◌, map, take, length}
 use Rattle.std.proofs.Common.{Option, Some, None, refl, sym, ap, ◌∙◌, arith, append_assoc, append-nil, unwrap_or}
 use Rattle.std.proofs.lemmas.Bool.Decides.{nat_tests}
-use Rattle.std.proofs.lemmas.List.{take_all}
+use Rattle.std.proofs.lemmas.List.{take_all, length-map}
 use Rattle.std.specs.Prelude.{find as first}
 use Rattle.std.specs.List.{AllByRecursion, filter}
 use Rattle.std.specs.FinMap as finite
+use Rattle.std.specs.FinMap.{len-entries}
+use Rattle.books_model.proofs.Maps.Entries.{AllByRecursion-weaker}
 use Rattle.record_text.specs.Records.{Records, ids_from, index_of}
+use Rattle.record_text.specs.Output.{Printed, printed_of}
+use Rattle.txn_records.specs.declared.shape.RecordShape.{RecordShape}
 use Rattle.txn_records.specs.declared.layout.TheConstants.{RANK_STEP}
-use Rattle.txn_records.specs.Layout.{index_key_of, id_in}
-use Rattle.txn_records.specs.Standing.{AreInRange}
-use Rattle.txn_records.specs.Inner.Listing.{keys_of, first_key}
-use Rattle.txn_records.proofs.Keys.{Entry, ArePlaces, AreRising, key_of, are_places, keys_rise, keys_fit}
+use Rattle.txn_records.specs.Layout.{index_key_of, id_in, rank_in_key}
+use Rattle.txn_records.specs.Standing.{AreInRange, Stands}
+use Rattle.txn_records.specs.Inner.Listing.{keys_of, entries_of}
+use Rattle.txn_records.proofs.Keys.{Entry, ArePlaces, AreRising, key_of, are_places, entries_keyed}
+use Rattle.txn_records.proofs.Sides.{trees_counted}
 
--- the keys from one on
-abbrev pub from_key : ℕ → List ℕ → List ℕ
-from_key key ks = filter (λ k. nat_le key k) ks
+-- items with keys
+module _ {X : Type 0} (at : X → ℕ) where
+  -- those from a key on
+  abbrev pub from_key : ℕ → List X → List X
+  from_key key xs = filter (λ x. nat_le key (at x)) xs
 
--- where none is first, none is left
-none_left : (key : ℕ) (ks : List ℕ) → None ≡ first (λ k. nat_le key k) ks → from_key key ks ≡ []
-none_left key [] e = refl
-none_left key (k ∷ ks) e = at (nat_le key k) refl (λ behind. none_left key ks behind)
-  where
-    rest : Option ℕ
-    rest = first (λ n. nat_le key n) ks
+  abbrev first_from : ℕ → List X → Option X
+  first_from key xs = first (λ x. nat_le key (at x)) xs
 
-    at : (b : Bool) → nat_le key k ≡ b → (None ≡ rest → from_key key ks ≡ []) → from_key key (k ∷ ks) ≡ []
-    at true is behind = let no : None ≡ Some k = e ∙ ap (λ b. cond b (Some k) rest) is in absurd (cc)
-    at false is behind = ap (λ b. cond b (k ∷ from_key key ks) (from_key key ks)) is ∙ behind (e ∙ ap (λ b. cond b (Some k) rest) is)
+  -- where none is first, none is left
+  none_left : (key : ℕ) (xs : List X) → None ≡ first_from key xs → from_key key xs ≡ []
+  none_left key [] e = refl
+  none_left key (x ∷ xs) e = by (nat_le key (at x)) refl (λ behind. none_left key xs behind)
+    where
+      by : (b : Bool) → nat_le key (at x) ≡ b → (None ≡ first_from key xs → from_key key xs ≡ []) → from_key key (x ∷ xs) ≡ []
+      by true is behind = let no : None ≡ Some x = e ∙ ap (λ b. cond b (Some x) (first_from key xs)) is in absurd (cc)
+      by false is behind =
+          ap (λ b. cond b (x ∷ from_key key xs) (from_key key xs)) is ∙ behind (e ∙ ap (λ b. cond b (Some x) (first_from key xs)) is)
 
--- all that are above a number are from it on
-all_left : (key x : ℕ) (ks : List ℕ) → key ≤ x + 1 → AllByRecursion (λ n. x < n) ks → from_key key ks ≡ ks
-all_left key x [] le h = refl
-all_left key x (k ∷ ks) le h = let test : nat_le key k ≡ true = grind (arith, nat_tests, le, h.0) in
-    ap (λ b. cond b (k ∷ from_key key ks) (from_key key ks)) test ∙ ap (λ l. k ∷ l) (all_left key x ks le h.1)
+  -- all that are above a number are from it on
+  all_left : (key n : ℕ) (xs : List X) → key ≤ n + 1 → AllByRecursion (λ x. n < at x) xs → from_key key xs ≡ xs
+  all_left key n [] le h = refl
+  all_left key n (x ∷ xs) le h = let test : nat_le key (at x) ≡ true = grind (arith, nat_tests, le, h.0) in
+      ap (λ b. cond b (x ∷ from_key key xs) (from_key key xs)) test ∙ ap (λ l. x ∷ l) (all_left key n xs le h.1)
 
--- the first is in front of those behind it
-first_left : (key found : ℕ) (ks : List ℕ) → AreRising ks → Some found ≡ first (λ k. nat_le key k) ks
-    → (key ≤ found) × (from_key key ks ≡ found ∷ from_key (found + 1) ks)
-first_left key found [] rise e = absurd (cc)
-first_left key found (k ∷ ks) rise e = at (nat_le key k) refl (λ behind. first_left key found ks rise.1 behind)
-  where
-    rest : Option ℕ
-    rest = first (λ n. nat_le key n) ks
+  -- the first is in front of those behind it
+  first_left : (key : ℕ) (found : X) (xs : List X) → AreRising at xs → Some found ≡ first_from key xs
+      → (key ≤ at found) × (from_key key xs ≡ found ∷ from_key (at found + 1) xs)
+  first_left key found [] rise e = absurd (cc)
+  first_left key found (x ∷ xs) rise e = by (nat_le key (at x)) refl (λ behind. first_left key found xs rise.1 behind)
+    where
+      by : (b : Bool) → nat_le key (at x) ≡ b
+          → (Some found ≡ first_from key xs → (key ≤ at found) × (from_key key xs ≡ found ∷ from_key (at found + 1) xs))
+          → (key ≤ at found) × (from_key key (x ∷ xs) ≡ found ∷ from_key (at found + 1) (x ∷ xs))
+      by true is behind =
+          let told : Some found ≡ Some x = e ∙ ap (λ b. cond b (Some x) (first_from key xs)) is in
+          let same : found ≡ x = ap (λ o. unwrap_or o found) told in
+          let same_key : at found ≡ at x = ap at same in
+          let low : key ≤ at x = grind (arith, nat_tests, is) in
+          let past : nat_le (at found + 1) (at x) ≡ false = grind (arith, nat_tests, same_key) in (
+            omega (arith, low, same_key),
+            ap (λ b. cond b (x ∷ from_key key xs) (from_key key xs)) is ∙ ap (λ l. x ∷ l) (all_left key (at x) xs (omega (arith, low)) rise.0)
+                ∙ ap (λ y. y ∷ xs) (sym same)
+                ∙ ap (λ l. found ∷ l) (sym (ap (λ b. cond b (x ∷ from_key (at found + 1) xs) (from_key (at found + 1) xs)) past
+                ∙ all_left (at found + 1) (at x) xs (omega (arith, same_key)) rise.0)),
+          )
+      by false is behind =
+          let rest_is = behind (e ∙ ap (λ b. cond b (Some x) (first_from key xs)) is) in
+          let high : at x < key = grind (arith, nat_tests, is) in
+          let past : nat_le (at found + 1) (at x) ≡ false = grind (arith, nat_tests, high, rest_is.0) in (
+            rest_is.0,
+            ap (λ b. cond b (x ∷ from_key key xs) (from_key key xs)) is ∙ rest_is.1
+                ∙ ap (λ l. found ∷ l) (sym (ap (λ b. cond b (x ∷ from_key (at found + 1) xs) (from_key (at found + 1) xs)) past)),
+          )
 
-    at : (b : Bool) → nat_le key k ≡ b
-        → (Some found ≡ rest → (key ≤ found) × (from_key key ks ≡ found ∷ from_key (found + 1) ks))
-        → (key ≤ found) × (from_key key (k ∷ ks) ≡ found ∷ from_key (found + 1) (k ∷ ks))
-    at true is behind =
-        let told : Some found ≡ Some k = e ∙ ap (λ b. cond b (Some k) rest) is in
-        let same : found ≡ k = ap (λ o. unwrap_or o 0) told in
-        let low : key ≤ k = grind (arith, nat_tests, is) in
-        let past : nat_le (found + 1) k ≡ false = grind (arith, nat_tests, same) in (
-          omega (arith, low, same),
-          ap (λ b. cond b (k ∷ from_key key ks) (from_key key ks)) is ∙ ap (λ l. k ∷ l) (all_left key k ks (omega (arith, low)) rise.0)
-              ∙ ap (λ n. n ∷ ks) (sym same)
-              ∙ ap (λ l. found ∷ l) (sym (ap (λ b. cond b (k ∷ from_key (found + 1) ks) (from_key (found + 1) ks)) past
-              ∙ all_left (found + 1) k ks (omega (arith, same)) rise.0)),
-        )
-    at false is behind =
-        let rest_is = behind (e ∙ ap (λ b. cond b (Some k) rest) is) in
-        let high : k < key = grind (arith, nat_tests, is) in
-        let past : nat_le (found + 1) k ≡ false = grind (arith, nat_tests, high, rest_is.0) in (
-          rest_is.0,
-          ap (λ b. cond b (k ∷ from_key key ks) (from_key key ks)) is ∙ rest_is.1
-              ∙ ap (λ l. found ∷ l) (sym (ap (λ b. cond b (k ∷ from_key (found + 1) ks) (from_key (found + 1) ks)) past)),
-        )
+  -- above all keys there is none
+  none_first : (key : ℕ) (xs : List X) → AllByRecursion (λ x. at x < key) xs → None ≡ first_from key xs
+  none_first key [] h = refl
+  none_first key (x ∷ xs) h = let test : nat_le key (at x) ≡ false = grind (arith, nat_tests, h.0) in
+      none_first key xs h.1 ∙ sym (ap (λ b. cond b (Some x) (first_from key xs)) test)
+
+-- a list that is gone through by keys, and what is told of each
+pub record Course (X Y : Type 0) : Type 0 where
+  pub at : X → ℕ
+  pub shown : X → Y
+  pub all : Records → List X
 
 -- the identifiers of a rank's records and of those above are those of the keys from its first on
 ids_of_keys : (rank : ℕ) (es : List Entry) → ArePlaces es → map (λ (e : Entry). e.0.1) (filter (λ (e : Entry). nat_le rank e.0.0) es)
-    ≡ map id_in (from_key (index_key_of rank 0) (map (λ (e : Entry). key_of e.0) es))
+    ≡ map id_in (from_key (λ k. k) (index_key_of rank 0) (map (λ (e : Entry). key_of e.0) es))
 ids_of_keys rank [] h = refl
 ids_of_keys rank (e ∷ es) h = at (nat_le rank e.0.0) refl (ids_of_keys rank es h.1)
   where
@@ -77,11 +95,11 @@ ids_of_keys rank (e ∷ es) h = at (nat_le rank e.0.0) refl (ids_of_keys rank es
     ids = map (λ (e : Entry). e.0.1) (filter (λ (e : Entry). nat_le rank e.0.0) es)
 
     keys : List ℕ
-    keys = from_key (index_key_of rank 0) (map (λ (e : Entry). key_of e.0) es)
+    keys = from_key (λ k. k) (index_key_of rank 0) (map (λ (e : Entry). key_of e.0) es)
 
     at : (b : Bool) → nat_le rank e.0.0 ≡ b → ids ≡ map id_in keys
         → map (λ (e : Entry). e.0.1) (filter (λ (e : Entry). nat_le rank e.0.0) (e ∷ es))
-        ≡ map id_in (from_key (index_key_of rank 0) (map (λ (e : Entry). key_of e.0) (e ∷ es)))
+        ≡ map id_in (from_key (λ k. k) (index_key_of rank 0) (map (λ (e : Entry). key_of e.0) (e ∷ es)))
     at true is behind =
         let test : nat_le (index_key_of rank 0) (key_of e.0) ≡ true = grind (arith, nat_tests, is, h.0.1) in
         let id : e.0.1 ≡ id_in (key_of e.0) = omega (arith, h.0.1) in
@@ -93,48 +111,97 @@ ids_of_keys rank (e ∷ es) h = at (nat_le rank e.0.0) refl (ids_of_keys rank es
         ap (λ b. map (λ (e : Entry). e.0.1) (cond b (e ∷ filter (λ (e : Entry). nat_le rank e.0.0) es) (filter (λ (e : Entry). nat_le rank e.0.0) es))) is
         ∙ behind ∙ sym (ap (λ b. map id_in (cond b (key_of e.0 ∷ keys) keys)) test)
 
--- what is listed so far, and at most so many of those from a key on, are the whole list
-pub record IsListed (rank most : ℕ) (ids : List ℕ) (left key : ℕ) (records : Records) : Type 0 where
-  pub range : AreInRange records
-  pub whole : ids_from rank most records ≡ ids ++ take left (map id_in (from_key key (keys_of records)))
+-- what is listed so far, and at most so many of those from a key on, are this list
+module _ {X Y : Type 0} (course : Course X Y) (whole : Records → List Y) where
+  abbrev rest_of : ℕ → ℕ → Records → List Y
+  rest_of left key records = take left (map course.shown (from_key course.at key (course.all records)))
 
-pub lists_first : (rank most : ℕ) (ids : List ℕ) (left key : ℕ) (records : Records) → AreInRange records → ids ≡ [] → left ≡ most
-    → key ≡ index_key_of rank 0 → IsListed rank most ids left key records
-lists_first rank most ids left key records range none all first_is = record {
+  pub record IsListed (list : List Y) (left key : ℕ) (records : Records) : Type 0 where
+    pub range : AreInRange records
+    pub whole_is : whole records ≡ list ++ rest_of left key records
+
+  module _ (list : List Y) (left key : ℕ) (records : Records) (so_far : IsListed list left key records) where
+    pub lists_none : None ≡ first (λ x. nat_le key (course.at x)) (course.all records) → list ≡ whole records
+    lists_none none = sym (so_far.whole_is ∙ ap (λ xs. list ++ take left (map course.shown xs)) (none_left course.at key (course.all records) none)
+        ∙ ap (λ l. list ++ l) (take_all left [] (omega arith)) ∙ append-nil list)
+
+    pub lists_all : left ≡ 0 → list ≡ whole records
+    lists_all nothing = sym (so_far.whole_is
+        ∙ ap (λ n. list ++ take n (map course.shown (from_key course.at key (course.all records)))) nothing ∙ append-nil list)
+
+    -- one more
+    pub lists_one : (n : ℕ) (found : X) (shown : Y) (more : List Y) → left ≡ suc n → AreRising course.at (course.all records)
+        → Some found ≡ first (λ x. nat_le key (course.at x)) (course.all records) → shown ≡ course.shown found
+        → more ≡ list ++ shown ∷ [] → IsListed more n (course.at found + 1) records
+    lists_one n found shown more is rise told shown_is pushed = record {
+      range = so_far.range;
+      whole_is = so_far.whole_is
+          ∙ ap (λ xs. list ++ take left (map course.shown xs)) (first_left course.at key found (course.all records) rise told).1
+          ∙ ap (λ m. list ++ take m (course.shown found ∷ map course.shown (from_key course.at (course.at found + 1) (course.all records)))) is
+          ∙ sym (append_assoc list (course.shown found ∷ []) (rest_of n (course.at found + 1) records))
+          ∙ ap (λ l. l ++ rest_of n (course.at found + 1) records) (sym (pushed ∙ ap (λ y. list ++ y ∷ []) shown_is));
+    }
+
+    -- behind the greatest key there is none
+    pub lists_last : AllByRecursion (λ x. course.at x < RANK_STEP * RANK_STEP) (course.all records) → RANK_STEP * RANK_STEP ≤ key
+        → list ≡ whole records
+    lists_last fit past = lists_none (none_first course.at key (course.all records)
+        (AllByRecursion-weaker (λ x. course.at x < RANK_STEP * RANK_STEP) (λ x. course.at x < key) (λ x lt. omega (arith, lt, past)) (course.all records) fit))
+
+-- the identifiers of the first records from a rank on
+abbrev pub ids_course : Course ℕ ℕ
+ids_course = record { at = λ k. k; shown = id_in; all = keys_of }
+
+pub ids_first : (rank most : ℕ) (ids : List ℕ) (left key : ℕ) (records : Records) → AreInRange records → ids ≡ [] → left ≡ most
+    → key ≡ index_key_of rank 0 → IsListed ids_course (ids_from rank most) ids left key records
+ids_first rank most ids left key records range none all first_is = record {
   range = range;
-  whole = ap (take most) (ids_of_keys rank (finite.entries (index_of records)) (are_places records range))
-      ∙ ap (λ n. take n (map id_in (from_key (index_key_of rank 0) (keys_of records)))) (sym all)
-      ∙ ap (λ k. take left (map id_in (from_key k (keys_of records)))) (sym first_is)
-      ∙ ap (λ l. l ++ take left (map id_in (from_key key (keys_of records)))) (sym none);
+  whole_is = ap (take most) (ids_of_keys rank (finite.entries (index_of records)) (are_places records range))
+      ∙ ap (λ n. take n (map id_in (from_key (λ k. k) (index_key_of rank 0) (keys_of records)))) (sym all)
+      ∙ ap (λ k. take left (map id_in (from_key (λ n. n) k (keys_of records)))) (sym first_is)
+      ∙ ap (λ l. l ++ take left (map id_in (from_key (λ k. k) key (keys_of records)))) (sym none);
 }
 
-module _ (rank most : ℕ) (ids : List ℕ) (left key : ℕ) (records : Records) (so_far : IsListed rank most ids left key records) where
-  pub lists_none : None ≡ first_key key records → ids ≡ ids_from rank most records
-  lists_none none = sym (so_far.whole ∙ ap (λ ks. ids ++ take left (map id_in ks)) (none_left key (keys_of records) none)
-      ∙ ap (λ l. ids ++ l) (take_all left [] (omega arith)) ∙ append-nil ids)
+-- all records, as they are printed
+abbrev pub records_course : Course (ℕ × ℕ) Printed
+records_course = record { at = λ e. e.0; shown = λ e. (id_in e.0, rank_in_key e.0, e.1); all = entries_of }
 
-  pub lists_all : left ≡ 0 → ids ≡ ids_from rank most records
-  lists_all nothing = sym (so_far.whole ∙ ap (λ n. ids ++ take n (map id_in (from_key key (keys_of records)))) nothing ∙ append-nil ids)
+shown_entries : (es : List Entry) → ArePlaces es
+    → map (λ (e : Entry). (e.0.1, e.0.0, e.1)) es ≡ map records_course.shown (map (λ (e : Entry). (key_of e.0, e.1)) es)
+shown_entries [] h = refl
+shown_entries (e ∷ es) h =
+    let id : e.0.1 ≡ id_in (key_of e.0) = omega (arith, h.0.1) in
+    let rank : e.0.0 ≡ rank_in_key (key_of e.0) = omega (arith, h.0.1) in
+    λ i. (id i, rank i, e.1) ∷ shown_entries es h.1 i
 
-  -- one more
-  pub lists_one : (n found id : ℕ) (more : List ℕ) → left ≡ suc n → Some found ≡ first_key key records → id ≡ id_in found
-      → more ≡ ids ++ id ∷ [] → IsListed rank most more n (found + 1) records
-  lists_one n found id more is told id_is pushed = record {
-    range = so_far.range;
-    whole = so_far.whole
-        ∙ ap (λ ks. ids ++ take left (map id_in ks)) (first_left key found (keys_of records) (keys_rise records so_far.range) told).1
-        ∙ ap (λ m. ids ++ take m (id_in found ∷ map id_in (from_key (found + 1) (keys_of records)))) is
-        ∙ sym (append_assoc ids (id_in found ∷ []) (take n (map id_in (from_key (found + 1) (keys_of records)))))
-        ∙ ap (λ l. l ++ take n (map id_in (from_key (found + 1) (keys_of records)))) (sym (pushed ∙ ap (λ i. ids ++ i ∷ []) id_is));
-  }
+all_from : (es : List Entry) → from_key (λ (e : ℕ × ℕ). e.0) 0 (map (λ (e : Entry). (key_of e.0, e.1)) es) ≡ map (λ (e : Entry). (key_of e.0, e.1)) es
+all_from [] = refl
+all_from (e ∷ es) =
+    let test : nat_le 0 (key_of e.0) ≡ true = grind (arith, nat_tests) in
+    ap (λ b. cond b ((key_of e.0, e.1) ∷ from_key (λ (p : ℕ × ℕ). p.0) 0 (map (λ (p : Entry). (key_of p.0, p.1)) es))
+    (from_key (λ (p : ℕ × ℕ). p.0) 0 (map (λ (p : Entry). (key_of p.0, p.1)) es))) test
+    ∙ ap (λ l. (key_of e.0, e.1) ∷ l) (all_from es)
 
--- behind the greatest key there is none
-pub lists_last : (rank most : ℕ) (ids : List ℕ) (left found : ℕ) (records : Records) → IsListed rank most ids left (found + 1) records
-    → RANK_STEP * RANK_STEP ≤ found + 1 → ids ≡ ids_from rank most records
-lists_last rank most ids left found records so_far past =
-    lists_none rank most ids left (found + 1) records so_far (no_first (keys_of records) (keys_fit records so_far.range))
-  where
-    no_first : (ks : List ℕ) → AllByRecursion (λ k. k < RANK_STEP * RANK_STEP) ks → None ≡ first (λ k. nat_le (found + 1) k) ks
-    no_first [] h = refl
-    no_first (k ∷ ks) h = let test : nat_le (found + 1) k ≡ false = grind (arith, nat_tests, h.0, past) in
-        no_first ks h.1 ∙ sym (ap (λ b. cond b (Some k) (first (λ n. nat_le (found + 1) n) ks)) test)
+-- no store has more records than blocks
+all_printed : (shape : RecordShape) (words : List ℕ) (records : Records) → Stands shape words records
+    → take shape.blocks (printed_of records) ≡ printed_of records
+all_printed shape words records stand =
+    let keyed : finite.entries stand.trees.index ≡ entries_of records = entries_keyed records stand.range stand.trees stand.held in
+    let count : length (printed_of records) ≡ finite.len stand.trees.index =
+    length-map (finite.entries (index_of records)) (λ (e : Entry). (e.0.1, e.0.0, e.1))
+    ∙ sym (length-map (finite.entries (index_of records)) (λ (e : Entry). (key_of e.0, e.1)))
+    ∙ ap length (sym keyed) ∙ sym (len-entries stand.trees.index) in
+    take_all shape.blocks (printed_of records) (omega (arith, count, trees_counted shape words stand.trees stand.parts))
+
+pub records_first : (shape : RecordShape) (words : List ℕ) (records : Records) → Stands shape words records
+    → (list : List Printed) (left key : ℕ) → list ≡ [] → left ≡ shape.blocks → key ≡ 0
+    → IsListed records_course printed_of list left key records
+records_first shape words records stand list left key none all first_is = record {
+  range = stand.range;
+  whole_is = sym (all_printed shape words records stand)
+      ∙ ap (take shape.blocks) (shown_entries (finite.entries (index_of records)) (are_places records stand.range)
+      ∙ ap (map records_course.shown) (sym (all_from (finite.entries (index_of records)))))
+      ∙ ap (λ n. take n (map records_course.shown (from_key records_course.at 0 (entries_of records)))) (sym all)
+      ∙ ap (λ k. take left (map records_course.shown (from_key records_course.at k (entries_of records)))) (sym first_is)
+      ∙ ap (λ l. l ++ take left (map records_course.shown (from_key records_course.at key (entries_of records)))) (sym none);
+}

@@ -273,7 +273,7 @@ run_means shape script answer kept old new where_done runs = record {
 }
 
 -- a run that is not done leaves the records
-run_stays : (records : Records) (run : Run) → is_done (outcome_from records run).0 ≡ false → (outcome_from records run).1 ≡ records
+pub run_stays : (records : Records) (run : Run) → is_done (outcome_from records run).0 ≡ false → (outcome_from records run).1 ≡ records
 run_stays records (Ends values after) is = cc
 run_stays records (Stops stop) is = refl
 

@@ -7,13 +7,13 @@ use Rattle.txn_alloc.specs.declared.put.Put.{Put}
 use Rattle.txn_alloc.specs.EntryMaps.{Entries, HasMap, HasMapApart, Finds}
 use Rattle.txn_alloc.proofs.Maps.Parts.{held}
 use Rattle.txn_tree_map.specs.Trees.{tree_part}
-use Rattle.txn_tree_map.specs.Firsts.{FindsFirst}
+use Rattle.txn_tree_map.specs.Firsts.{FindsFirst, FindsFirstKey}
 use Rattle.txn_records.specs.declared.shape.RecordShape.{RecordShape}
 use Rattle.txn_records.specs.declared.layout.Order.{Order}
 use Rattle.txn_records.specs.declared.layout.Order.TheVariants.{ById, ByRank}
 use Rattle.txn_records.specs.Layout.{arena_of, root_of, tree_of}
 use Rattle.txn_records.specs.Standing.{Trees, HasTrees, HasSomeTrees, entries_in}
-use Rattle.txn_records.specs.Access.{first_in, is_used_up, put_answer, put_by, with_entries}
+use Rattle.txn_records.specs.Access.{first_in, first_key_in, is_used_up, put_answer, put_by, with_entries}
 use Rattle.txn_records.proofs.Apart.{three_among}
 use Rattle.txn_records.proofs.Two.{HasTwo, IsPut, IsCut, apart, counted, put_two, cut_two}
 
@@ -106,6 +106,13 @@ module _ (shape : RecordShape) (o : Order) where
   pub tells_first : (key : ℕ) (answer : Option (ℕ × ℕ)) (x y : List ℕ) → FindsFirst (tree_of shape o) key answer x y
       → Tells (HasTrees shape) (λ trees. first_in key (entries_in o trees)) answer x y
   tells_first key answer x y finds = record {
+    same = finds.same;
+    told = λ trees h. let two = two_of shape o x trees h in finds.first (entries_in o trees) two.used two.tree;
+  }
+
+  pub tells_first_key : (key : ℕ) (answer : Option ℕ) (x y : List ℕ) → FindsFirstKey (tree_of shape o) key answer x y
+      → Tells (HasTrees shape) (λ trees. first_key_in key (entries_in o trees)) answer x y
+  tells_first_key key answer x y finds = record {
     same = finds.same;
     told = λ trees h. let two = two_of shape o x trees h in finds.first (entries_in o trees) two.used two.tree;
   }

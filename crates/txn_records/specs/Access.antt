@@ -36,6 +36,10 @@ put_by Full key value entries = entries
 abbrev pub first_in : ℕ → Entries → Option (ℕ × ℕ)
 first_in key entries = find (λ e. nat_le key e.0) (finite.entries entries)
 
+-- the first key from one on
+abbrev pub first_key_in : ℕ → Entries → Option ℕ
+first_key_in key entries = find (λ k. nat_le key k) (finite.keys entries)
+
 -- this holds, or a new key found no room
 abbrev pub UnlessFull : Put → Type 0 → Type 0
 UnlessFull New P = P

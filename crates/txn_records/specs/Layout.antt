@@ -1,5 +1,5 @@
 -- Where the parts of a record store lie in words, and under which keys the index holds data.
-use Rattle.std.specs.Prelude.{ℕ, ◌+◌, ◌*◌, ◌%◌}
+use Rattle.std.specs.Prelude.{ℕ, ◌+◌, ◌*◌, ◌/◌, ◌%◌}
 use Rattle.txn_alloc.specs.declared.arena.Arena.{Arena}
 use Rattle.txn_tree_map.specs.declared.map.TreeMap.{TreeMap}
 use Rattle.txn_records.specs.declared.shape.RecordShape.{RecordShape}
@@ -31,3 +31,7 @@ index_key_of rank id = rank * RANK_STEP + id
 -- the identifier in such a key
 abbrev pub id_in : ℕ → ℕ
 id_in key = key % RANK_STEP
+
+-- the rank in such a key
+abbrev pub rank_in_key : ℕ → ℕ
+rank_in_key key = key / RANK_STEP

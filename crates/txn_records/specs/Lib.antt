@@ -4,4 +4,5 @@ pub mod Access
 pub mod Statements
 pub mod Operating
 pub mod Meaning
+pub mod Days
 pub mod Inner

@@ -1,7 +1,7 @@
 //! Where the parts of a record store lie in words, and under which keys the index holds data.
 
 ghost use Rattle.std.specs.Prelude.{◌≡◌};
-ghost use Rattle.txn_records.specs.Layout.{arena_of, tree_of, index_key_of, id_in};
+ghost use Rattle.txn_records.specs.Layout.{arena_of, tree_of, index_key_of, id_in, rank_in_key};
 
 use crate::shape::RecordShape;
 use txn_alloc::Arena;
@@ -71,4 +71,11 @@ pub fn id_of(key: u64) -> u32
     ensures { result ≡ id_in key }
 {
     (key % RANK_STEP) as u32
+}
+
+/// The rank in a key of the index.
+pub fn rank_of(key: u64) -> u32
+    ensures { result ≡ rank_in_key key }
+{
+    (key / RANK_STEP) as u32
 }

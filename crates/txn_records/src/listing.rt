@@ -10,7 +10,7 @@ ghost use Rattle.txn_records.specs.Inner.Scripts.{HandsOn};
 
 use crate::layout::{Order, id_of, index_key};
 use crate::shape::RecordShape;
-use crate::trees::first_in;
+use crate::trees::first_key_in;
 use record_text::Ids;
 use std::alloc::Global;
 use txn_words::{Stop, Words};
@@ -24,10 +24,7 @@ fn next_key<W: Words>(w: &mut W, shape: &RecordShape, key: u64) -> Result<Option
     ensures stands { OnOk result (InEachState W.Words W.Shape.Shape w.new (IsGoodFor shape.now)) }
     ensures goes_on { GoesOn W.Words w.old w.new result }
 {
-    match first_in(w, shape, Order::ByRank, key)? {
-        Some((found, _)) => Ok(Some(found)),
-        None => Ok(None),
-    }
+    first_key_in(w, shape, Order::ByRank, key)
 }
 
 /// The identifiers of the first records of at least this rank, by rank and then by identifier: at most so many.

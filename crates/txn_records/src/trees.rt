@@ -5,7 +5,7 @@ ghost use Rattle.std.specs.FinMap as finite;
 ghost use Rattle.txn_words.specs.Access.{Tells, TellsAndChanges};
 ghost use Rattle.txn_words.specs.Calls.{IsReady, GoesOn, InEachState, LeadsTo};
 ghost use Rattle.txn_records.specs.Standing.{HasTrees, HasSomeTrees, entries_in};
-ghost use Rattle.txn_records.specs.Access.{first_in, is_used_up, put_answer, put_by, with_entries};
+ghost use Rattle.txn_records.specs.Access.{first_in, first_key_in, is_used_up, put_answer, put_by, with_entries};
 
 use crate::layout::Order;
 use crate::shape::RecordShape;
@@ -44,6 +44,23 @@ pub fn first_in<W: Words>(
     ensures goes_on { GoesOn W.Words w.old w.new result }
 {
     shape.tree(order).first_from(w, key)
+}
+
+/// The first key from one on. No value is read.
+pub fn first_key_in<W: Words>(
+    w: &mut W,
+    shape: &RecordShape,
+    order: Order,
+    key: u64,
+) -> Result<Option<u64>, Stop>
+    requires ready { IsReady W.Words w.old }
+    requires trees { InEachState W.Words W.Shape.Shape w.old (HasSomeTrees shape.now) }
+    ensures told { IfOk result (λ answer. LeadsTo W.Words W.Shape.Shape w.old w.new
+        (Tells (HasTrees shape.now) (λ trees. first_key_in key (entries_in order trees)) answer)) }
+    ensures trees { OnOk result (InEachState W.Words W.Shape.Shape w.new (HasSomeTrees shape.now)) }
+    ensures goes_on { GoesOn W.Words w.old w.new result }
+{
+    shape.tree(order).first_key_from(w, key)
 }
 
 /// Puts a value at a key. A new key takes a block, if one is free.

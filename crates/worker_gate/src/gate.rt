@@ -41,8 +41,9 @@ pub struct Point {
 /// Who is told of each point that a transaction comes to, by the thread that runs it.
 ///
 /// A gate may wait, for another thread too. Whatever it does, no contract of a transaction depends on it: `at` is lent
-/// nothing that a transaction works on, and no clause says which points are told.
-pub trait Gate: Sync {
+/// nothing that a transaction works on, and no clause says which points are told. A gate that several threads tell is
+/// `Sync` too.
+pub trait Gate {
     /// A transaction came to this point. It goes on when the call returns.
     fn at<R: Wait>(&self, rt: &R, point: Point);
 }

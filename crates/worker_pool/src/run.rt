@@ -88,7 +88,7 @@ fn seat_workers<R: Wait, G: Gate>(
 }
 
 // Each worker on a thread of its own.
-fn work_all<R: Threads + Wait + Sync, G: Gate>(
+fn work_all<R: Threads + Wait + Sync, G: Gate + Sync>(
     shop: &Workshop<R, G>,
     workers: &mut [CachePadded<Worker>],
 )
@@ -233,7 +233,7 @@ fn last_round<R: Wait, G: Gate>(
 }
 
 // All scripts of the day, each run once.
-fn run_all<R: Threads + Wait + Sync, G: Gate>(
+fn run_all<R: Threads + Wait + Sync, G: Gate + Sync>(
     shop: &Workshop<R, G>,
     passes: Vec<Pass<BooksShape>>,
     owners: Vec<Owner>,
@@ -325,7 +325,7 @@ fn end_day(
 /// Each caller is run whole by one worker, its scripts in their order. Where a worker finds no memory, the others go on
 /// to their end, and there is no day; the table is dropped then. A worker may wait for others: that a wait ends, no
 /// clause says.
-pub fn run_callers<R: Threads + Wait + Sync, G: Gate>(
+pub fn run_callers<R: Threads + Wait + Sync, G: Gate + Sync>(
     rt: &R,
     alloc: Global,
     desk: Desk<BooksShape>,

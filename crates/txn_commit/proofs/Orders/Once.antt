@@ -32,7 +32,7 @@ in_front : {X : Type 0} (b : Bool) (x y : X) (fs : List X) → IsIn x fs → IsI
 in_front true x y fs t = (suc t.0, t.1)
 in_front false x y fs t = t
 
-in_filter : {X : Type 0} (p : X → Bool) (xs : List X) (x : X) → p x ≡ true → IsIn x xs → IsIn x (filter p xs)
+pub in_filter : {X : Type 0} (p : X → Bool) (xs : List X) (x : X) → p x ≡ true → IsIn x xs → IsIn x (filter p xs)
 in_filter p [] x passes t = t
 in_filter p (y ∷ ys) x passes (zero, e) =
     subst (λ b. IsIn x (cond b (y ∷ filter p ys) (filter p ys))) (sym (ap p (same_first y x e) ∙ passes)) (zero, e)

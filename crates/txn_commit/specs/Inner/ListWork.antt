@@ -1,5 +1,5 @@
 -- What one worker did with lists of jobs.
-use Rattle.std.specs.Prelude.{◌≡◌, ℕ, ◌+◌, ◌<◌, ◌≤◌, ◌%◌, Bool, List, [], ◌∷◌, ◌++◌, length, map, All, AllPairs}
+use Rattle.std.specs.Prelude.{◌≡◌, ℕ, ◌+◌, ◌<◌, ◌≤◌, ◌%◌, Bool, List, [], ◌∷◌, ◌++◌, length, map, All}
 use Rattle.std.specs.List.{range_with_len}
 use Rattle.history_model.specs.declared.entry.Entry.{Entry}
 use Rattle.history_model.specs.declared.view.View.{View}
@@ -58,8 +58,7 @@ module _ {A : Type 0} where
       pub seen_are : view.seen ≡ map (λ (x : Made A). x.entry) made
       pub each : All (IsMade seats seat) made
       pub calls : view.call ≡ length done
-      pub rising : AllPairs (λ (x y : Ran A). x.call < y.call) done
-      pub late : All (λ (x : Ran A). x.call ≤ length done) done
+      pub counted : map (λ (ran : Ran A). ran.call) done ≡ range_with_len 1 (length done)
 
     -- of the first n callers a pass ran those that are its own, since it began; so it made no more calls than these have jobs
     pub record IsUnderWay (jobs : ℕ → ℕ) (workers seats : ℕ) (began : PassView) (n : ℕ) (pass : PassView) (done : List (Ran A)) : Type 0 where

@@ -132,21 +132,25 @@ module _ (map : TreeMap) (s : List ℕ) where
     pub nearest_from : least ≤ node.key
     nearest_from = omega (arith, first_from, h.first.4)
 
+    pub nearest_cell : IsNext map least node.key h.first.0.value s
+    nearest_cell = record {
+      tree = h.tree;
+      is_at = h.is_at;
+      lows = h.lows;
+      cell = h.first.0;
+      highs = h.first.1;
+      cells = node_cells;
+      low = h.low;
+      from = first_from;
+      is_key = h.first.4;
+      is_value = refl;
+    }
+
     pub nearest_next : (value : ℕ) → slice_get s (block_at map.arena node.block + 1) ≡ Some value → IsNext map least node.key value s
     nearest_next value there =
         let k = cell_node h.tree h.lows h.first.1 h.first.0 h.is_at node_cells in
-        record {
-          tree = h.tree;
-          is_at = h.is_at;
-          lows = h.lows;
-          cell = h.first.0;
-          highs = h.first.1;
-          cells = node_cells;
-          low = h.low;
-          from = first_from;
-          is_key = h.first.4;
-          is_value = same_Some (h.first.0.value) value (sym k.1 ∙ ap (λ d. slice_get s (block_at map.arena d + 1)) h.first.3 ∙ there);
-        }
+        subst (λ v. IsNext map least node.key v s)
+        (same_Some (h.first.0.value) value (sym k.1 ∙ ap (λ d. slice_get s (block_at map.arena d + 1)) h.first.3 ∙ there)) nearest_cell
 
     pub nearest_past : (high : ℕ) → high < node.key → HasNoneTo map least high s
     nearest_past high lt =

@@ -1,20 +1,11 @@
-use Rattle.std.proofs.Common.{◌≡◌, ◌∷◌, [], codes, rules, map, sym, ◌∙◌, arith}
-use Rattle.std.specs.String.{string_bytes}
 use Rattle.std.proofs.lemmas.Option.{IfSome_then}
-use Rattle.twoplsf.proofs.Commands.{two_of, run_command, run_word, if_none}
+use Rattle.twoplsf.proofs.Commands.{if_none}
 use Rattle.twoplsf.proofs.command.workers_of.Goals as goal
 
 pub returns-clause-some : goal.returns-clause-some
 returns-clause-some c =
-    let run_is : string_bytes c.run-item.result ≡ codes "run" = search rules in
-    let are = two_of string_bytes c.args.words.now c.run-item.result c.workers-item.result (omega arith) c.run-item.is
-    c.workers-item.is ∙ (λ i. run_is i ∷ sym c.as_bytes.ensures.value i ∷ []) in
-    IfSome_then c.number_within.result c.number_within.ensures.some (run_command (map string_bytes c.args.words.now) c.as_bytes.result.now are)
+    IfSome_then c.workers_behind.result c.workers_behind.ensures.some (λ w is. record { words_are = is.words_are; range = is.range })
 
 pub returns-clause-none : goal.returns-clause-none
-returns-clause-none c =
-    let run_is : string_bytes c.run-item.result ≡ codes "run" = search rules in
-    let are = two_of string_bytes c.args.words.now c.run-item.result c.workers-item.result (omega arith) c.run-item.is
-    c.workers-item.is ∙ (λ i. run_is i ∷ sym c.as_bytes.ensures.value i ∷ []) in
-    if_none c.number_within.result _ _ (λ none run.
-    none run.0 (run_word (map string_bytes c.args.words.now) c.as_bytes.result.now are run.0 run.1) run.1.range) c.number_within.ensures.none
+returns-clause-none c = if_none c.workers_behind.result _ _
+    (λ none run. none run.0 (record { words_are = run.1.words_are; range = run.1.range })) c.workers_behind.ensures.none

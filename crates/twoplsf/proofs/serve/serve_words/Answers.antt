@@ -12,8 +12,8 @@ use Rattle.twoplsf.specs.Command.{IsValidCommand}
 use Rattle.twoplsf.specs.Making.{IsMakingRun}
 use Rattle.script_reader.specs.declared.limits.TheConstants.{MOST_INPUT_BYTES}
 use Rattle.twoplsf.specs.declared.status.Status.TheVariants as status
-use Rattle.twoplsf.specs.Answer.{refused_words, refused_size}
-use Rattle.twoplsf.proofs.Served.{none_there, not_made, read_by, read_is, took_text, HasAnswered, HasPrinted, printed_text, printed_day, printed_has_day}
+use Rattle.twoplsf.specs.Answer.{day_of, records_of, refused_words, refused_size}
+use Rattle.twoplsf.proofs.Served.{none_there, not_made, read_by, read_is, took_text, HasAnswered, HasPrinted, printed_text, printed_day, printed_has_day, printed_records, printed_has_records}
 use Rattle.twoplsf.proofs.Makings.{made_by, made_is, not_read, runs_of, adds_of, day_of_making, run_of_making, took_making}
 use Rattle.twoplsf.proofs.Makings.{done_written, none_of_making, no_other_end, told_done}
 use Rattle.twoplsf.proofs.serve.serve_words.Given.{Over}
@@ -33,7 +33,7 @@ serve_making-requires g c = (
 
 pub returns-in_default-clause-text : goal.returns-in_default-clause-text
 returns-in_default-clause-text g c =
-    let none : IsValidCommand (map string_bytes c.args.words.now) → ⊥ = search rules in
+    let none : IsValidCommand (map string_bytes c.args.words.now) → ⊥ = c.in_default.ensures.none in
     rw c.without_day.ensures.status (took_text c.finish-status.result status.BadWords (map string_bytes c.args.words.now)
     (g.S.Source.left c.args.source.now) (g.S.Source.left c.args.source.now) (g.K.Sink.taken c.args.sink.now)
     (g.K.Sink.taken c.finish-status.new.sink) refused_words _ (none, refl) c.finish-status.ensures)
@@ -131,7 +131,7 @@ answered g c = record {
 
 -- it was printed or not
 printed : (g : Over) (c : goal.After-drop-bytes g)
-    → HasPrinted c.in-Ok-answer_by.answer c.print_answer.result.status c.print_answer.result.day
+    → HasPrinted day_of c.in-Ok-answer_by.answer c.print_answer.result.status c.print_answer.result.day
     (g.K.Sink.taken c.args.sink.now) (g.K.Sink.taken c.print_answer.new.sink)
     (Rose (g.K.Sink.faults c.args.sink.now) (g.K.Sink.faults c.print_answer.new.sink))
 printed g c = record { wrote = c.print_answer.ensures.text; done = c.print_answer.ensures.done; other = c.print_answer.ensures.other }
@@ -145,14 +145,37 @@ returns-in-Ok-answer_by-clause-day g c run = printed_day _ _ _ _ _ _ _ _ _ _ _ (
 pub returns-in-Ok-answer_by-clause-has_day : goal.returns-in-Ok-answer_by-clause-has_day
 returns-in-Ok-answer_by-clause-has_day g c = printed_has_day _ _ _ _ _ _ _ _ _ _ _ (answered g c) (printed g c)
 
+printed_store : (g : Over) (c : goal.After-drop-bytes g)
+    → HasPrinted records_of c.in-Ok-answer_by.answer c.print_answer.result.status c.print_answer.result.records
+    (g.K.Sink.taken c.args.sink.now) (g.K.Sink.taken c.print_answer.new.sink)
+    (Rose (g.K.Sink.faults c.args.sink.now) (g.K.Sink.faults c.print_answer.new.sink))
+printed_store g c =
+    record { wrote = c.print_answer.ensures.text; done = c.print_answer.ensures.done_records; other = c.print_answer.ensures.other_records }
+
+pub returns-in-Ok-answer_by-clause-records : goal.returns-in-Ok-answer_by-clause-records
+returns-in-Ok-answer_by-clause-records g c = printed_records _ _ _ _ _ _ _ _ _ _ _ (answered g c) (printed_store g c)
+
+pub returns-in-Ok-answer_by-clause-has_records : goal.returns-in-Ok-answer_by-clause-has_records
+returns-in-Ok-answer_by-clause-has_records g c = printed_has_records _ _ _ _ _ _ _ _ _ _ _ (answered g c) (printed_store g c)
+
 pub returns-in-Ok-answer_by-clause-unread : goal.returns-in-Ok-answer_by-clause-unread
 returns-in-Ok-answer_by-clause-unread g c none = absurd (none (read_is (map string_bytes c.args.words.now) c.in-Read.is c.in-Some.ensures.some))
 
 pub returns-in-Ok-answer_by-clause-words_first : goal.returns-in-Ok-answer_by-clause-words_first
 returns-in-Ok-answer_by-clause-words_first g c none = absurd (none (inl (read_is (map string_bytes c.args.words.now) c.in-Read.is c.in-Some.ensures.some)))
 
+pub returns-in-Ok-answer_by-clause-drill_day : goal.returns-in-Ok-answer_by-clause-drill_day
+returns-in-Ok-answer_by-clause-drill_day g c drill =
+    absurd (not_made (map string_bytes c.args.words.now) c.in-Read.is c.in-Some.ensures.some (inr (inl drill)))
+
 pub returns-in-Ok-answer_by-clause-has_cells : goal.returns-in-Ok-answer_by-clause-has_cells
 returns-in-Ok-answer_by-clause-has_cells g c = (
   λ some. absurd (none_there c.print_answer.result.cells c.print_answer.ensures.cells some),
   λ both. absurd (not_made (map string_bytes c.args.words.now) c.in-Read.is c.in-Some.ensures.some (inr (inr both.0))),
+)
+
+pub returns-in-Make-clause-has_records : goal.returns-in-Make-clause-has_records
+returns-in-Make-clause-has_records g c = (
+  λ some. absurd (none_there c.serve_making.result.records c.serve_making.ensures.records some),
+  λ both. absurd (not_read (map string_bytes c.args.words.now) c.in-Make.is c.in-Some.ensures.some (inr (inr both.0))),
 )

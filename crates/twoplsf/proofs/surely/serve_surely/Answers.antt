@@ -5,6 +5,7 @@ use Rattle.io_ends.specs.Counts.{Rose}
 use Rattle.script_reader.specs.Grammar.{IsValidInput}
 use Rattle.script_reader.specs.declared.limits.TheConstants.{MOST_INPUT_BYTES}
 use Rattle.twoplsf.specs.Answer.{HaveInputFor, IsDayFor}
+use Rattle.twoplsf.specs.Records.{IsRecordsDayFor, IsRecordsText}
 use Rattle.twoplsf.proofs.surely.serve_surely.Goals as goal
 
 -- a count that is 0 before and after did not rise
@@ -37,3 +38,14 @@ returns-clause-day g c run =
     let given : c.args.bytes.items ≡ c.new-source.result.left = sym (ap (λ s. s.left) c.new-source.ensures) in
     IfSome_then c.serve.result.day (c.serve.ensures.day run)
     (λ day read. subst (λ (bytes : List ℕ). IsDayFor (map string_bytes c.args.words.now) bytes None None day) (sym (given ∙ read.told)) read.holds)
+
+pub returns-clause-run_records : goal.returns-clause-run_records
+returns-clause-run_records g c records within spelled =
+    let given : c.args.bytes.items ≡ c.new-source.result.left = sym (ap (λ s. s.left) c.new-source.ensures) in
+    c.serve.ensures.complete_records records (subst (λ (l : List ℕ). length l ≤ MOST_INPUT_BYTES) given within) (subst IsRecordsText given spelled) never never
+
+pub returns-clause-records : goal.returns-clause-records
+returns-clause-records g c =
+    let given : c.args.bytes.items ≡ c.new-source.result.left = sym (ap (λ s. s.left) c.new-source.ensures) in
+    IfSome_then c.serve.result.records c.serve.ensures.records
+    (λ day read. subst (λ (bytes : List ℕ). IsRecordsDayFor (map string_bytes c.args.words.now) bytes None None day) (sym (given ∙ read.told)) read.holds)

@@ -5,6 +5,7 @@ use Rattle.txn_words.specs.Calls.{GoesOn}
 use Rattle.txn_words.proofs.CallLaws.{goes_then, goes_as}
 use Rattle.books_model.specs.declared.reply.Value.TheVariants as value
 use Rattle.books_model.specs.Interpreter.{Gives}
+use Rattle.txn_books.specs.declared.trading.Found.{Found}
 use Rattle.txn_books.proofs.OnBooks.Accounts.{held_told}
 use Rattle.txn_books.proofs.OnBooks.Turning.{unlooked, looked, look_then, answers, look_turn, comes, each_looked}
 use Rattle.txn_books.proofs.OnBooks.TradeSides.{found_side, no_side, may_exchange, of_exchange, left_exchanged, trade_same, trade_buyer_absent}
@@ -117,15 +118,17 @@ exchange-requires-clause-buyer_held g c =
     let second = c.in_ok-sells.ensures in
     let third = c.in_ok-price.ensures in
     let shape = c.args.shape.now in
-    held_told g.W.Words g.W.Shape.Shape shape _ _ c.args.buyer c.in-Some.buys.block _ _ third.goes_on.shape third.goes_on.begins
+    rw c.left_with-buys.ensures
+    (held_told g.W.Words g.W.Shape.Shape shape _ _ c.args.buyer c.in-Some.buys.block _ _ third.goes_on.shape third.goes_on.begins
     (held_told g.W.Words g.W.Shape.Shape shape _ _ c.args.buyer c.in-Some.buys.block _ _ second.goes_on.shape second.goes_on.begins
-    (rw c.in-Some.is at c.in_ok-buys.ensures.held) second.told) third.told
+    (rw c.in-Some.is at c.in_ok-buys.ensures.held) second.told) third.told)
 
 pub exchange-requires-clause-seller_held : goal.exchange-requires-clause-seller_held
 exchange-requires-clause-seller_held g c =
     let third = c.in_ok-price.ensures in
-    held_told g.W.Words g.W.Shape.Shape c.args.shape.now _ _ c.args.seller c.in-Some-2.sells.block _ _ third.goes_on.shape third.goes_on.begins
-    (rw c.in-Some-2.is at c.in_ok-sells.ensures.held) third.told
+    rw c.left_with-sells.ensures
+    (held_told g.W.Words g.W.Shape.Shape c.args.shape.now _ _ c.args.seller c.in-Some-2.sells.block _ _ third.goes_on.shape third.goes_on.begins
+    (rw c.in-Some-2.is at c.in_ok-sells.ensures.held) third.told)
 
 pub exchange-requires-clause-may : goal.exchange-requires-clause-may
 exchange-requires-clause-may g c =
@@ -134,7 +137,8 @@ exchange-requires-clause-may g c =
     (looked c.in_ok-buys.ensures.goes_on (rw c.in-Some.is at c.in_ok-buys.ensures.told))
     (rw c.in-Some-2.is at c.in_ok-sells.ensures.told)) (rw c.in-Some-3.is at c.in_ok-price.ensures.told)) c.requires.stands
     (λ books sized k. may_exchange books c.args.buyer c.args.seller c.args.instrument c.in-Some.buys.side c.in-Some-2.sells.side _
-    _ c.in-Some-3.price refl refl (found_side books c.args.buyer c.args.instrument c.in-Some.buys.side
+    _ c.in-Some-3.price (ap (λ (f : Found). f.side.account) c.left_with-buys.ensures)
+    (ap (λ (f : Found). f.side.account) c.left_with-sells.ensures) (found_side books c.args.buyer c.args.instrument c.in-Some.buys.side
     (map.get books.accounts c.args.buyer) k.0.0).0
     (found_side books c.args.seller c.args.instrument c.in-Some-2.sells.side (map.get books.accounts c.args.seller) k.0.1) k.1
     (omega (arith, c.requires.amount.0, c.if-sells-amount.false)))
@@ -153,7 +157,8 @@ returns-then-not-branch g c = record {
       (found_side books c.args.buyer c.args.instrument c.in-Some.buys.side (map.get books.accounts c.args.buyer) k.0.0.0)
       (found_side books c.args.seller c.args.instrument c.in-Some-2.sells.side (map.get books.accounts c.args.seller)
       k.0.0.1) c.in-Some-3.price k.0.1 c.if-sells-amount.false c.if-buys-cost.false
-      c.if-sells-cost-gt-GREATEST_CASH.false c.if-buys-amount-gt-GREATEST_QUANTITY.false c.requires.amount.0 _ k.1.0 c.if-not-branch.true);
+      c.if-sells-cost-gt-GREATEST_CASH.false c.if-buys-amount-gt-GREATEST_QUANTITY.false c.requires.amount.0 _
+      (rw (c.left_with-buys.ensures, c.left_with-sells.ensures) at k.1.0) c.if-not-branch.true);
   stands = c.in_ok-exchange.ensures.stands;
   goes_on = goes_as (goes_then (goes_then (goes_then c.in_ok-buys.ensures.goes_on c.in_ok-sells.ensures.goes_on)
       c.in_ok-price.ensures.goes_on) c.in_ok-exchange.ensures.goes_on) (search rules);
@@ -173,8 +178,9 @@ returns g c = record {
       (found_side books c.args.buyer c.args.instrument c.in-Some.buys.side (map.get books.accounts c.args.buyer) k.0.0.0)
       (found_side books c.args.seller c.args.instrument c.in-Some-2.sells.side (map.get books.accounts c.args.seller)
       k.0.0.1) c.in-Some-3.price k.0.1 c.if-sells-amount.false c.if-buys-cost.false
-      c.if-sells-cost-gt-GREATEST_CASH.false c.if-buys-amount-gt-GREATEST_QUANTITY.false c.requires.amount.0 _ k.1.0
-      c.if-not-branch.false ∙ ap (Gives value.Done) (left_exchanged _ _ _ books after _ c.if-not-branch.false k.1.1));
+      c.if-sells-cost-gt-GREATEST_CASH.false c.if-buys-amount-gt-GREATEST_QUANTITY.false c.requires.amount.0 _
+      (rw (c.left_with-buys.ensures, c.left_with-sells.ensures) at k.1.0) c.if-not-branch.false ∙ ap (Gives value.Done)
+      (left_exchanged _ _ _ books after _ c.if-not-branch.false (rw (c.left_with-buys.ensures, c.left_with-sells.ensures) at k.1.1)));
   stands = c.in_ok-exchange.ensures.stands;
   goes_on = goes_as (goes_then (goes_then (goes_then c.in_ok-buys.ensures.goes_on c.in_ok-sells.ensures.goes_on)
       c.in_ok-price.ensures.goes_on) c.in_ok-exchange.ensures.goes_on) (search rules);

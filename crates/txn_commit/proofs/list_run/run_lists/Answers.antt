@@ -39,6 +39,7 @@ returns g c =
       once = whole.once;
       seats = whole.dealt;
       entries = whole.recorded;
+      calls = whole.counted;
       below = whole.below;
       meant = whole.meant;
       run = whole.run;

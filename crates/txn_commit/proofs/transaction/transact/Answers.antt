@@ -9,7 +9,7 @@ use Rattle.txn_commit.proofs.Ending.{begins_sound, both_on_err, ends_with_footpr
 use Rattle.txn_commit.proofs.transaction.transact.Goals as goal
 
 pub run_attempts-ended-requires-clause-sound : goal.run_attempts-ended-requires-clause-sound
-run_attempts-ended-requires-clause-sound g c κs within = let old = c.args.pass.now.view in let taken = c.begin-call.ensures.taken in
+run_attempts-ended-requires-clause-sound g c = let old = c.args.pass.now.view in let taken = c.begin-call.ensures.taken in
     begins_sound g.S.Shape.word_count g.S.Shape.good c.args.desk.now old c.of-began.result.value c.begin-call.new.pass c.in_ok-undo.undo
     c.of-began.ensures (c.begin-call.ensures.desk ∙ c.requires.desk)
     (words_counted g.S.Shape.word_count g.S.Shape.good c.args.desk.now (begin_call_action (number old) old) old taken.0
@@ -17,7 +17,7 @@ run_attempts-ended-requires-clause-sound g c κs within = let old = c.args.pass.
     c.begin-call.ensures.step c.in_ok-undo.ensures.empty c.in_ok-undo.ensures.room c.begin-call.ensures.fits
 
 pub run_attempts-ended-requires-clause-seats : goal.run_attempts-ended-requires-clause-seats
-run_attempts-ended-requires-clause-seats g c κs within = let old = c.args.pass.now.view in let taken = c.begin-call.ensures.taken in
+run_attempts-ended-requires-clause-seats g c = let old = c.args.pass.now.view in let taken = c.begin-call.ensures.taken in
     some_seats g.S.Shape.word_count g.S.Shape.good c.args.desk.now (begin_call_action (number old) old) old taken.0
     c.begin-call.new.pass.view c.who-seat.result taken.1 c.who-seat.ensures.one
 

@@ -1,5 +1,7 @@
 use Rattle.std.proofs.Common.{◌+◌, ◌-◌, refl, ◌∙◌, arith}
-use Rattle.txn_records.proofs.Listed.{lists_first, lists_none, lists_all, lists_one, lists_last}
+use Rattle.record_text.specs.Records.{ids_from}
+use Rattle.txn_records.proofs.Keys.{keys_rise, keys_fit}
+use Rattle.txn_records.proofs.Listed.{ids_course, ids_first, lists_none, lists_all, lists_one, lists_last}
 use Rattle.txn_records.proofs.Turning.{unlooked, look_then, looked_less, looked_stands, tells}
 use Rattle.txn_records.proofs.listing.ids_from.Goals as goal
 
@@ -8,7 +10,7 @@ loop-init g c = record {
   origin = refl;
   stop = c.requires.ready.going;
   sound = c.requires.ready.sound;
-  looks = unlooked c.args.w.now _ (λ x records stand. lists_first c.args.rank c.args.most c.new-ids.result (c.args.most - 0) c.index_key-key.result records
+  looks = unlooked c.args.w.now _ (λ x records stand. ids_first c.args.rank c.args.most c.new-ids.result (c.args.most - 0) c.index_key-key.result records
       stand.range c.new-ids.ensures (omega arith) c.index_key-key.ensures);
 }
 
@@ -19,16 +21,17 @@ pub returns-in_default-clause-told : goal.returns-in_default-clause-told
 returns-in_default-clause-told g c =
     let goes = c.in_ok-found.ensures.goes_on in
     tells (look_then goes.shape goes.begins c.loop.invariant.looks (rw c.in_default.is at c.in_ok-found.ensures.told))
-    (λ records k. lists_none c.args.rank c.args.most c.loop.ids (c.args.most - c.loop.counter) c.loop.key records k.0 k.1)
+    (λ records k. lists_none ids_course (ids_from c.args.rank c.args.most) c.loop.ids (c.args.most - c.loop.counter) c.loop.key records k.0 k.1)
 
 pub returns-then-found-clause-told : goal.returns-then-found-clause-told
 returns-then-found-clause-told g c =
     let goes = c.in_ok-found.ensures.goes_on in
+    let whole = ids_from c.args.rank c.args.most in
     tells (look_then goes.shape goes.begins c.loop.invariant.looks (rw c.in-Some.is at c.in_ok-found.ensures.told))
-    (λ records k. lists_last c.args.rank c.args.most c.push.new.self (c.args.most - (c.loop.counter + 1)) c.in-Some.found records
-    (lists_one c.args.rank c.args.most c.loop.ids (c.args.most - c.loop.counter) c.loop.key records k.0 (c.args.most - (c.loop.counter + 1)) c.in-Some.found
-    c.id_of.result c.push.new.self (omega (arith, c.loop-test.true)) k.1 c.id_of.ensures c.in_ok-push.ensures.ok)
-    (omega (arith, c.if-found.true)))
+    (λ records k. lists_last ids_course whole c.push.new.self (c.args.most - (c.loop.counter + 1)) (c.in-Some.found + 1) records
+    (lists_one ids_course whole c.loop.ids (c.args.most - c.loop.counter) c.loop.key records k.0 (c.args.most - (c.loop.counter + 1)) c.in-Some.found
+    c.id_of.result c.push.new.self (omega (arith, c.loop-test.true)) (keys_rise records k.0.range) k.1 c.id_of.ensures c.in_ok-push.ensures.ok)
+    (keys_fit records k.0.range) (omega (arith, c.if-found.true)))
 
 pub loop-preserved : goal.loop-preserved
 loop-preserved g c =
@@ -39,14 +42,15 @@ loop-preserved g c =
       stop = goes.stops;
       sound = goes.sound;
       looks = looked_less (look_then goes.shape goes.begins i.looks (rw c.in-Some.is at c.in_ok-found.ensures.told))
-          (λ records k. lists_one c.args.rank c.args.most c.loop.ids (c.args.most - c.loop.counter) c.loop.key records k.0 (c.args.most - (c.loop.counter + 1))
-          c.in-Some.found c.id_of.result c.push.new.self (omega (arith, c.loop-test.true)) k.1 c.id_of.ensures c.in_ok-push.ensures.ok);
+          (λ records k. lists_one ids_course (ids_from c.args.rank c.args.most) c.loop.ids (c.args.most - c.loop.counter) c.loop.key records k.0
+          (c.args.most - (c.loop.counter + 1)) c.in-Some.found c.id_of.result c.push.new.self (omega (arith, c.loop-test.true))
+          (keys_rise records k.0.range) k.1 c.id_of.ensures c.in_ok-push.ensures.ok);
     }
 
 pub returns-clause-told : goal.returns-clause-told
 returns-clause-told g c =
-    tells c.loop.invariant.looks (λ records so_far. lists_all c.args.rank c.args.most c.loop.ids (c.args.most - c.loop.counter) c.loop.key records so_far
-    (omega (arith, c.loop-test.false)))
+    tells c.loop.invariant.looks (λ records so_far. lists_all ids_course (ids_from c.args.rank c.args.most) c.loop.ids
+    (c.args.most - c.loop.counter) c.loop.key records so_far (omega (arith, c.loop-test.false)))
 
 pub returns-clause-stands : goal.returns-clause-stands
 returns-clause-stands g c = looked_stands c.loop.invariant.looks c.requires.stands

@@ -1,7 +1,8 @@
 use Rattle.std.proofs.Common.{◌≡◌, ◌-◌, None}
+use Rattle.record_text.specs.Records.{ids_from}
 use Rattle.txn_records.specs.Standing.{Stands}
 use Rattle.txn_records.proofs.Turning.{Leads, Saw}
-use Rattle.txn_records.proofs.Listed.{IsListed}
+use Rattle.txn_records.proofs.Listed.{IsListed, ids_course}
 use Rattle.txn_records.proofs.listing.ids_from.Given as goal
 
 -- what is listed so far, and the first of those from the key on, are the whole list
@@ -12,5 +13,6 @@ invariant-loop g l =
       origin : words.origin l.w ≡ words.origin l.fn.w;
       stop : words.stop l.w ≡ None;
       sound : words.is_sound l.w;
-      looks : Leads words g.W.Shape.Shape l.fn.w l.w (Saw (Stands l.shape) (IsListed l.rank l.most l.ids (l.most - l.counter) l.key));
+      looks : Leads words g.W.Shape.Shape l.fn.w l.w
+          (Saw (Stands l.shape) (IsListed ids_course (ids_from l.rank l.most) l.ids (l.most - l.counter) l.key));
     }

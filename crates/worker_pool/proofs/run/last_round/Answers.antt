@@ -13,7 +13,7 @@ settle-requires g c =
     record { owners = back.0; rows = back.1 }
 
 pub run_left-requires-clause-made : goal.run_left-requires-clause-made
-run_left-requires-clause-made g c κs within =
+run_left-requires-clause-made g c =
     let r = c.requires in
     let e = c.in_ok-owners.ensures in
     first_made c.args.shop.now.thieves.now c.args.shop.now.desk.now c.args.shop.now.input.now (workers_of c.args.workers.items)
@@ -22,7 +22,7 @@ run_left-requires-clause-made g c κs within =
     e.rows e.shares c.index_mut.result.now c.index_mut.ensures.value
 
 pub run_left-requires-clause-few : goal.run_left-requires-clause-few
-run_left-requires-clause-few g c κs within =
+run_left-requires-clause-few g c =
     let r = c.requires in
     let e = c.in_ok-owners.ensures in
     first_few c.args.shop.now.thieves.now c.args.shop.now.desk.now c.args.shop.now.input.now (workers_of c.args.workers.items)
@@ -31,7 +31,7 @@ run_left-requires-clause-few g c κs within =
     e.rows e.shares c.index_mut.result.now c.index_mut.ensures.value
 
 pub run_left-requires-clause-left : goal.run_left-requires-clause-left
-run_left-requires-clause-left g c κs within =
+run_left-requires-clause-left g c =
     let r = c.requires in
     let e = c.in_ok-owners.ensures in
     few_left c.args.shop.now.thieves.now c.args.shop.now.desk.now c.args.shop.now.input.now (workers_of c.args.workers.items) r.ended

@@ -7,7 +7,7 @@ use Rattle.worker_pool.proofs.Yielded.{written_back}
 use Rattle.worker_pool.proofs.run.run_all.Goals as goal
 
 pub last_round-requires-clause-dealt : goal.last_round-requires-clause-dealt
-last_round-requires-clause-dealt g c κs within =
+last_round-requires-clause-dealt g c =
     let workers = c.in_ok-workers.workers.items in
     let back = written_back c.in_ok-workers.workers.len c.work_all.new.workers _ (omega (arith, c.work_all.auto.workers, c.as_mut_slice.ensures.len)) in
     let dealt = ap (λ apart. map (λ (worker : Worker). dealt_to worker.taker) (workers_of apart)) back ∙ c.work_all.ensures.dealt

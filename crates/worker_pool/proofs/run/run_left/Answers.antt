@@ -20,13 +20,13 @@ loop-caller-init g c = record {
 }
 
 pub run_caller-requires-clause-made : goal.run_caller-requires-clause-made
-run_caller-requires-clause-made g c κs within =
+run_caller-requires-clause-made g c =
     let i = c.loop-caller.invariant in
     let same : seat_of c.loop-caller.share ≡ seat_of c.args.share.now = ap (λ (w : List ℕ). slice_index w 0) i.who in
     subst (λ k. HasMade c.args.shop.now.desk.now c.args.shop.now.input.now k c.loop-caller.share.pass c.loop-caller.share.done.items) (sym same) i.made
 
 pub run_caller-requires-clause-room : goal.run_caller-requires-clause-room
-run_caller-requires-clause-room g c κs within =
+run_caller-requires-clause-room g c =
     let at = c.loop-caller in
     let i = at.invariant in
     let whole = i.all_come ∙ c.into_iter-caller-iterator.ensures.into_iter_gives.0 in

@@ -1,4 +1,4 @@
-use Rattle.std.proofs.Common.{ap, ◌∙◌, sym, subst, arith, rules}
+use Rattle.std.proofs.Common.{ap, ◌∙◌, sym, subst, arith}
 use Rattle.std.proofs.lemmas.List.Elements.{All-map}
 use Rattle.crossbeam_utils.specs.declared.cache_padded.CachePadded.{CachePadded}
 use Rattle.crossbeam_utils.specs.Padded.{padded_value}
@@ -11,12 +11,9 @@ use Rattle.worker_pool.proofs.run.work_all.Goals as goal
 pub for_each_mut-requires-clause-accepts : goal.for_each_mut-requires-clause-accepts
 for_each_mut-requires-clause-accepts g c κs within i p lt is =
     let seated = λ (apart : CachePadded Worker). IsSeated c.args.shop.now.thieves.now c.args.shop.now.desk.now (padded_value apart) in (
-      (
-        c.requires.fit,
-        subst seated (sym is) (each_apart (IsSeated c.args.shop.now.thieves.now c.args.shop.now.desk.now)
-            c.args.workers.now c.requires.seated i p.now lt),
-      ),
-      search rules,
+      c.requires.fit,
+      subst seated (sym is) (each_apart (IsSeated c.args.shop.now.thieves.now c.args.shop.now.desk.now)
+          c.args.workers.now c.requires.seated i p.now lt),
     )
 
 pub returns-clause-ended : goal.returns-clause-ended

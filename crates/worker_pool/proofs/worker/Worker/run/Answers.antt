@@ -23,7 +23,7 @@ loop-init g c =
     }
 
 pub run_caller-requires-clause-made : goal.run_caller-requires-clause-made
-run_caller-requires-clause-made g c κs within =
+run_caller-requires-clause-made g c =
     let i = c.loop.invariant in
     let same : number c.loop.self.share.pass.view ≡ number_of c.args.self.now = ap (λ (w : List ℕ). slice_index w 0) i.who in
     subst (λ k. HasMade c.args.shop.now.desk.now c.args.shop.now.input.now k c.loop.self.share.pass c.loop.self.share.done.items) (sym same) i.made

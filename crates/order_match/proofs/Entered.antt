@@ -1,0 +1,165 @@
+-- What an order that enters comes to is the interpreter's step.
+use Rattle.std.proofs.Common.{◌≡◌, ℕ, ◌+◌, ◌<◌, ◌≤◌, ◌==◌, nat_lt, Bool, true, false, cond, not, ◌&&◌, ◌||◌, if◌then◌else◌}
+use Rattle.std.proofs.Common.{List, ◌++◌, Some, None, refl, sym, ap, ◌∙◌, subst, arith, ne_eqb}
+use Rattle.std.proofs.lemmas.Bool.Decides.{nat_tests}
+use Rattle.std.proofs.lemmas.Option.{same_Some}
+use Rattle.order_text.specs.declared.limits.TheConstants.{GREATEST_ORDER}
+use Rattle.order_text.specs.declared.order.Resting.{Resting}
+use Rattle.order_text.specs.declared.reply.OrderValue.TheVariants as value
+use Rattle.order_text.specs.declared.reply.Trade.{Trade}
+use Rattle.order_text.specs.declared.script.OrderOp.TheVariants as op
+use Rattle.order_text.specs.Interpreter.{Gives, LacksRoom, enter, enter_next, entered, incoming}
+use Rattle.order_text.specs.Matching.{Matched, match_of, rest_of}
+use Rattle.order_text.specs.Orders.{OrderBook, blocks_of}
+use Rattle.order_text.specs.Ranges.{IsBookOf, IsLimitOrder}
+use Rattle.order_text.proofs.Apart.{books_kept}
+use Rattle.txn_words.specs.Access.{Changes, Tells}
+use Rattle.order_match.specs.declared.shape.OrderShape.{OrderShape}
+use Rattle.order_match.specs.declared.operations.Outcome.TheVariants as outcome
+use Rattle.order_match.specs.Standing.{HasParts, Stands, held_of}
+use Rattle.order_match.specs.Access.{with_last}
+use Rattle.order_match.specs.Trading.{MatchesOrder, RestsOrder, next_number}
+use Rattle.order_match.specs.Operating.{EntersOrder}
+
+-- a number that is next
+next_is : (last number : ℕ) → Some number ≡ next_number last → (number ≡ last + 1) × (last < GREATEST_ORDER)
+next_is last number told = at (nat_lt last GREATEST_ORDER) refl
+  where
+    at : (b : Bool) → nat_lt last GREATEST_ORDER ≡ b → (number ≡ last + 1) × (last < GREATEST_ORDER)
+    at true e = (same_Some number (last + 1) (told ∙ ap (λ b. cond b (Some (last + 1)) None) e), grind (arith, nat_tests, e))
+    at false e = absurd (let z : Some number ≡ None = told ∙ ap (λ b. cond b (Some (last + 1)) None) e in cc)
+
+none_next : (last : ℕ) → last ≤ GREATEST_ORDER → None ≡ next_number last → (last == GREATEST_ORDER) ≡ true
+none_next last most told = at (nat_lt last GREATEST_ORDER) refl
+  where
+    at : (b : Bool) → nat_lt last GREATEST_ORDER ≡ b → (last == GREATEST_ORDER) ≡ true
+    at true e = absurd (let z : None ≡ Some (last + 1) = told ∙ ap (λ b. cond b (Some (last + 1)) None) e in cc)
+    at false e = grind (arith, nat_tests, e, most)
+
+-- the last number before is below it
+pub last_below : (last number : ℕ) → Some number ≡ next_number last → last < number
+last_below last number told = let k = (next_is last number told).0 in omega (arith, k)
+
+not_greatest : (last : ℕ) → last < GREATEST_ORDER → (last == GREATEST_ORDER) ≡ false
+not_greatest last lt = ne_eqb last GREATEST_ORDER (λ e. omega (arith, lt, e))
+
+module _ (shape : OrderShape) (buys : Bool) (instrument price quantity : ℕ) (limits : IsLimitOrder shape.instruments instrument price quantity) where
+  abbrev pub order_with : ℕ → Resting
+  order_with number = record { number = number; instrument = instrument; buys = buys; price = price; quantity = quantity }
+
+  -- no number is left
+  pub enters_no_number : (x y : List ℕ) → Tells (Stands shape) (λ book. next_number book.last) None x y
+      → EntersOrder shape buys instrument price quantity outcome.LacksRoom x y
+  enters_no_number x y t = record {
+    comes = λ book stand. (
+      book,
+      ap (λ b. if b || (nat_lt 0 (match_of (incoming book buys instrument price quantity) book.orders).left
+          && nat_lt book.blocks (blocks_of (match_of (incoming book buys instrument price quantity) book.orders).orders + 2))
+          then LacksRoom
+          else Gives (value.Entered (book.last + 1) (match_of (incoming book buys instrument price quantity) book.orders).trades)
+          (entered (incoming book buys instrument price quantity) (match_of (incoming book buys instrument price quantity) book.orders) book))
+          (none_next book.last stand.book_is.room.last_is (t.told book stand)),
+      tt,
+    );
+  }
+
+  -- the book that is entered is one
+  kept : (b : Bool) → buys ≡ b → (book next : OrderBook) (number : ℕ) (trades : List Trade) → IsBookOf shape.instruments book
+      → enter_next book (incoming book b instrument price quantity) ≡ Gives (value.Entered number trades) next → IsBookOf shape.instruments next
+  kept true same book next number trades is e =
+      books_kept shape.instruments (op.Buy instrument price quantity) book next (value.Entered number trades) is limits e
+  kept false same book next number trades is e =
+      books_kept shape.instruments (op.Sell instrument price quantity) book next (value.Entered number trades) is limits e
+
+  module _ (number left : ℕ) (trades : List Trade) (book : OrderBook) (is : IsBookOf shape.instruments book)
+      (told : Some number ≡ next_number book.last) (trades_are : trades ≡ (match_of (order_with number) book.orders).trades)
+      (left_is : left ≡ (match_of (order_with number) book.orders).left) where
+    abbrev order : Resting
+    order = order_with number
+
+    abbrev matched : Matched
+    matched = match_of (order_with number) book.orders
+
+    is_next : order_with number ≡ incoming book buys instrument price quantity
+    is_next = ap order_with (next_is book.last number told).0
+
+    some_number : (book.last == GREATEST_ORDER) ≡ false
+    some_number = not_greatest book.last (next_is book.last number told).1
+
+    -- the step, where it is known whether there is room
+    step_by : (b : Bool) → (nat_lt 0 left && nat_lt book.blocks (blocks_of matched.orders + 2)) ≡ b
+        → enter_next book (incoming book buys instrument price quantity)
+        ≡ (if b then LacksRoom else Gives (value.Entered number trades) (entered order matched book))
+    step_by b e =
+        ap (λ (o : Resting). enter o (match_of o book.orders) book) (sym is_next)
+        ∙ (ap (λ t. if t || (nat_lt 0 matched.left && nat_lt book.blocks (blocks_of matched.orders + 2)) then LacksRoom
+        else Gives (value.Entered number matched.trades) (entered order matched book)) some_number
+        ∙ ((λ i. if nat_lt 0 (sym left_is i) && nat_lt book.blocks (blocks_of matched.orders + 2) then LacksRoom
+        else Gives (value.Entered number (sym trades_are i)) (entered order matched book))
+        ∙ ap (λ t. if t then LacksRoom else Gives (value.Entered number trades) (entered order matched book)) e))
+
+    pub lacks_room : (nat_lt 0 left && nat_lt book.blocks (blocks_of matched.orders + 2)) ≡ true
+        → enter_next book (incoming book buys instrument price quantity) ≡ LacksRoom
+    lacks_room e = step_by true e
+
+    pub gives : (nat_lt 0 left && nat_lt book.blocks (blocks_of matched.orders + 2)) ≡ false
+        → enter_next book (incoming book buys instrument price quantity) ≡ Gives (value.Entered number trades) (entered order matched book)
+    gives e = step_by false e
+
+    -- words that stand for it
+    pub stands_entered : (y : List ℕ) → book.blocks ≡ shape.blocks → (nat_lt 0 left && nat_lt book.blocks (blocks_of matched.orders + 2)) ≡ false
+        → HasParts shape y (held_of (entered order matched book)) → Stands shape y (entered order matched book)
+    stands_entered y blocks e parts = record {
+      blocks_are = blocks;
+      book_is = kept buys refl book (entered order matched book) number trades is (gives e);
+      parts = parts;
+    }
+
+  -- with no room for what is left
+  pub enters_no_room : (number left : ℕ) (trades : List Trade) (x y z w : List ℕ) → Tells (Stands shape) (λ book. next_number book.last) (Some number) x y
+      → MatchesOrder shape (order_with number) trades left y z → RestsOrder shape (record (order_with number) { quantity = left }) false z w
+      → EntersOrder shape buys instrument price quantity outcome.LacksRoom x w
+  enters_no_room number left trades x y z w t m r = record {
+    comes = λ book stand.
+        let there = subst (λ (l : List ℕ). Stands shape l book) (sym t.same) stand in (
+          book,
+          lacks_room number left trades book stand.book_is (t.told book stand) (m.trades_are book there) (m.left_is book there)
+              (turned (nat_lt 0 left && nat_lt book.blocks (blocks_of (match_of (order_with number) book.orders).orders + 2))
+              (r.answer _ (m.others_are book there))),
+          tt,
+        );
+  }
+    where
+      turned : (b : Bool) → false ≡ not b → b ≡ true
+      turned true e = refl
+      turned false e = absurd (cc)
+
+  -- with room for it, or with nothing left
+  pub enters_done : (number left : ℕ) (trades : List Trade) (x y z v w : List ℕ)
+      → Tells (Stands shape) (λ book. next_number book.last) (Some number) x y
+      → MatchesOrder shape (order_with number) trades left y z → RestsOrder shape (record (order_with number) { quantity = left }) true z v
+      → Changes (HasParts shape) (with_last number) v w
+      → EntersOrder shape buys instrument price quantity (outcome.Gives (value.Entered number trades)) x w
+  enters_done number left trades x y z v w t m r change = record {
+    comes = λ book stand.
+        let there = subst (λ (l : List ℕ). Stands shape l book) (sym t.same) stand in
+        let told = t.told book stand in
+        let trades_are = m.trades_are book there in
+        let left_is = m.left_is book there in
+        let others = m.others_are book there in
+        let room = turned (nat_lt 0 left && nat_lt book.blocks (blocks_of (match_of (order_with number) book.orders).orders + 2)) (r.answer _ others) in (
+          entered (order_with number) (match_of (order_with number) book.orders) book,
+          gives number left trades book stand.book_is told trades_are left_is room,
+          stands_entered number left trades book stand.book_is told trades_are left_is w stand.blocks_are room
+              (subst (λ n. HasParts shape w (held_of (record {
+                blocks = book.blocks;
+                last = number;
+                orders = (match_of (order_with number) book.orders).orders ++ rest_of (order_with number) n;
+              })))
+              left_is (change _ (r.left refl _ others))),
+        );
+  }
+    where
+      turned : (b : Bool) → true ≡ not b → b ≡ false
+      turned true e = absurd (cc)
+      turned false e = refl

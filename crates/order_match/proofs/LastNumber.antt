@@ -1,0 +1,45 @@
+-- The last order number, as it is read and written.
+use Rattle.std.proofs.Common.{◌≡◌, ℕ, ◌<◌, ◌++◌, ◌∷◌, [], List, length, slice_get, Some, refl, sym, ap, ◌∙◌, arith}
+use Rattle.std.proofs.lemmas.Option.{same_Some}
+use Rattle.history_model.specs.declared.event.Event.TheVariants.{Read}
+use Rattle.history_model.specs.Traces.{Trace, after}
+use Rattle.history_model.specs.Fitting.{SomeFits, InEach, Leads}
+use Rattle.history_model.proofs.Traces.TraceLaws.{get_set_same, length-after}
+use Rattle.history_model.proofs.Traces.FittingLaws.{Found, found}
+use Rattle.txn_words.specs.Access.{Changes, Tells}
+use Rattle.txn_words.specs.Frames.{KeepsOthers}
+use Rattle.txn_words.specs.Steps.{EndsWithWrite}
+use Rattle.txn_words.proofs.FrameLaws.{only_keeps, only_write}
+use Rattle.txn_words.proofs.JobLaws.{was_put}
+use Rattle.order_match.specs.declared.shape.OrderShape.{OrderShape}
+use Rattle.order_match.specs.declared.layout.TheConstants.{LAST_AT}
+use Rattle.order_match.specs.Standing.{HasParts, HasSomeParts}
+use Rattle.order_match.specs.Access.{with_last}
+use Rattle.order_match.proofs.Changes.{last_change_stands}
+
+module _ (shape : OrderShape) (n : ℕ) (G : List ℕ → Type 0) (t : Trace) where
+  -- it is a word
+  pub last_within : InEach n G t (HasSomeParts shape) → SomeFits n G t → LAST_AT < n
+  last_within each some =
+      let parts = (each.at some.0 some.1).1 in
+      let long : length (after t some.0) ≡ n = length-after t some.0 ∙ some.1.count in
+      omega (arith, long, parts.free_lists.laid_out.heads)
+
+  module _ (u : Trace) where
+    pub last_read : (v : ℕ) → u ≡ t ++ Read LAST_AT v ∷ [] → Leads n G t u (Tells (HasParts shape) (λ held. held.last) v)
+    last_read v read = record {
+      at = λ s fit.
+          let f : Found n G t u LAST_AT v s = found n G t u LAST_AT v read s fit in
+          record { same = f.same; told = λ held parts. same_Some v held.last (sym f.there ∙ parts.last) };
+    }
+
+    pub last_written : (v : ℕ) → EndsWithWrite t u LAST_AT v → Leads n G t u (Changes (HasParts shape) (with_last v))
+    last_written v write = record {
+      at = λ s fit held parts.
+          let kept : KeepsOthers (λ a. a ≡ LAST_AT) (after t s) (after u s) =
+          only_keeps (λ a. a ≡ LAST_AT) t u s (only_write (λ a. a ≡ LAST_AT) t u LAST_AT v write refl) in
+          let there : slice_get (after u s) LAST_AT ≡ Some v =
+          ap (λ z. slice_get z LAST_AT) (was_put t u LAST_AT v s (after t s) refl write)
+          ∙ get_set_same (after t s) LAST_AT v (omega (arith, parts.free_lists.laid_out.heads)) in
+          last_change_stands shape (after t s) (after u s) held v parts there kept;
+    }

@@ -1,0 +1,8 @@
+pub mod Layout
+pub mod Standing
+pub mod Access
+pub mod Trading
+pub mod Statements
+pub mod Operating
+pub mod Meaning
+pub mod Inner

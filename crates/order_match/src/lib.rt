@@ -1,0 +1,32 @@
+//! A limit order book on words: one list of words holds the last order number, the place of each resting order by its
+//! number, and for each side of each instrument a tree of quantities in the order in which orders are served.
+//!
+//! `OrderShape` has the size of a book, and its methods say where each part lies. Which word lists stand for which
+//! books is `Stands` in `specs/Standing`; `laws` has what follows of it, and that a tree's order is that of serving.
+//!
+//! `parts` has a call for each thing that is looked up or changed in one of the parts, whatever they hold. `orders` has
+//! the operations on resting orders, `trading` what an order that enters does, and `operations` both as operations of
+//! scripts. `OrderJob` is a script as a job over any words of a shape, and `specs/Meaning` says what it means.
+#![tactic(auto)]
+
+pub mod job;
+pub mod laws;
+pub mod lay;
+pub mod layout;
+pub mod on_plain;
+pub mod operations;
+pub mod orders;
+pub mod parts;
+pub mod shape;
+#[cfg(test)]
+mod tests;
+pub mod trading;
+
+pub use job::OrderJob;
+pub use lay::empty_words;
+pub use layout::Side;
+pub use on_plain::run_on_plain;
+pub use operations::{Outcome, run_operation};
+pub use orders::{best_price, cancel_order};
+pub use shape::OrderShape;
+pub use trading::{first_partner, next_number, rest_order, trade_down};
