@@ -14,6 +14,8 @@ use Rattle.order_text.specs.Ranges.{IsBookOf, IsRestingOrder}
 use Rattle.order_text.proofs.Apart.{books_kept}
 use Rattle.order_text.proofs.Members.{Has, of_every}
 use Rattle.txn_words.specs.Access.{Tells, TellsAndChanges}
+use Rattle.txn_stores.proofs.Maps.{remove_absent}
+use Rattle.txn_stores.proofs.Turning.{Saw, Turns}
 use Rattle.order_match.specs.declared.shape.OrderShape.{OrderShape}
 use Rattle.order_match.specs.declared.layout.TheConstants.{HALF}
 use Rattle.order_match.specs.Layout.{key_at, key_of, place_of, side_at, side_of}
@@ -21,9 +23,7 @@ use Rattle.order_match.specs.Standing.{Held, HasParts, HasSomeParts, IsGoodFor, 
 use Rattle.order_match.specs.Access.{best_on, first_in, quantity_at, with_places, with_side, without_order}
 use Rattle.order_match.proofs.Best.{best_first, price_first}
 use Rattle.order_match.proofs.Books.{held_without, none_taken, order_is, place_found, price_there, quantity_found, side_told}
-use Rattle.order_match.proofs.Maps.{remove_absent}
 use Rattle.order_match.proofs.Served.{AreOrders, orders_of, sides_differ}
-use Rattle.order_match.proofs.Turning.{Turns}
 
 module _ (shape : OrderShape) where
   pub good_parts : (x : List ℕ) → IsGoodFor shape x → HasSomeParts shape x
@@ -45,6 +45,15 @@ module _ (shape : OrderShape) where
   fewer_book number book r there range is =
       books_kept shape.instruments (op.Cancel number) book (without_order number book) (value.Cancelled r.quantity) is range
       (ap (λ o. with_order o (λ order. Gives (value.Cancelled order.quantity) (without_order number book))) there)
+
+  -- no order is told where there is no place
+  no_order : (number : ℕ) (book : OrderBook) → IsBookOf shape.instruments book → None ≡ finite.get (places_of book.orders) number
+      → order_at number book.orders ≡ None
+  no_order number book is none = none_of (order_at number book.orders) (none ∙ place_found book.orders (orders_of shape.instruments book is) number)
+    where
+      none_of : (o : Option Resting) → None ≡ option_map place_of o → o ≡ None
+      none_of None e = refl
+      none_of (Some r) e = absurd (cc)
 
   -- an order that is told by its place
   pub record IsTold (number place : ℕ) (book : OrderBook) (r : Resting) : Type 0 where
@@ -84,18 +93,79 @@ module _ (shape : OrderShape) where
       (side ∙ (ap (λ p. p / HALF) (sym told.place_is) ∙ side_told r (are.fit r told.there)))
 
   -- is one of the book's
+  side_in : (number place instrument : ℕ) (buys : Bool) → side_at instrument buys ≡ place / HALF → 1 ≤ instrument → (x : List ℕ) (book : OrderBook)
+      → Stands shape x book → Some place ≡ finite.get (places_of book.orders) number → IsWithin 1 shape.instruments instrument
+  side_in number place instrument buys side low x book stand there =
+      let told = told_by number place book stand.book_is there in
+      let same = place_side number place instrument buys book told.0 stand.book_is told.1 side low in
+      subst (IsWithin 1 shape.instruments) (sym same.0) told.1.range.limits_are.instrument_is
+
   pub side_of_place : (number place instrument : ℕ) (buys : Bool) → side_at instrument buys ≡ place / HALF → 1 ≤ instrument
       → (x : List ℕ) × (y : List ℕ) × IsGoodFor shape x
       × TellsAndChanges (HasParts shape) (λ held. finite.get held.places number) (λ held. with_places (finite.remove held.places number) held) (Some place) x y
       → IsWithin 1 shape.instruments instrument
   side_of_place number place instrument buys side low some =
-      let book = some.2.0 in
-      let stand = some.2.1 in
-      let told = told_by number place book stand.book_is (some.3.told (held_of book) stand.parts) in
-      let same = place_side number place instrument buys book told.0 stand.book_is told.1 side low in
-      subst (IsWithin 1 shape.instruments) (sym same.0) told.1.range.limits_are.instrument_is
+      side_in number place instrument buys side low some.0 some.2.0 some.2.1 (some.3.told (held_of some.2.0) some.2.1.parts)
+
+  pub side_of_look : (number place instrument : ℕ) (buys : Bool) → side_at instrument buys ≡ place / HALF → 1 ≤ instrument
+      → (x : List ℕ) × (y : List ℕ) × IsGoodFor shape x × Tells (HasParts shape) (λ held. finite.get held.places number) (Some place) x y
+      → IsWithin 1 shape.instruments instrument
+  side_of_look number place instrument buys side low some =
+      side_in number place instrument buys side low some.0 some.2.0 some.2.1 (some.3.told (held_of some.2.0) some.2.1.parts)
+
+  -- the price that a place names, and the key that an order with it has
+  place_price : (number place : ℕ) (book : OrderBook) (r : Resting) → IsBookOf shape.instruments book → IsTold number place book r → place % HALF ≡ r.price
+  place_price number place book r is told =
+      ap (λ p. p % HALF) (sym told.place_is) ∙ price_there r ((orders_of shape.instruments book is).fit r told.there)
+
+  key_there : (number place instrument : ℕ) (buys : Bool) → side_at instrument buys ≡ place / HALF → 1 ≤ instrument → (book : OrderBook) (r : Resting)
+      → IsBookOf shape.instruments book → IsTold number place book r → key_at buys (place % HALF) number ≡ key_of r
+  key_there number place instrument buys side low book r is told =
+      let same = place_side number place instrument buys book r is told side low in
+      let price = place_price number place book r is told in
+      λ i. key_at (same.1 i) (price i) (sym told.number_is i)
 
   module _ (number : ℕ) (x y : List ℕ) where
+    -- an order that is looked up does not rest
+    pub looks_for_none : Tells (HasParts shape) (λ held. finite.get held.places number) None x y
+        → Tells (Stands shape) (λ book. order_at number book.orders) None x y
+    looks_for_none t = record {
+      same = t.same;
+      told = λ book stand. sym (no_order number book stand.book_is (t.told (held_of book) stand.parts));
+    }
+
+    -- it rests, and its place and its quantity tell it
+    pub looks_for_one : (place instrument : ℕ) (buys : Bool) → side_at instrument buys ≡ place / HALF → 1 ≤ instrument → (answer : Option ℕ)
+        → Saw (HasParts shape) (λ held. (Some place ≡ finite.get held.places number)
+        × (answer ≡ finite.get (held.sides (side_at instrument buys)) (key_at buys (place % HALF) number))) x y
+        → Tells (Stands shape) (λ book. order_at number book.orders) (Some (record {
+          number = number;
+          instrument = instrument;
+          buys = buys;
+          price = place % HALF;
+          quantity = unwrap_or answer 0;
+        })) x y
+    looks_for_one place instrument buys side low answer t = record {
+      same = t.same;
+      told = λ book stand.
+          let saw = t.saw (held_of book) stand.parts in
+          let k = told_by number place book stand.book_is saw.0 in
+          let are = orders_of shape.instruments book stand.book_is in
+          let same = place_side number place instrument buys book k.0 stand.book_is k.1 side low in
+          let price = place_price number place book k.0 stand.book_is k.1 in
+          let quantity : unwrap_or answer 0 ≡ k.0.quantity = ap (λ o. unwrap_or o 0) (saw.1
+          ∙ ((λ i. finite.get (quantities_on (side_at (same.0 i) (same.1 i)) book.orders) (key_there number place instrument buys side low book k.0 stand.book_is k.1 i))
+          ∙ quantity_found book.orders are k.0 k.1.there)) in
+          (λ i. Some (record {
+            number = sym k.1.number_is i;
+            instrument = same.0 i;
+            buys = same.1 i;
+            price = price i;
+            quantity = quantity i;
+          }))
+          ∙ sym k.1.order;
+    }
+
     -- an order that does not rest
     pub not_cancelled : TellsAndChanges (HasParts shape) (λ held. finite.get held.places number)
         (λ held. with_places (finite.remove held.places number) held) None x y
@@ -114,13 +184,8 @@ module _ (shape : OrderShape) where
           });
     }
       where
-        none_of : (o : Option Resting) → None ≡ option_map place_of o → o ≡ None
-        none_of None e = refl
-        none_of (Some r) e = absurd (cc)
-
         absent : (book : OrderBook) → Stands shape x book → order_at number book.orders ≡ None
-        absent book stand = none_of (order_at number book.orders) (t.told (held_of book) stand.parts
-            ∙ place_found book.orders (orders_of shape.instruments book stand.book_is) number)
+        absent book stand = no_order number book stand.book_is (t.told (held_of book) stand.parts)
 
     -- one that does leaves the chains and the tree of its side
     module _ (place instrument : ℕ) (buys : Bool) (side : side_at instrument buys ≡ place / HALF) (low : 1 ≤ instrument)
@@ -156,11 +221,7 @@ module _ (shape : OrderShape) where
 
           key_is : (book : OrderBook) (stand : Stands shape x book) → key_at buys (place % HALF) number ≡ key_of (told_of book stand).0
           key_is book stand =
-              let k = told_of book stand in
-              let are = orders_of shape.instruments book stand.book_is in
-              let same = place_side number place instrument buys book k.0 stand.book_is k.1 side low in
-              let price : place % HALF ≡ k.0.price = ap (λ p. p % HALF) (sym k.1.place_is) ∙ price_there k.0 (are.fit k.0 k.1.there) in
-              λ i. key_at (same.1 i) (price i) (sym k.1.number_is i)
+              let k = told_of book stand in key_there number place instrument buys side low book k.0 stand.book_is k.1
 
           all : (book : OrderBook) → (stand : Stands shape x book) → (r : Resting) × IsTold number place book r × (answer ≡ Some r.quantity)
           all book stand =

@@ -1,14 +1,9 @@
 -- What a call on one part leaves, as laws.
-use Rattle.std.proofs.Common.{◌≡◌, ℕ, suc, ◌+◌, [], ◌∷◌, arith}
-use Rattle.txn_alloc.specs.EntryMaps.{Blocks}
-use Rattle.txn_alloc.proofs.Maps.Counting.{times_of}
-use Rattle.order_match.specs.Standing.{times_among}
+use Rattle.std.proofs.Common.{suc, arith}
+use Rattle.txn_stores.proofs.Apart.{two_among}
 use Rattle.order_match.specs.Access.{with_last, with_places, with_side}
 use Rattle.order_match.specs.Statements.{ChainChangeStands, LastChangeStands, TreeChangeStands}
 use Rattle.order_match.proofs.Family.{changed, family_of, last_changed, parts_of}
-
-two_among : (b : ℕ) (u v : Blocks) → times_among b (u ∷ v ∷ []) ≡ times_of u b + times_of v b
-two_among b u v = omega arith
 
 pub tree_change_stands : TreeChangeStands
 tree_change_stands shape old new held parts side entries used_after free key lt tree lists as_many kept =

@@ -18,6 +18,7 @@ use Rattle.order_text.proofs.Members.{Has, has_filtered, of_every}
 use Rattle.txn_alloc.specs.declared.put.Put.{Put}
 use Rattle.txn_alloc.specs.declared.put.Put.TheVariants.{New, Old, Full}
 use Rattle.txn_words.specs.Access.{Changes, OfModel, Tells, TellsAndChanges}
+use Rattle.txn_stores.proofs.Turning.{Turns}
 use Rattle.order_match.specs.declared.shape.OrderShape.{OrderShape}
 use Rattle.order_match.specs.declared.layout.Side.{Side}
 use Rattle.order_match.specs.declared.layout.TheConstants.{HALF}
@@ -34,7 +35,6 @@ use Rattle.order_match.proofs.Keyed.{first_none, get_map}
 use Rattle.order_match.proofs.Partners.{first_nothing, first_rest, order_told, partner_first, partner_told}
 use Rattle.order_match.proofs.Served.{AreOrders, Fits, orders_of}
 use Rattle.order_match.proofs.Sums.{sum_changed}
-use Rattle.order_match.proofs.Turning.{Turns}
 use Rattle.order_match.proofs.Whole.{entries_counted, side_in_range}
 
 -- the next number, where one is left

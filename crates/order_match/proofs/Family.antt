@@ -23,12 +23,13 @@ use Rattle.txn_tree_map.proofs.Maps.{tree_stands}
 use Rattle.txn_tree_map.proofs.Searches.Gets.{used_below}
 use Rattle.txn_tree_map.proofs.Inserts.InsertCalls as trees
 use Rattle.txn_tree_map.proofs.Held.Numbers.{as_many_blocks}
+use Rattle.txn_stores.specs.Blocks.{times_among}
+use Rattle.txn_stores.proofs.Apart.{not_own, other_out, out_above}
 use Rattle.order_match.specs.declared.shape.OrderShape.{OrderShape}
 use Rattle.order_match.specs.declared.layout.TheConstants.{LAST_AT, BUCKETS_AT, ROOTS_AT}
 use Rattle.order_match.specs.Layout.{arena_of, chains_of, tree_of, sides_of}
-use Rattle.order_match.specs.Standing.{Held, HasParts, of_sides, times_among}
+use Rattle.order_match.specs.Standing.{Held, HasParts, of_sides}
 use Rattle.order_match.specs.Access.{entries_in, with_last, with_places, with_side}
-use Rattle.order_match.proofs.Apart.{not_own, other_out, out_above}
 use Rattle.order_match.proofs.Sums.{count_first, count_sum, sum_map, total, total_changed, total_has_two, total_none}
 
 -- the parts by their numbers: the chains have 0, and the tree of each side that of the side and one more

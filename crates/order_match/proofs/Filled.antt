@@ -19,13 +19,13 @@ use Rattle.order_text.specs.Matching.{after_trades, trade_with}
 use Rattle.order_text.specs.Orders.{OrderBook, by_number}
 use Rattle.order_text.specs.Ranges.{IsBookOf, IsRestingOrder}
 use Rattle.order_text.proofs.Members.{Has, filtered_has, has_mapped, of_all, of_each, of_every, of_one}
+use Rattle.txn_stores.proofs.Maps.{inserted_here, inserted_there}
 use Rattle.order_match.specs.Layout.{key_of, place_of, side_of}
 use Rattle.order_match.specs.Standing.{held_of, quantities_on}
 use Rattle.order_match.specs.Access.{with_side}
 use Rattle.order_match.proofs.Books.{held_by, keys_number, on_has, one_side, unique}
 use Rattle.order_match.proofs.Filling.{HaveQuantity, less_after, others_after}
 use Rattle.order_match.proofs.Keyed.{first_is, get_map, map_of}
-use Rattle.order_match.proofs.Maps.{inserted_here, inserted_there}
 use Rattle.order_match.proofs.Served.{AreOrders, orders_of}
 
 pub have_quantity : (instruments : ℕ) (book : OrderBook) → IsBookOf instruments book → HaveQuantity book.orders

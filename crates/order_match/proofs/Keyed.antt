@@ -16,7 +16,7 @@ use Rattle.books_model.proofs.Maps.Trees.{len_after_insert}
 use Rattle.txn_alloc.specs.EntryMaps.{Entries}
 use Rattle.txn_tree_map.proofs.Held.Entries.{tied, untied}
 use Rattle.order_text.proofs.Members.{Has}
-use Rattle.order_match.proofs.Maps.{removed_here, removed_there}
+use Rattle.txn_stores.proofs.Maps.{removed_here, removed_there}
 
 same_test : (q k : ℕ) → eq_by_cmp nat_cmp q k ≡ (k == q)
 same_test q k = dite (ℕ_discrete q k)

@@ -2,14 +2,8 @@
 pub mod Served
 -- sums over the numbers of parts, one of which may change
 pub mod Sums
--- a block is in one of an arena's parts alone
-pub mod Apart
 -- the parts of a book as one family: a change of one leaves all others
 pub mod Family
--- a finite map after a change at a key
-pub mod Maps
--- calls one after another on words that stand for a model, first looks and then changes
-pub mod Turning
 -- what calls on one part say of all of them
 pub mod OnParts
 -- what a call on one part leaves, as laws
@@ -30,6 +24,8 @@ pub mod Best
 pub mod LastNumber
 -- what calls on the parts say of a book
 pub mod Calls
+-- all orders of a book, by looking each number up that was given
+pub mod Lookups
 -- one turn of trading is one step down the partners
 pub mod Filling
 -- a book after a trade of one of its orders
@@ -40,3 +36,5 @@ pub mod Partners
 pub mod Entering
 -- what an order that enters comes to is the interpreter's step
 pub mod Entered
+-- a day, from what was run in order
+pub mod Days

@@ -12,20 +12,21 @@ use Rattle.txn_words.specs.Access.{Tells, TellsAndChanges}
 use Rattle.txn_words.specs.Frames.{KeepsOthers}
 use Rattle.txn_alloc.specs.declared.put.Put.{Put}
 use Rattle.txn_alloc.specs.declared.put.Put.TheVariants.{New, Old, Full}
-use Rattle.txn_alloc.specs.EntryMaps.{Entries, HasMap, HasMapApart, HoldsApart, Inserts, InsertsNew, InsertsOld, IsOwn, LacksRoom, Removes, RemovesOne}
+use Rattle.txn_alloc.specs.EntryMaps.{Entries, Finds, HasMap, HasMapApart, HoldsApart}
+use Rattle.txn_alloc.specs.EntryMaps.{Inserts, InsertsNew, InsertsOld, IsOwn, LacksRoom, Removes, RemovesOne}
 use Rattle.txn_alloc.proofs.Maps.Counting.{some_member, times_of}
 use Rattle.txn_alloc.proofs.Maps.Parts.{free_unused, held}
 use Rattle.txn_tree_map.specs.Firsts.{FindsFirst}
+use Rattle.txn_stores.proofs.Maps.{remove_absent}
+use Rattle.txn_stores.proofs.Apart.{moved_times, out_other}
+use Rattle.txn_stores.proofs.Turning.{IsPut, IsCut}
 use Rattle.order_match.specs.declared.shape.OrderShape.{OrderShape}
 use Rattle.order_match.specs.Layout.{side_at, sides_of, tree_of}
 use Rattle.order_match.specs.Standing.{Held, HasParts, HasSomeParts}
 use Rattle.order_match.specs.Access.{entries_in, first_in, first_of, is_used_up, put_answer, put_by}
-use Rattle.order_match.proofs.Apart.{moved_times, out_other}
 use Rattle.order_match.proofs.Family.{Family, changed, counted, entries_at, entries_here, entries_there, family_as, family_below, family_of, part_at, parts_of}
 use Rattle.order_match.proofs.Family.{with_entries}
-use Rattle.order_match.proofs.Maps.{remove_absent}
 use Rattle.order_match.proofs.Sums.{total_has}
-use Rattle.order_match.proofs.Turning.{IsPut, IsCut}
 
 -- what is held with the same entries of a part is the same
 with_same : (i j : ℕ) (held : Held) → entries_at j held ≡ entries_at j (with_entries i (entries_at i held) held)
@@ -142,6 +143,16 @@ module _ (shape : OrderShape) (i : ℕ) (le : i ≤ sides_of shape) where
   cuts key answer old new is = record {
     told = λ holding parts. (cut old new key is.keeps holding parts answer is.removes).0;
     left = λ holding parts. (cut old new key is.keeps holding parts answer is.removes).1;
+  }
+
+  -- what a look tells
+  pub tells_get : (key : ℕ) (answer : Option ℕ) (old new : List ℕ) → Finds (part_at shape i) key answer old new
+      → Tells (HasParts shape) (λ held. finite.get (entries_at i held) key) answer old new
+  tells_get key answer old new finds = record {
+    same = finds.same;
+    told = λ holding parts.
+        let family = family_of shape old holding parts in
+        finds.found (entries_at i holding) (family.used i) (family.holds i le);
   }
 
 -- the number of a side is below their count

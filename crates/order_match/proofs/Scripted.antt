@@ -22,6 +22,7 @@ use Rattle.txn_words.specs.declared.words.Words.{Ghosts as AnyWords}
 use Rattle.txn_words.specs.Access.{TellsAndChanges}
 use Rattle.txn_words.specs.Calls.{InEachState, LeadsTo}
 use Rattle.txn_words.proofs.CallLaws.{leads_from_start, leads_then}
+use Rattle.txn_stores.proofs.Turning.{Leads, Saw, Turns, leads_less}
 use Rattle.order_match.specs.declared.shape.OrderShape.{OrderShape}
 use Rattle.order_match.specs.declared.operations.Outcome.{Outcome}
 use Rattle.order_match.specs.declared.operations.Outcome.TheVariants as outcome
@@ -31,7 +32,6 @@ use Rattle.order_match.specs.Operating.{step_of_outcome, Steps, IsLeft}
 use Rattle.order_match.specs.Meaning.{is_done, ScriptMeans}
 use Rattle.order_match.specs.Inner.Scripts.{IfDone, Runs}
 use Rattle.order_match.proofs.Books.{none_taken}
-use Rattle.order_match.proofs.Turning.{Leads, Saw, Turns, leads_less}
 
 module _ (shape : OrderShape) (x y : List ℕ) where
   cancel_step : (number quantity : ℕ) (book : OrderBook) (found : Option Resting) → Some quantity ≡ option_map (λ (r : Resting). r.quantity) found
@@ -203,7 +203,7 @@ run_means shape script answer kept old new where_done runs = record {
 }
 
 -- a run that is not done leaves the book
-run_stays : (book : OrderBook) (run : Run) → is_done (outcome_from book run).0 ≡ false → (outcome_from book run).1 ≡ book
+pub run_stays : (book : OrderBook) (run : Run) → is_done (outcome_from book run).0 ≡ false → (outcome_from book run).1 ≡ book
 run_stays book (Ends values after) is = cc
 run_stays book (Stops stop) is = refl
 

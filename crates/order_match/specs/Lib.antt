@@ -5,4 +5,5 @@ pub mod Trading
 pub mod Statements
 pub mod Operating
 pub mod Meaning
+pub mod Days
 pub mod Inner

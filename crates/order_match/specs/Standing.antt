@@ -1,7 +1,6 @@
 -- Which word lists stand for which books.
-use Rattle.std.specs.Prelude.{◌≡◌, ℕ, ◌<◌, ◌==◌, List, ◌∷◌, Some, map, filter, count_by, slice_get}
+use Rattle.std.specs.Prelude.{◌≡◌, ℕ, ◌<◌, ◌==◌, List, ◌∷◌, Some, map, filter, slice_get}
 use Rattle.std.specs.List.{range_with_len}
-use Rattle.std.specs.FinSet as set
 use Rattle.std.specs.FinMap as finite
 use Rattle.order_text.specs.declared.order.Resting.{Resting}
 use Rattle.order_text.specs.Orders.{OrderBook}
@@ -10,13 +9,10 @@ use Rattle.txn_alloc.specs.FreeLists.{FreeListsHold}
 use Rattle.txn_alloc.specs.EntryMaps.{Entries, Blocks}
 use Rattle.txn_hash_map.specs.Chains.{ChainsHold}
 use Rattle.txn_tree_map.specs.Trees.{TreeHolds}
+use Rattle.txn_stores.specs.Blocks.{times_among}
 use Rattle.order_match.specs.declared.shape.OrderShape.{OrderShape}
 use Rattle.order_match.specs.declared.layout.TheConstants.{LAST_AT}
 use Rattle.order_match.specs.Layout.{arena_of, chains_of, tree_of, sides_of, side_of, place_of, key_of}
-
--- in how many of the sets block b is
-abbrev pub times_among : ℕ → List Blocks → ℕ
-times_among b sets = count_by (λ s. set.contains s b) sets
 
 -- what the parts hold: the last order number; of the chains the places by number; of each side's tree quantities by key
 pub record Held : Type 0 where

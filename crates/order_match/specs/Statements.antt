@@ -14,10 +14,11 @@ use Rattle.txn_alloc.specs.FreeLists.{FreeListsHold}
 use Rattle.txn_alloc.specs.EntryMaps.{Entries, Blocks, IsOwn}
 use Rattle.txn_hash_map.specs.Chains.{ChainsHold, chain_part}
 use Rattle.txn_tree_map.specs.Trees.{TreeHolds, tree_part}
+use Rattle.txn_stores.specs.Blocks.{times_among}
 use Rattle.order_match.specs.declared.shape.OrderShape.{OrderShape}
 use Rattle.order_match.specs.declared.layout.TheConstants.{LAST_AT}
 use Rattle.order_match.specs.Layout.{arena_of, chains_of, tree_of, sides_of, side_at, key_of}
-use Rattle.order_match.specs.Standing.{Held, HasParts, Stands, times_among, quantities_on}
+use Rattle.order_match.specs.Standing.{Held, HasParts, Stands, quantities_on}
 use Rattle.order_match.specs.Access.{with_last, with_places, with_side}
 
 -- of two orders of one side, each in its ranges, the one that is served first has the lower key

@@ -103,6 +103,38 @@ pub fn cut_on<W: Words>(
     shape.tree(side).remove(w, key)
 }
 
+/// The quantity at a key of a side.
+pub fn quantity_on<W: Words>(
+    w: &mut W,
+    shape: &OrderShape,
+    side: &Side,
+    key: u64,
+) -> Result<Option<u64>, Stop>
+    requires ready { IsReady W.Words w.old }
+    requires parts { InEachState W.Words W.Shape.Shape w.old (HasSomeParts shape.now) }
+    requires side { IsWithin 1 shape.now.instruments side.now.instrument }
+    ensures told { IfOk result (λ answer. LeadsTo W.Words W.Shape.Shape w.old w.new
+        (Tells (HasParts shape.now)
+        (λ held. finite.get (held.sides (side_at side.now.instrument side.now.buys)) key)
+        answer)) }
+    ensures parts { OnOk result (InEachState W.Words W.Shape.Shape w.new (HasSomeParts shape.now)) }
+    ensures goes_on { GoesOn W.Words w.old w.new result }
+{
+    shape.tree(side).get(w, key)
+}
+
+/// The place of an order, by its number.
+pub fn place_of<W: Words>(w: &mut W, shape: &OrderShape, number: u32) -> Result<Option<u64>, Stop>
+    requires ready { IsReady W.Words w.old }
+    requires parts { InEachState W.Words W.Shape.Shape w.old (HasSomeParts shape.now) }
+    ensures told { IfOk result (λ answer. LeadsTo W.Words W.Shape.Shape w.old w.new
+        (Tells (HasParts shape.now) (λ held. finite.get held.places number) answer)) }
+    ensures parts { OnOk result (InEachState W.Words W.Shape.Shape w.new (HasSomeParts shape.now)) }
+    ensures goes_on { GoesOn W.Words w.old w.new result }
+{
+    shape.chains().get(w, u64::from(number))
+}
+
 /// Puts the place of an order at its number. A new number takes a block, if one is free.
 pub fn put_place<W: Words>(
     w: &mut W,

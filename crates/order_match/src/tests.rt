@@ -8,6 +8,7 @@ ghost use Rattle.order_text.specs.Ranges.{IsLimitOrder, IsOrderOp, IsOrderScript
 ghost use Rattle.order_match.specs.Layout.{words_of};
 ghost use Rattle.order_match.specs.Standing.{IsGoodFor};
 
+use crate::closing::orders_of_words;
 use crate::lay::empty_words;
 use crate::on_plain::run_on_plain;
 use crate::shape::OrderShape;
@@ -15,7 +16,8 @@ use books_model::limits::{GREATEST_PRICE, GREATEST_QUANTITY, MOST_OPERATIONS};
 use io_ends::OutOfMemory;
 use order_text::limits::GREATEST_ORDER;
 use order_text::{
-    Book, OrderOp, OrderReply, OrderScript, OrderValue, OrderValues, Trade, Trades, run_plain,
+    Book, OrderOp, OrderReply, OrderScript, OrderValue, OrderValues, Resting, Trade, Trades,
+    run_plain,
 };
 use std::alloc::Global;
 use std::process::Abort;
@@ -257,5 +259,53 @@ fn scripts_reply_by_hand_on_words_too(rt: HostRuntime) -> Result<(), Fail> {
     for row in rows {
         assert!(rt; both_reply(&rt, alloc, &shape, &mut words, &mut book, *row)?);
     }
+    Ok(())
+}
+
+/// Of four orders the first was taken out, and the last traded at once. A buy rests, and what is left of a sell.
+#[test]
+fn orders_that_rest_are_told_by_number(rt: HostRuntime) -> Result<(), Fail> {
+    let alloc = rt.alloc();
+    let shape = OrderShape {
+        blocks: 6,
+        instruments: 2,
+    };
+    let mut words = empty_words(alloc, &shape)?;
+    let mut book = Book::new(alloc, 6);
+    let row: (&[OrderOp], WantReply<'_>) = (
+        &[
+            OrderOp::Sell(1, 10, 5),
+            OrderOp::Buy(2, 9, 2),
+            OrderOp::Sell(1, 11, 3),
+            OrderOp::Cancel(1),
+            OrderOp::Buy(1, 12, 1),
+        ],
+        WantReply::Done(&[
+            Want::Entered(1, &[]),
+            Want::Entered(2, &[]),
+            Want::Entered(3, &[]),
+            Want::Cancelled(5),
+            Want::Entered(4, &[(3, 11, 1)]),
+        ]),
+    );
+    assert!(rt; both_reply(&rt, alloc, &shape, &mut words, &mut book, row)?);
+    let orders = orders_of_words(alloc, &shape, &words)?;
+    let wanted = &[
+        Resting {
+            number: 2,
+            instrument: 2,
+            buys: true,
+            price: 9,
+            quantity: 2,
+        },
+        Resting {
+            number: 3,
+            instrument: 1,
+            buys: false,
+            price: 11,
+            quantity: 2,
+        },
+    ];
+    assert!(rt; orders.as_slice() == wanted.as_slice());
     Ok(())
 }

@@ -17,7 +17,7 @@ use Rattle.order_text.proofs.Apart.{empty_is, scripts_keep}
 use Rattle.order_text.proofs.Members.{of_each, of_one}
 
 -- numbers that rise from each to the next rise from each to all later ones
-pairs_rise : (orders : List Resting) → IsStrictlySortedBy by_number orders → AreByNumber orders
+pub pairs_rise : (orders : List Resting) → IsStrictlySortedBy by_number orders → AreByNumber orders
 unfolding IsStrictlySortedBy
 pairs_rise [] rising = λ i j d before within. absurd (omega arith)
 pairs_rise (r ∷ rs) rising = AllPairs-cons IsBefore r rs

@@ -6,7 +6,7 @@ ghost use Rattle.std.specs.List.{flat_map};
 ghost use Rattle.books_report.specs.Lines.{place_of_line};
 ghost use Rattle.script_reader.specs.declared.words.TheConstants.{SPACE};
 ghost use Rattle.order_text.specs.Journal.{IsOrderPlace};
-ghost use Rattle.order_text.specs.Lines.{ran_of_line, scripts_of};
+ghost use Rattle.order_text.specs.Lines.{lent, ran_of_line, scripts_of};
 ghost use Rattle.order_text.specs.Output.{AreByNumber, AreRun, IsOrderOutput, closing_of, header_line, journal_line, journal_lines, order_line, side_word, text_of};
 
 use crate::input::OrderInput;
@@ -40,12 +40,12 @@ fn write_lines(
     text: &mut String,
     input: &OrderInput,
     lines: &[Line],
-    replies: &[OrderReply],
+    replies: &[&OrderReply],
 ) -> Result<(), AllocError>
     requires beside { length lines.now ≡ length replies.now }
     requires places { All (λ l. IsOrderPlace input.now (place_of_line l)) lines.now }
     ensures { OnOk result (string_bytes text.new ≡ string_bytes text.old
-        ++ journal_lines input.now 1 (scripts_of lines.now replies.now)) }
+        ++ journal_lines input.now 1 (scripts_of lines.now (lent replies.now))) }
 {
     let mut serial = 1;
     for (line, reply) in lines.iter().zip(replies) {
@@ -100,22 +100,23 @@ fn write_orders(text: &mut String, closing: &[Resting]) -> Result<(), AllocError
     Ok(())
 }
 
-/// The whole output: a journal line for each line and reply, in their order, the header, the closing orders, and `finish`.
+/// The whole output: a journal line for each line and reply, in their order, the header, the closing orders, each with its
+/// number, its instrument, its side, its price and its quantity, and `finish`. The orders of a book are by rising number.
 pub fn orders_text(
     alloc: Global,
     input: &OrderInput,
     lines: &[Line],
-    replies: &[OrderReply],
+    replies: &[&OrderReply],
     closing: &[Resting],
 ) -> Result<Vec<u8>, OutOfMemory>
     requires beside { length lines.now ≡ length replies.now }
     requires places { All (λ l. IsOrderPlace input.now (place_of_line l)) lines.now }
     requires by_number { AreByNumber closing.now }
     ensures text { IfOk result (λ text. text.items
-        ≡ text_of input.now (scripts_of lines.now replies.now) closing.now) }
+        ≡ text_of input.now (scripts_of lines.now (lent replies.now)) closing.now) }
     ensures output { IfOk result (λ text. (limit : ℕ)
-        → AreRun input.now limit (scripts_of lines.now replies.now)
-        → closing.now ≡ closing_of input.now (scripts_of lines.now replies.now)
+        → AreRun input.now limit (scripts_of lines.now (lent replies.now))
+        → closing.now ≡ closing_of input.now (scripts_of lines.now (lent replies.now))
         → IsOrderOutput input.now limit text.items) }
 {
     let mut text = String::from_str(alloc, "journal\n")?;

@@ -135,7 +135,8 @@ fn is_printed(
         return Ok(false);
     }
     let lines = lines_of(rt, alloc, &input, places)?;
-    let printed = orders_text(alloc, &input, &lines, replies, closing)?;
+    let lent: Vec<&OrderReply> = replies.iter().collect(alloc)?;
+    let printed = orders_text(alloc, &input, &lines, &lent, closing)?;
     Ok(printed.as_slice() == output.as_bytes())
 }
 

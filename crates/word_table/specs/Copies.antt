@@ -11,7 +11,7 @@ use Rattle.history_model.specs.Counts.{is_open}
 use Rattle.history_model.specs.Legal.{IsIn}
 use Rattle.history_model.specs.Locks.{lock_of_word}
 use Rattle.history_model.specs.Sets.{has, has_pair, flag}
-use Rattle.history_model.specs.Table.{row_word, writer_word, table_words}
+use Rattle.history_model.specs.Table.{row_word, writer_word, value_word, table_words}
 use Rattle.history_model.specs.Traces.{Trace, Touches}
 use Rattle.history_model.specs.Undoing.{Notes}
 use Rattle.history_model.specs.Views.{HasBit, HasClaim}
@@ -94,6 +94,7 @@ pub record IsCopy (call : CallCopy) (locks : LockCopy) (table : TableId) (me : M
   pub others_are : ShowsOthers call.others call.seats call.who
   pub row_is : call.row ≡ row_word call.seats call.who 0
   pub writers_are : call.writers ≡ writer_word call.seats 0
+  pub values_are : call.values ≡ value_word call.seats 0
   pub below : call.who < call.seats
   pub few : call.seats ≤ MOST_PASSES
   pub short : length me.0.base ≤ MOST_WORDS

@@ -73,12 +73,13 @@ pub(crate) fn place_of_version(seats: u32, lock: u32) -> usize
 }
 
 /// The word that has a value of the memory.
-pub(crate) fn place_of_value(seats: u32, word: u64) -> usize
-    requires seats { seats ≤ MOST_PASSES }
+pub(crate) fn place_of_value(call: &CallCopy, word: u64) -> usize
+    requires seats { call.now.seats ≤ MOST_PASSES }
+    requires values { call.now.values ≡ value_word call.now.seats 0 }
     requires word { word < MOST_WORDS }
-    ensures { result ≡ value_word seats word }
+    ensures { result ≡ value_word call.now.seats word }
 {
-    place_of_values(seats) + word as usize
+    call.values as usize + word as usize
 }
 
 /// The first word of the memory, behind all words of the locks.

@@ -25,6 +25,7 @@ mod versions;
 
 use crate::bits;
 use crate::copies::{CallCopy, LockCopy, VersionCopy};
+use crate::layout::place_of_values;
 use crate::limits::{LAST_CALL, MOST_PASSES, MOST_WORDS};
 use atomic_table::Seat;
 use history_model::{LOCKS, LockUse, Phase, Shape, View};
@@ -73,6 +74,7 @@ impl<S: Shape> Pass<S> {
             others: bits::all_but(seats, who),
             row: 2 + 2 * seats + 16 * who,
             writers: 2 + 18 * seats,
+            values: place_of_values(seats) as u32,
             calls: 0,
             phase: Phase::Idle,
             stamp: 0,

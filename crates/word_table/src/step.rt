@@ -102,7 +102,8 @@ impl<A: Kind> Play<(), View> for Puts<A> {
     ghost use Rattle.std.specs.Prelude.{◌≡◌, ℕ, []};
     ghost use Rattle.word_table.specs.Kinds.{action_of, Took};
 
-    ghost then = { λ st me new after. (after ≡ ((action_of A.step me.0).view new, me.1)) × ((found : ℕ) × Took A.sound (action_of A.step me.0) me after found) };
+    ghost then = { λ st me new after. (after ≡ ((action_of A.step me.0).view new, me.1))
+        × ((found : ℕ) × Took A.sound (action_of A.step me.0) me after found) };
 }
 
 fn load_by<S: Shape, A: Kind>(

@@ -10,7 +10,7 @@ use Rattle.history_model.specs.declared.view.View.{View}
 use Rattle.history_model.specs.declared.view.Phase.{Phase}
 use Rattle.history_model.specs.declared.view.Phase.TheVariants.{Idle, Running, Yielding, Withdrawing, Releasing}
 use Rattle.history_model.specs.Sets.{without_first}
-use Rattle.history_model.specs.Table.{row_word, writer_word, table_words}
+use Rattle.history_model.specs.Table.{row_word, writer_word, value_word, table_words}
 use Rattle.locks_rule.specs.Steps.{is_free, released_phase, load_writer_action, claim_writer_action, scan_row_action, after_asking, after_meeting}
 use Rattle.stamps_rule.specs.Steps.{after_waiting, after_restarting}
 use Rattle.word_table.specs.declared.limits.TheConstants.{MOST_PASSES, MOST_WORDS}
@@ -45,6 +45,7 @@ copy_called {call} {locks} {table} {me} i phase calls locks' table' me' w et ew 
       others_are = i.others_are;
       row_is = i.row_is;
       writers_are = i.writers_are;
+      values_are = i.values_are;
       below = i.below;
       few = i.few;
       short = subst (λ (x : List ℕ). length x ≤ MOST_WORDS) (sym (ap (λ (x : View). x.base) ew ∙ eb)) i.short;
@@ -66,14 +67,16 @@ pub copy_made : {call : CallCopy} {locks : LockCopy} {table : TableId} {me : Me 
     → IsCopy call locks table me → (call' : CallCopy) (locks' : LockCopy) (table' : TableId) (me' : Me (Unit {0}) View) (w : View)
     → table' ≡ table → me'.0 ≡ w → me'.1 ≡ me.1 → w.base ≡ me.0.base
     → call'.seats ≡ call.seats → call'.who ≡ call.who → call'.others ≡ call.others → call'.row ≡ call.row → call'.writers ≡ call.writers
+    → call'.values ≡ call.values
     → IsCallCopy call' w → IsLockCopy locks' w → (w.phase ≡ Idle → HoldsNothing w) → IsCopy call' locks' table' me'
-copy_made {call} {locks} {table} {me} i call' locks' table' me' w et ew es eb cs cw co cr cp calls copy rests =
+copy_made {call} {locks} {table} {me} i call' locks' table' me' w et ew es eb cs cw co cr cp cv calls copy rests =
     subst (λ (t : TableId). IsCopy call' locks' t me') (sym et) record {
       slots = es ∙ i.slots;
       others_are = subst (λ (m : ℕ). ShowsOthers m call'.seats call'.who) (sym co)
           (subst (λ (m : ℕ). ShowsOthers call.others m call'.who) (sym cs) (subst (λ (m : ℕ). ShowsOthers call.others call.seats m) (sym cw) i.others_are));
       row_is = cr ∙ (i.row_is ∙ (ap (λ (m : ℕ). row_word m call.who 0) (sym cs) ∙ ap (λ (m : ℕ). row_word call'.seats m 0) (sym cw)));
       writers_are = cp ∙ (i.writers_are ∙ ap (λ (m : ℕ). writer_word m 0) (sym cs));
+      values_are = cv ∙ (i.values_are ∙ ap (λ (m : ℕ). value_word m 0) (sym cs));
       below = subst (λ (m : ℕ). m < call'.seats) (sym cw) (subst (λ (m : ℕ). call.who < m) (sym cs) i.below);
       few = subst (λ (m : ℕ). m ≤ MOST_PASSES) (sym cs) i.few;
       short = subst (λ (x : List ℕ). length x ≤ MOST_WORDS) (sym (ap (λ (x : View). x.base) ew ∙ eb)) i.short;

@@ -89,7 +89,7 @@ impl<S: Shape> Pass<S> {
         step::load(
             table,
             &mut self.seat,
-            place_of_value(self.call.seats, a),
+            place_of_value(&self.call, a),
             &Step::LoadValue {
                 seat: self.call.who,
                 word: a,
@@ -116,7 +116,7 @@ impl<S: Shape> Pass<S> {
         step::store(
             table,
             &mut self.seat,
-            place_of_value(self.call.seats, a),
+            place_of_value(&self.call, a),
             value,
             &Step::StoreValue {
                 seat: self.call.who,
@@ -145,7 +145,7 @@ impl<S: Shape> Pass<S> {
         step::store(
             table,
             &mut self.seat,
-            place_of_value(self.call.seats, a),
+            place_of_value(&self.call, a),
             old,
             &Step::UndoStore {
                 seat: self.call.who,

@@ -4,8 +4,8 @@ use Rattle.std.proofs.lemmas.List.{nil_from_length}
 use Rattle.std.proofs.lemmas.List.Elements.{All-drop}
 use Rattle.order_text.specs.declared.script.OrderOp.{OrderOp}
 use Rattle.order_text.specs.Ranges.{IsOrderOp}
+use Rattle.txn_stores.proofs.Turning.{Leads, Turns, turned_stands}
 use Rattle.order_match.specs.Standing.{Stands}
-use Rattle.order_match.proofs.Turning.{Leads, Turns, turned_stands}
 use Rattle.order_match.proofs.Scripted.{SoFar, run_begins, run_ends, run_gives, run_declined, run_full}
 use Rattle.order_match.proofs.job.run_script.Goals as goal
 use Rattle.order_match.proofs.job.run_script.Goals.{In-Some}

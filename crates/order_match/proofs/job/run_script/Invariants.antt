@@ -1,8 +1,8 @@
 use Rattle.std.proofs.Common.{◌≡◌, ◌+◌, length, All, None}
 use Rattle.std.specs.Slice.Iter.{iter_rest}
 use Rattle.order_text.specs.Ranges.{IsOrderOp}
+use Rattle.txn_stores.proofs.Turning.{Leads, Turns}
 use Rattle.order_match.specs.Standing.{Stands}
-use Rattle.order_match.proofs.Turning.{Leads, Turns}
 use Rattle.order_match.proofs.Scripted.{SoFar}
 use Rattle.order_match.proofs.job.run_script.Given as goal
 

@@ -6,9 +6,10 @@ use Rattle.txn_words.specs.Frames.{KeepsOthers}
 use Rattle.txn_alloc.specs.FreeLists.{FreeListsHold}
 use Rattle.txn_alloc.specs.Laying.{IsWrittenByLaying}
 use Rattle.order_text.specs.Orders.{empty_book}
+use Rattle.txn_stores.proofs.Ranges.{all_below, all_once}
 use Rattle.order_match.specs.Layout.{words_of, arena_of}
 use Rattle.order_match.specs.Standing.{Stands}
-use Rattle.order_match.proofs.Emptied.{all_blocks, empty_stands, all_below, all_once}
+use Rattle.order_match.proofs.Emptied.{all_blocks, empty_stands}
 use Rattle.order_match.proofs.lay.empty_words.Goals as goal
 use Rattle.order_match.proofs.lay.empty_words.Goals.{After-lay_free}
 

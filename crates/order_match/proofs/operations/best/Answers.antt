@@ -1,5 +1,5 @@
+use Rattle.txn_stores.proofs.Turning.{leads_less, looked, look_then}
 use Rattle.order_match.proofs.Scripted.{best_steps}
-use Rattle.order_match.proofs.Turning.{leads_less, looked, look_then}
 use Rattle.order_match.proofs.operations.best.Goals as goal
 
 pub returns-clause-step : goal.returns-clause-step

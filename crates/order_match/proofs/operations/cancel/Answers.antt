@@ -1,5 +1,5 @@
+use Rattle.txn_stores.proofs.Turning.{leads_less}
 use Rattle.order_match.proofs.Scripted.{absent_steps, cancelled_steps}
-use Rattle.order_match.proofs.Turning.{leads_less}
 use Rattle.order_match.proofs.operations.cancel.Goals as goal
 
 pub returns-in-Some-clause-step : goal.returns-in-Some-clause-step

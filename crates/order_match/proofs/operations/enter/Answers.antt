@@ -2,9 +2,9 @@ use Rattle.std.proofs.Common.{ℕ, ◌<◌, arith, subst, sym, ◌∙◌}
 use Rattle.history_model.proofs.Traces.TraceLaws.{begins_trans}
 use Rattle.txn_words.proofs.CallLaws.{leads_then, state_after}
 use Rattle.order_text.specs.Orders.{OrderBook}
+use Rattle.txn_stores.proofs.Turning.{each_turned, leads_less, turn_by, unturned}
 use Rattle.order_match.specs.Standing.{IsGoodFor, Stands}
 use Rattle.order_match.proofs.Entered.{enters_done, enters_no_number, enters_no_room, last_below}
-use Rattle.order_match.proofs.Turning.{each_turned, leads_less, turn_by, unturned}
 use Rattle.order_match.proofs.Whole.{one_book}
 use Rattle.order_match.proofs.operations.enter.Goals as goal
 

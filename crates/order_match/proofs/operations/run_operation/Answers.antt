@@ -1,5 +1,5 @@
 use Rattle.std.proofs.lemmas.Result.{IfOk-weaker}
-use Rattle.order_match.proofs.Turning.{leads_less}
+use Rattle.txn_stores.proofs.Turning.{leads_less}
 use Rattle.order_match.proofs.operations.run_operation.Goals as goal
 
 pub returns-in-Buy-clause-step : goal.returns-in-Buy-clause-step

@@ -2,8 +2,8 @@ use Rattle.std.proofs.Common.{rules}
 use Rattle.std.proofs.lemmas.Result.{IfOk-from_err}
 use Rattle.txn_words.specs.Calls.{GoesOn}
 use Rattle.txn_words.proofs.CallLaws.{goes_then, goes_as}
+use Rattle.txn_stores.proofs.Turning.{leads_less, leads_some, turned, turn_then, turned_stands}
 use Rattle.order_match.proofs.Calls.{good_parts, is_cancelled, not_cancelled, side_of_place}
-use Rattle.order_match.proofs.Turning.{leads_less, leads_some, turned, turn_then, turned_stands}
 use Rattle.order_match.proofs.orders.cancel_order.Goals as goal
 
 pub cut_place-requires-clause-parts : goal.cut_place-requires-clause-parts

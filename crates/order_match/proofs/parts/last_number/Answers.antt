@@ -1,7 +1,7 @@
 use Rattle.std.proofs.lemmas.Result.{IfOk-weaker}
 use Rattle.txn_words.proofs.CallLaws.{each_plain}
+use Rattle.txn_stores.proofs.Turning.{looked, looked_stands}
 use Rattle.order_match.proofs.LastNumber.{last_read, last_within}
-use Rattle.order_match.proofs.Turning.{looked, looked_stands}
 use Rattle.order_match.proofs.parts.last_number.Goals as goal
 
 pub read-requires-clause-within : goal.read-requires-clause-within

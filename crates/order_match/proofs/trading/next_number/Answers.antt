@@ -1,7 +1,7 @@
 use Rattle.std.proofs.Common.{◌+◌, Some, None, arith}
+use Rattle.txn_stores.proofs.Turning.{leads_less, looked, looked_stands}
 use Rattle.order_match.proofs.Calls.{good_parts}
 use Rattle.order_match.proofs.Entering.{next_none, next_some, tells_next}
-use Rattle.order_match.proofs.Turning.{leads_less, looked, looked_stands}
 use Rattle.order_match.proofs.trading.next_number.Goals as goal
 
 pub last_number-requires-clause-parts : goal.last_number-requires-clause-parts

@@ -1,9 +1,9 @@
 use Rattle.std.proofs.lemmas.Result.{IfOk-weaker}
 use Rattle.std.proofs.Common.{refl}
 use Rattle.history_model.proofs.Traces.TraceLaws.{begins_refl}
+use Rattle.txn_stores.proofs.Turning.{leads_less}
 use Rattle.order_match.proofs.Calls.{good_parts}
 use Rattle.order_match.proofs.Entering.{rests_nothing, rests_some}
-use Rattle.order_match.proofs.Turning.{leads_less}
 use Rattle.order_match.proofs.trading.rest_order.Goals as goal
 
 -- nothing is left of it, and nothing was done

@@ -3,10 +3,10 @@ use Rattle.order_text.specs.declared.order.Resting.{Resting}
 use Rattle.order_text.specs.declared.reply.Trade.{Trade}
 use Rattle.order_text.specs.Matching.{trade_with}
 use Rattle.txn_words.proofs.CallLaws.{goes_then, leads_then}
+use Rattle.txn_stores.proofs.Turning.{each_seen, looked, turn_by, turned_stands, unturned, leads_less}
 use Rattle.order_match.specs.Standing.{Stands}
 use Rattle.order_match.specs.Trading.{after_trade}
 use Rattle.order_match.proofs.Entering.{matches_order, partner_rests, trading_begins, trading_ends, trading_more}
-use Rattle.order_match.proofs.Turning.{each_seen, looked, turn_by, turned_stands, unturned, leads_less}
 use Rattle.order_match.proofs.trading.trade_down.Goals as goal
 
 -- trades with one more behind them

@@ -1,7 +1,7 @@
 use Rattle.std.proofs.Common.{◌≡◌, None}
+use Rattle.txn_stores.proofs.Turning.{Leads, Turns}
 use Rattle.order_match.specs.Standing.{Stands}
 use Rattle.order_match.proofs.Entering.{IsTrading}
-use Rattle.order_match.proofs.Turning.{Leads, Turns}
 use Rattle.order_match.proofs.trading.trade_down.Given as goal
 
 -- what the order comes to on the book as it is now, with the trades so far in front, is what it comes to at all

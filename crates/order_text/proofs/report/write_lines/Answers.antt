@@ -1,4 +1,4 @@
-use Rattle.std.proofs.Common.{◌≡◌, ◌∷◌, length, List, All, ap, subst, arith}
+use Rattle.std.proofs.Common.{◌≡◌, ◌∷◌, length, List, Bor, All, ap, subst, arith}
 use Rattle.std.specs.Iterator.Adapters.{zip_first, zip_second}
 use Rattle.std.specs.Slice.Iter.{iter_rest}
 use Rattle.std.specs.String.{string_bytes}
@@ -7,6 +7,7 @@ use Rattle.books_report.specs.declared.line.Line.{Line}
 use Rattle.books_report.specs.Lines.{place_of_line}
 use Rattle.order_text.specs.declared.reply.OrderReply.{OrderReply}
 use Rattle.order_text.specs.Journal.{IsOrderPlace}
+use Rattle.order_text.specs.Lines.{lent}
 use Rattle.order_text.proofs.Printing.{line_next}
 use Rattle.order_text.proofs.report.write_lines.Goals as goal
 
@@ -20,10 +21,10 @@ loop-line-preserved c =
     let answered : replies ≡ c.in-Some.reply.now ∷ others = c.in-Some.ensures.steps.1 in
     record {
       left = omega (arith, c.loop-line.invariant.left, ap (λ (ls : List Line). length ls) next);
-      beside = omega (arith, c.loop-line.invariant.beside, ap (λ (ls : List Line). length ls) next, ap (λ (rs : List OrderReply). length rs) answered);
+      beside = omega (arith, c.loop-line.invariant.beside, ap (λ (ls : List Line). length ls) next, ap (λ (rs : List (Bor OrderReply)). length rs) answered);
       places = All-drop (λ l. IsOrderPlace c.args.input.now (place_of_line l)) 1 (c.in-Some.line.now ∷ left)
           (subst (λ ls. All (λ l. IsOrderPlace c.args.input.now (place_of_line l)) ls) next c.loop-line.invariant.places);
       text = line_next c.args.input.now _ (string_bytes c.loop-line.text) _ c.name-name.result.now c.loop-line.serial
-          lines left replies others c.in-Some.line.now c.in-Some.reply.now c.loop-line.invariant.text next answered
+          lines left (lent replies) (lent others) c.in-Some.line.now c.in-Some.reply.now.now c.loop-line.invariant.text next (ap lent answered)
           c.name-name.ensures c.in_ok-write_line.ensures;
     }

@@ -4,7 +4,7 @@ use Rattle.std.specs.Slice.Iter.{iter_rest}
 use Rattle.std.specs.String.{string_bytes}
 use Rattle.books_report.specs.Lines.{place_of_line}
 use Rattle.order_text.specs.Journal.{IsOrderPlace}
-use Rattle.order_text.specs.Lines.{scripts_of}
+use Rattle.order_text.specs.Lines.{lent, scripts_of}
 use Rattle.order_text.specs.Output.{journal_lines}
 use Rattle.order_text.proofs.report.write_lines.Given as goal
 
@@ -15,6 +15,6 @@ invariant-loop-line l = record {
   beside : length (iter_rest (zip_first l.line-iterator)) ≡ length (iter_rest (zip_second l.line-iterator));
   places : All (λ x. IsOrderPlace l.input (place_of_line x)) (iter_rest (zip_first l.line-iterator));
   text : string_bytes l.text
-      ++ journal_lines l.input l.serial (scripts_of (iter_rest (zip_first l.line-iterator)) (iter_rest (zip_second l.line-iterator)))
-      ≡ string_bytes l.fn.text ++ journal_lines l.input 1 (scripts_of l.lines l.replies);
+      ++ journal_lines l.input l.serial (scripts_of (iter_rest (zip_first l.line-iterator)) (lent (iter_rest (zip_second l.line-iterator))))
+      ≡ string_bytes l.fn.text ++ journal_lines l.input 1 (scripts_of l.lines (lent l.replies));
 }

@@ -18,7 +18,7 @@ invariant_of-self g c = let i = c.self.invariant in let p = c.self.inside in let
     let w : View = (clear_stamp_action p.call.who v).view 0 in let after : Me (Unit {0}) View = (w, p.seat.me.1) in
     copy_made i (record p.call { phase = Idle; stamp = 0; announced = false }) p.locks c.store.new.seat.table_id c.store.new.seat.me w c.store.ensures.seat
     (ap (λ (m : Me (Unit {0}) View). m.0) {y = after} c.store.ensures.view) (ap (λ (m : Me (Unit {0}) View). m.1) {y = after} c.store.ensures.view)
-    refl refl refl refl refl refl
+    refl refl refl refl refl refl refl
     record {
       seats_are = i.call_is.seats_are;
       who_is = i.call_is.who_is;

@@ -1,5 +1,5 @@
 -- A block is in one of an arena's parts alone.
-use Rattle.std.proofs.Common.{◌≡◌, ℕ, ◌+◌, ◌<◌, ◌≤◌, ◌⊎◌, inl, inr, Bool, true, false, cond, List, refl, sym, ap, ◌∙◌, subst, arith}
+use Rattle.std.proofs.Common.{◌≡◌, ℕ, ◌+◌, ◌<◌, ◌≤◌, ◌⊎◌, inl, inr, Bool, true, false, cond, List, [], ◌∷◌, refl, sym, ap, ◌∙◌, subst, arith}
 use mathlib.Core.Logic.{dite}
 use native.Mathlib.Decide.{ℕ_discrete}
 use Rattle.std.specs.FinSet as set
@@ -11,6 +11,8 @@ use Rattle.txn_alloc.proofs.FreeLists.Lists.{same_block}
 use Rattle.txn_alloc.proofs.Maps.Parts.{IsOne, used_of}
 use Rattle.txn_alloc.proofs.FreeLists.Wider.{head_is}
 use Rattle.txn_alloc.proofs.Sets.{in_here, out_itself, contains-insert_other, contains-remove_other}
+use Rattle.txn_stores.specs.Blocks.{times_among}
+use Rattle.txn_stores.specs.Statements.{MovedBlock}
 
 -- a block of a set counts once there
 pub member_one : (s : Blocks) (b : ℕ) → set.contains s b ≡ true → times_of s b ≡ 1
@@ -18,6 +20,12 @@ member_one s b e = ap (λ m. cond m 1 0) e
 
 pub out_none : (s : Blocks) (b : ℕ) → set.contains s b ≡ false → times_of s b ≡ 0
 out_none s b e = ap (λ m. cond m 1 0) e
+
+pub two_among : (b : ℕ) (u v : Blocks) → times_among b (u ∷ v ∷ []) ≡ times_of u b + times_of v b
+two_among b u v = omega arith
+
+pub three_among : (b : ℕ) (u v w : Blocks) → times_among b (u ∷ v ∷ w ∷ []) ≡ times_of u b + times_of v b + times_of w b
+three_among b u v w = omega arith
 
 -- a set of which a block is no member
 out_of : (s : Blocks) (b : ℕ) → times_of s b ≡ 0 → set.contains s b ≡ false
@@ -79,3 +87,7 @@ moved_times used free c out member b = dite (ℕ_discrete b c)
     let here : times_of (set.insert used c) b ≡ times_of used b = ap (λ m. times_by m) (contains-insert_other used c b ne) in
     let there : times_of (set.remove free c) b ≡ times_of free b = ap (λ m. times_by m) (contains-remove_other free c b ne) in
     omega (arith, here, there))
+
+pub moved_block : MovedBlock
+moved_block used free c out member b =
+    two_among b (set.insert used c) (set.remove free c) ∙ moved_times used free c out member b ∙ sym (two_among b used free)

@@ -8,12 +8,12 @@ use Rattle.history_model.proofs.Traces.TraceLaws.{begins_refl, begins_trans}
 use Rattle.txn_words.specs.declared.words.Words.{Ghosts as AnyWords}
 use Rattle.txn_words.specs.Access.{OfModel, Tells, TellsAndChanges}
 use Rattle.txn_words.specs.Calls.{InEachState, LeadsTo, WritesWithin}
+use Rattle.txn_words.specs.Frames.{KeepsOthers}
 use Rattle.txn_words.proofs.FrameLaws.{only_keeps}
 use Rattle.txn_words.proofs.CallLaws.{state_after, state_at, leads_then}
 use Rattle.txn_alloc.specs.declared.put.Put.{Put}
 use Rattle.txn_alloc.specs.declared.put.Put.TheVariants.{Full}
 use Rattle.txn_alloc.specs.EntryMaps.{Part, IsOwn, Inserts, LacksRoom, Removes}
-use Rattle.txn_words.specs.Frames.{KeepsOthers}
 
 -- from state to state: what an insert did, why it found no room where it did not, and that other words stay
 pub record IsPut (part : Part) (key x : ℕ) (put : Put) (old new : List ℕ) : Type 0 where
@@ -180,12 +180,6 @@ module _ {W S O Model : Type 0} {words : AnyWords W S O} {shapes : Shapes S} {st
         → InEachState words shapes w (StandsForSome stands)
     looked_stands {P = P} h stand = state_after words shapes u w (StandsForSome stands) (StandsForSome stands) (Saw stands P) h.kept h.begins stand h.leads
         (λ x y some k. subst (StandsForSome stands) (sym k.same) some)
-
-    -- what was seen holds after looks
-    pub each_looked : {P Q : Model → Type 0} → Leads words shapes u w (Saw stands P) → ((model : Model) → P model → Q model)
-        → InEachState words shapes w (OfModel stands Q)
-    each_looked {Q = Q} h means = state_at words shapes u w (OfModel stands Q) h.kept
-        (record { at = λ s fit model stand. let k = h.leads.at s fit in means model (k.saw model (subst (λ z. stands z model) k.same stand)) })
 
     -- words stand after changes for a model
     pub turned_stands : {R : Model → Model → Type 0} → Leads words shapes u w (Turns stands R) → InEachState words shapes u (StandsForSome stands)

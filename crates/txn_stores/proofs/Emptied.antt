@@ -1,0 +1,38 @@
+-- The words of an empty store: zeros, but for the lists of the free blocks.
+use Rattle.std.proofs.Common.{◌≡◌, ℕ, ◌<◌, inl, inr, List, length, slice_get, Some, replicate, ap, ◌∙◌, arith}
+use Rattle.std.specs.Ordering.{nat_cmp}
+use Rattle.std.specs.FinSet as set
+use Rattle.std.specs.FinMap as finite
+use Rattle.std.proofs.lemmas.List.{length-replicate}
+use Rattle.history_model.proofs.ListPlaces.{zero_there}
+use Rattle.txn_words.specs.Frames.{KeepsOthers}
+use Rattle.txn_alloc.specs.declared.arena.Arena.{Arena}
+use Rattle.txn_alloc.specs.FreeLists.{IsHead}
+use Rattle.txn_alloc.specs.Laying.{IsWrittenByLaying}
+use Rattle.txn_alloc.proofs.Sets.{out_empty}
+use Rattle.txn_tree_map.specs.declared.map.TreeMap.{TreeMap}
+use Rattle.txn_tree_map.specs.Trees.{IsLaid, TreeHolds}
+use Rattle.txn_tree_map.specs.Trees.Tree.{Leaf}
+
+module _ (arena : Arena) (blocks : List ℕ) (n : ℕ) (first words : List ℕ) (zeros : first ≡ replicate n 0)
+    (kept : KeepsOthers (IsWrittenByLaying arena blocks) first words) where
+  -- as many as before
+  pub laid_count : length words ≡ n
+  laid_count = let nil : ℕ = 0 in kept.count ∙ ap length zeros ∙ length-replicate n nil
+
+  -- a word before the blocks that is no head is 0
+  pub zero_before : (a : ℕ) → a < n → a < arena.first → ¬ IsHead arena a → slice_get words a ≡ Some 0
+  zero_before a lt before no_head =
+      kept.same a (λ own. elim own [ inl head ↦ no_head head | inr k ↦ let e = k.2 in omega (arith, before, e) ]) ∙ zero_there n a first zeros lt
+
+-- where its root is 0, a tree holds nothing
+pub no_tree : (map : TreeMap) (words : List ℕ) → IsLaid map words → slice_get words map.root ≡ Some 0 → TreeHolds map words finite.empty set.empty
+no_tree map words laid zero_root = record {
+  laid = laid;
+  tree = Leaf;
+  spelled = (zero_root, tt);
+  search = tt;
+  heap = tt;
+  entries_are = λ key. finite.get-empty nat_cmp key;
+  used_are = out_empty;
+}

@@ -1,0 +1,14 @@
+-- a finite map after a change at a key
+pub mod Maps
+-- a block is in one of an arena's parts alone
+pub mod Apart
+-- calls one after another on words that stand for a model, first looks and then changes
+pub mod Turning
+-- the numbers of a range, each once
+pub mod Ranges
+-- jobs that were run once and in their order are a journal, and as many as the scripts
+pub mod Journals
+-- the words of an empty store
+pub mod Emptied
+-- a day of a store, from jobs that were run in order
+pub mod Days
