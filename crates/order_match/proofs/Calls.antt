@@ -154,7 +154,8 @@ module _ (shape : OrderShape) where
           let same = place_side number place instrument buys book k.0 stand.book_is k.1 side low in
           let price = place_price number place book k.0 stand.book_is k.1 in
           let quantity : unwrap_or answer 0 ≡ k.0.quantity = ap (λ o. unwrap_or o 0) (saw.1
-          ∙ ((λ i. finite.get (quantities_on (side_at (same.0 i) (same.1 i)) book.orders) (key_there number place instrument buys side low book k.0 stand.book_is k.1 i))
+          ∙ ((λ i. finite.get (quantities_on (side_at (same.0 i) (same.1 i)) book.orders)
+          (key_there number place instrument buys side low book k.0 stand.book_is k.1 i))
           ∙ quantity_found book.orders are k.0 k.1.there)) in
           (λ i. Some (record {
             number = sym k.1.number_is i;

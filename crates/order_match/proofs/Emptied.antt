@@ -14,7 +14,7 @@ use Rattle.txn_alloc.proofs.Maps.Counting.{times_of}
 use Rattle.txn_alloc.proofs.Sets.{out_empty}
 use Rattle.txn_hash_map.specs.Chains.{ChainsHold}
 use Rattle.txn_tree_map.specs.Trees.{TreeHolds}
-use Rattle.txn_stores.proofs.Apart.{member_one, out_none}
+use Rattle.txn_alloc.proofs.Apart.{member_one, out_none}
 use Rattle.txn_stores.proofs.Ranges.{all_among}
 use Rattle.txn_stores.proofs.Emptied.{laid_count, no_tree, zero_before}
 use Rattle.order_match.specs.declared.shape.OrderShape.{OrderShape}

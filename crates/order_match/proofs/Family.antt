@@ -23,8 +23,8 @@ use Rattle.txn_tree_map.proofs.Maps.{tree_stands}
 use Rattle.txn_tree_map.proofs.Searches.Gets.{used_below}
 use Rattle.txn_tree_map.proofs.Inserts.InsertCalls as trees
 use Rattle.txn_tree_map.proofs.Held.Numbers.{as_many_blocks}
-use Rattle.txn_stores.specs.Blocks.{times_among}
-use Rattle.txn_stores.proofs.Apart.{not_own, other_out, out_above}
+use Rattle.txn_alloc.specs.Blocks.{times_among}
+use Rattle.txn_alloc.proofs.Apart.{not_own, other_out, out_above}
 use Rattle.order_match.specs.declared.shape.OrderShape.{OrderShape}
 use Rattle.order_match.specs.declared.layout.TheConstants.{LAST_AT, BUCKETS_AT, ROOTS_AT}
 use Rattle.order_match.specs.Layout.{arena_of, chains_of, tree_of, sides_of}

@@ -18,7 +18,7 @@ use Rattle.txn_alloc.proofs.Maps.Counting.{some_member, times_of}
 use Rattle.txn_alloc.proofs.Maps.Parts.{free_unused, held}
 use Rattle.txn_tree_map.specs.Firsts.{FindsFirst}
 use Rattle.txn_stores.proofs.Maps.{remove_absent}
-use Rattle.txn_stores.proofs.Apart.{moved_times, out_other}
+use Rattle.txn_alloc.proofs.Apart.{moved_times, out_other}
 use Rattle.txn_stores.proofs.Turning.{IsPut, IsCut}
 use Rattle.order_match.specs.declared.shape.OrderShape.{OrderShape}
 use Rattle.order_match.specs.Layout.{side_at, sides_of, tree_of}

@@ -9,7 +9,7 @@ use Rattle.txn_alloc.specs.FreeLists.{FreeListsHold}
 use Rattle.txn_alloc.specs.EntryMaps.{Entries, Blocks}
 use Rattle.txn_hash_map.specs.Chains.{ChainsHold}
 use Rattle.txn_tree_map.specs.Trees.{TreeHolds}
-use Rattle.txn_stores.specs.Blocks.{times_among}
+use Rattle.txn_alloc.specs.Blocks.{times_among}
 use Rattle.order_match.specs.declared.shape.OrderShape.{OrderShape}
 use Rattle.order_match.specs.declared.layout.TheConstants.{LAST_AT}
 use Rattle.order_match.specs.Layout.{arena_of, chains_of, tree_of, sides_of, side_of, place_of, key_of}

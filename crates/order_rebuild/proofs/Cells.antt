@@ -1,5 +1,6 @@
 -- Rows of counts, as uses are counted into them.
-use Rattle.std.proofs.Common.{◌≡◌, ◌≢◌, ℕ, zero, suc, ◌+◌, ◌<◌, ◌≤◌, Bool, ◌==◌, List, length, slice_get, slice_index, slice_set, sum, take, Some, refl, sym, ap, ◌∙◌, subst, arith, Vec, Global}
+use Rattle.std.proofs.Common.{◌≡◌, ◌≢◌, ℕ, zero, suc, ◌+◌, ◌<◌, ◌≤◌, Bool, ◌==◌, List, length, slice_get}
+use Rattle.std.proofs.Common.{slice_index, slice_set, sum, take, Some, refl, sym, ap, ◌∙◌, subst, arith, Vec, Global}
 use mathlib.Core.Logic.{dite}
 use native.Mathlib.Decide.{ℕ_discrete, dec_lt}
 use Rattle.std.proofs.lemmas.Bool.{eq-eqb, ne_eqb}

@@ -1,5 +1,6 @@
 -- Sums over the uses of calls: how many have a lower key, and how many of them are placed.
-use Rattle.std.proofs.Common.{◌≡◌, ℕ, zero, suc, ◌+◌, ◌<◌, ◌≤◌, Bool, true, false, ◌&&◌, ◌==◌, ⊎_elim, List, [], ◌∷◌, length, slice_get, slice_set, Some, refl, sym, ap, subst, arith}
+use Rattle.std.proofs.Common.{◌≡◌, ℕ, zero, suc, ◌+◌, ◌<◌, ◌≤◌, Bool, true, false, ◌&&◌, ◌==◌, ⊎_elim, List}
+use Rattle.std.proofs.Common.{[], ◌∷◌, length, slice_get, slice_set, Some, refl, sym, ap, subst, arith}
 use Rattle.std.specs.Prelude.{nat_lt}
 use mathlib.Core.Logic.{dite}
 use native.Mathlib.Decide.{ℕ_discrete, dec_lt}

@@ -1,5 +1,6 @@
 -- Best prices are apart, and books stay books, after each operation and each script.
-use Rattle.std.proofs.Common.{◌≡◌, ◌≢◌, ℕ, ◌+◌, ◌-◌, ◌<◌, ◌≤◌, Bool, true, false, not, ◌&&◌, ◌||◌, ◌==◌, nat_le, nat_lt, ⊎_elim, List, [], ◌∷◌, ◌++◌, All, Option, Some, None, refl, sym, ap, ◌∙◌, subst, arith, eq-eqb, if◌then◌else◌}
+use Rattle.std.proofs.Common.{◌≡◌, ◌≢◌, ℕ, ◌+◌, ◌-◌, ◌<◌, ◌≤◌, Bool, true, false, not, ◌&&◌, ◌||◌, ◌==◌, nat_le, nat_lt, ⊎_elim}
+use Rattle.std.proofs.Common.{List, [], ◌∷◌, ◌++◌, All, Option, Some, None, refl, sym, ap, ◌∙◌, subst, arith, eq-eqb, if◌then◌else◌}
 use Rattle.std.proofs.lemmas.Bool.{cases_lt}
 use Rattle.std.proofs.lemmas.Bool.Decides.{nat_tests}
 use Rattle.std.proofs.lemmas.List.Elements.{All-filter, All-tail}
@@ -10,7 +11,8 @@ use Rattle.order_text.specs.declared.script.OrderOp.TheVariants as op
 use Rattle.order_text.specs.declared.reply.OrderValue.{OrderValue}
 use Rattle.order_text.specs.declared.reply.OrderValue.TheVariants as value
 use Rattle.order_text.specs.declared.reply.Trade.{Trade}
-use Rattle.order_text.specs.Interpreter.{Ends, Gives, LacksOrder, LacksRoom, Run, Step, Stops, after_step, after_value, enter_next, entered, has_no_room, incoming, order_outcome_of, outcome_from, run_from, step_of, with_order}
+use Rattle.order_text.specs.Interpreter.{Ends, Gives, LacksOrder, LacksRoom, Run, Step, Stops, after_step, after_value, enter_next}
+use Rattle.order_text.specs.Interpreter.{entered, has_no_room, incoming, order_outcome_of, outcome_from, run_from, step_of, with_order}
 use Rattle.order_text.specs.Laws.{BestPricesApart}
 use Rattle.order_text.specs.Matching.{allows, after_trades, has_quantity, match_of, may_trade, orders_after, partners, rest_of, trades_down, volume}
 use Rattle.order_text.specs.Orders.{OrderBook, all_but, blocks_of, empty_book, order_at}

@@ -1,5 +1,6 @@
 -- What rests after an order has entered: where something is left of it, all its partners are filled.
-use Rattle.std.proofs.Common.{◌≡◌, ◌≢◌, ℕ, ◌+◌, ◌-◌, ◌<◌, Bool, true, false, cond, not, ◌==◌, nat_lt, min, ◌⊎◌, inl, inr, ⊎_elim, List, [], ◌∷◌, ◌++◌, map, filter, find, Some, refl, sym, ap, ◌∙◌, subst, arith, eq-eqb, ne_eqb, if◌then◌else◌}
+use Rattle.std.proofs.Common.{◌≡◌, ◌≢◌, ℕ, ◌+◌, ◌-◌, ◌<◌, Bool, true, false, cond, not, ◌==◌, nat_lt, min, ◌⊎◌, inl, inr, ⊎_elim, List}
+use Rattle.std.proofs.Common.{[], ◌∷◌, ◌++◌, map, filter, find, Some, refl, sym, ap, ◌∙◌, subst, arith, eq-eqb, ne_eqb, if◌then◌else◌}
 use Rattle.std.specs.List.Sorted.{IsStrictlySortedBy}
 use Rattle.std.specs.declared.cmp.Ordering.TheVariants.{Less, Equal}
 use Rattle.std.proofs.lemmas.Bool.Decides.{nat_tests}
@@ -9,7 +10,8 @@ use mathlib.Core.Logic.{dite}
 use native.Mathlib.Decide.{ℕ_discrete}
 use Rattle.order_text.specs.declared.order.Resting.{Resting}
 use Rattle.order_text.specs.declared.reply.Trade.{Trade}
-use Rattle.order_text.specs.Matching.{after_trades, has_quantity, may_trade, orders_after, partners, quantity_of, rest_of, serving_cmp, trade_with, traded_by, trades_down, volume}
+use Rattle.order_text.specs.Matching.{after_trades, has_quantity, may_trade, orders_after, partners}
+use Rattle.order_text.specs.Matching.{quantity_of, rest_of, serving_cmp, trade_with, traded_by, trades_down, volume}
 use Rattle.order_text.specs.Orders.{by_number}
 use Rattle.order_text.proofs.Members.{Has, filtered_has, has_either, has_filtered, has_mapped, of_one}
 use Rattle.order_text.proofs.Serving.{number_total, serving_total}

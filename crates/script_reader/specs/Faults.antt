@@ -19,7 +19,8 @@ use Rattle.script_reader.specs.Input.{ClearingInput, first_seen}
 use Rattle.script_reader.specs.Grammar.{Spells}
 use Rattle.script_reader.specs.Versions.{version_of}
 use Rattle.script_reader.specs.Reading.{HaveNoFault, BeginsFaulty, IsFaultBehind, IsFaultInFront}
-use Rattle.script_reader.specs.Forms.{Words, Region, OutsideScripts, InScript, InFirstBranch, InSecondBranch, sizes, books_forms, script_forms, begins, is_only, form_of, ranges_of, is_header, is_script_line, size_words}
+use Rattle.script_reader.specs.Forms.{Words, Region, OutsideScripts, InScript, InFirstBranch, InSecondBranch, sizes, books_forms}
+use Rattle.script_reader.specs.Forms.{script_forms, begins, is_only, form_of, ranges_of, is_header, is_script_line, size_words}
 use Rattle.script_reader.specs.Forms.{value_at, are_numbers, are_in_range}
 
 -- the first reason of a list that applies

@@ -8,8 +8,8 @@ use Rattle.script_reader.specs.Number.{IsNumber}
 use Rattle.script_reader.specs.Text.{number}
 use Rattle.script_reader.proofs.Tokens.Numerals.{read_is, greatest_u64}
 use Rattle.txn_cells.specs.declared.limits.TheConstants.{MOST_ROUNDS}
-use Rattle.twoplsf.specs.Command.{IsMakeCommand, IsDrillCommand, IsCellsCommand}
-use Rattle.twoplsf.specs.Commands.{ArePlanned, HasWorkersBehind}
+use Rattle.twoplsf.specs.Command.{IsMakeCommand, IsDrillCommand, IsCellsCommand, HasWorkersBehind}
+use Rattle.twoplsf.specs.Commands.{ArePlanned}
 
 -- a list of a known length is its elements
 pub one_of : {A : Type 0} (f : A → List ℕ) (xs : List A) (x : A) → length xs ≡ 1 → x ≡ get_or xs 0 x → map f xs ≡ f x ∷ []

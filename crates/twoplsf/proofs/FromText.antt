@@ -13,14 +13,17 @@ use Rattle.books_report.specs.Checking.{IsFirstWrongLine}
 use Rattle.script_reader.specs.declared.limits.TheConstants.{MOST_INPUT_BYTES}
 use Rattle.twoplsf.specs.declared.status.Status.{Status}
 use Rattle.twoplsf.specs.declared.status.Status.TheVariants as status
-use Rattle.twoplsf.specs.Command.{IsAnyRunCommand, IsCheck, IsMaking, IsReading, IsRecords, IsValidCommand}
+use Rattle.record_text.specs.Grammar.{IsRecordFault}
+use Rattle.order_text.specs.Grammar.{IsOrderFault}
+use Rattle.twoplsf.specs.Command.{IsAnyRunCommand, IsCheck, IsMaking, IsOrders, IsReading, IsRecords, IsValidCommand}
 use Rattle.twoplsf.specs.Check.{differs_line}
 use Rattle.twoplsf.specs.Made.{IsMadeText, PrintsMade}
-use Rattle.twoplsf.specs.Answer.{IsDoneText, IsDifferenceFor, IsRefusalFor, HaveInputFor, OfBytesRead, PrintsOutput, TookText, refused_line}
-use Rattle.twoplsf.proofs.Served.{of_left, run_not_check, read_not_made, output_of_run, done_input, difference_input, done_is_output, refused_none}
-use Rattle.twoplsf.proofs.Served.{check_not_records, first_refused, front_refused, output_of_records, record_refused, wrong_is_none, wrong_is_first}
+use Rattle.twoplsf.specs.Answer.{IsDoneText, IsDifferenceFor, IsRefusalFor, IsRefusalOf, HaveInputFor, OfBytesRead, PrintsOutput, TookText, refused_line}
+use Rattle.twoplsf.specs.Orders.{IsOrdersText, PrintsOrderOutput}
 use Rattle.twoplsf.specs.Records.{IsRecordsText, PrintsRecordOutput}
-use Rattle.record_text.specs.Grammar.{IsRecordFault}
+use Rattle.twoplsf.proofs.Served.{of_left, run_not_check, records_not_check, orders_not_check, read_not_made, by_run, by_check, by_records, by_orders}
+use Rattle.twoplsf.proofs.Served.{IsOnly, done_input, difference_input, done_is_output, refused_none, refused_first, only_fault, only_front}
+use Rattle.twoplsf.proofs.Served.{only_record, only_order, wrong_is_none, wrong_is_first}
 
 -- the status stands for trouble outside
 abbrev pub Failed : Status → Type 0
@@ -106,21 +109,13 @@ module _ (result : Status) (words : List (List ℕ)) (bytes : List ℕ) where
   on_input (HasFailed (inr (inl fault))) within have read write = absurd (write fault)
   on_input (HasFailed (inr (inr memory))) within have read write = inr (inr memory)
 
-  -- and for `run W`, which compares no text
-  on_run : (result ≡ status.Differs → IsCheck words) → IsAnyRunCommand words
+  -- and for words that are not `check`, which alone compares texts
+  on_no_check : (result ≡ status.Differs → IsCheck words) → ¬ IsCheck words
       → (result ≡ status.Done) ⊎ (result ≡ status.Differs) ⊎ (result ≡ status.OutOfMemory)
       → (result ≡ status.Done) ⊎ (result ≡ status.OutOfMemory)
-  on_run only run (inl is) = inl is
-  on_run only run (inr (inl is)) = absurd (run_not_check words run (only is))
-  on_run only run (inr (inr memory)) = inr memory
-
-  -- and for `records W`
-  on_records : (result ≡ status.Differs → IsCheck words) → IsRecords words
-      → (result ≡ status.Done) ⊎ (result ≡ status.Differs) ⊎ (result ≡ status.OutOfMemory)
-      → (result ≡ status.Done) ⊎ (result ≡ status.OutOfMemory)
-  on_records only records (inl is) = inl is
-  on_records only records (inr (inl is)) = absurd (check_not_records words (only is) records)
-  on_records only records (inr (inr memory)) = inr memory
+  on_no_check only not (inl is) = inl is
+  on_no_check only not (inr (inl is)) = absurd (not (only is))
+  on_no_check only not (inr (inr memory)) = inr memory
 
 -- a command that reads nothing ends so where no fault came
 makes : (result : Status) (words : List (List ℕ)) (left now before after : Option (List ℕ))
@@ -148,35 +143,29 @@ module _ {result : Status} {words : List (List ℕ)} {left now before after : Op
   text_of : (is : Status) → result ≡ is → TookText is words left now before after
   text_of is same = subst (λ s. TookText s words left now before after) same h.text
 
-  -- what is printed for `run W`
-  pub headline : IsAnyRunCommand words → result ≡ status.Done → OfBytesRead left (λ bytes. PrintsOutput words bytes before after)
-  headline run is = by (text_of status.Done is)
+  -- what is printed by a command that reads
+  done_read : (Prints : List ℕ → Type 0) → IsReading words
+      → ((bytes text : List ℕ) → IsDoneText words bytes text → Appends before after text → Prints bytes)
+      → result ≡ status.Done → OfBytesRead left Prints
+  done_read Prints reading prints is = by (text_of status.Done is)
     where
-      by : TookText status.Done words left now before after → OfBytesRead left (λ bytes. PrintsOutput words bytes before after)
+      by : TookText status.Done words left now before after → OfBytesRead left Prints
       by (text, inl t, printed) =
           let read = t.2 in
-          record {
-            bytes = read.bytes;
-            told = read.told;
-            holds =
-                record { text = text; output = output_of_run words read.bytes text run read.holds.1; printed = printed };
-          }
-      by (text, inr made, printed) = absurd (read_not_made words (inl run) (made_text_is words text made))
+          record { bytes = read.bytes; told = read.told; holds = prints read.bytes text read.holds.1 printed }
+      by (text, inr made, printed) = absurd (read_not_made words reading (made_text_is words text made))
 
-  -- for `records W`
+  pub headline : IsAnyRunCommand words → result ≡ status.Done → OfBytesRead left (λ bytes. PrintsOutput words bytes before after)
+  headline run = done_read (λ bytes. PrintsOutput words bytes before after) (inl run)
+      (λ bytes text done printed. record { text = text; output = by_run words done run; printed = printed })
+
   pub headline_records : IsRecords words → result ≡ status.Done → OfBytesRead left (λ bytes. PrintsRecordOutput words bytes before after)
-  headline_records records is = by (text_of status.Done is)
-    where
-      by : TookText status.Done words left now before after → OfBytesRead left (λ bytes. PrintsRecordOutput words bytes before after)
-      by (text, inl t, printed) =
-          let read = t.2 in
-          record {
-            bytes = read.bytes;
-            told = read.told;
-            holds =
-                record { text = text; output = output_of_records words read.bytes text records read.holds.1; printed = printed };
-          }
-      by (text, inr made, printed) = absurd (read_not_made words (inr (inr records)) (made_text_is words text made))
+  headline_records records = done_read (λ bytes. PrintsRecordOutput words bytes before after) (inr (inr (inl records)))
+      (λ bytes text done printed. record { text = text; output = by_records words done records; printed = printed })
+
+  pub headline_orders : IsOrders words → result ≡ status.Done → OfBytesRead left (λ bytes. PrintsOrderOutput words bytes before after)
+  headline_orders orders = done_read (λ bytes. PrintsOrderOutput words bytes before after) (inr (inr (inr orders)))
+      (λ bytes text done printed. record { text = text; output = by_orders words done orders; printed = printed })
 
   -- and by a command that reads nothing
   pub made : IsMaking words → result ≡ status.Done → PrintsMade words before after
@@ -198,24 +187,29 @@ module _ {result : Status} {words : List (List ℕ)} {left now before after : Op
   too_many reading = IfSome_then left (ends result words left now before after h.text h.taken reading) (on_many result words)
 
   -- bytes are refused that do not have the input, and their first fault is named
+  refused : (IsFirst : List ℕ → ℕ → Fault → Type 0) → IsOnly IsFirst
+      → ((bytes text : List ℕ) → IsRefusalFor words bytes text → IsRefusalOf IsFirst bytes text) → result ≡ status.BadInput
+      → IfSome left (λ bytes. (number : ℕ) (why : Fault) → IsFirst bytes number why → Appends before after (refused_line number why))
+  refused IsFirst only refusal_of is =
+      let t = text_of status.BadInput is in
+      of_left left t.1.2 (λ bytes refusal number why fault.
+      subst (Appends before after) (refused_first IsFirst bytes t.0 only (refusal_of bytes t.0 refusal.1) number why fault) t.2)
+
   pub first_fault : IsAnyRunCommand words → result ≡ status.BadInput → IfSome left (λ bytes. (number : ℕ) (why : Fault)
       → IsFirstFault bytes number why → Appends before after (refused_line number why))
-  first_fault run is =
-      let t = text_of status.BadInput is in
-      of_left left t.1.2 (λ bytes refused number why fault. subst (Appends before after) (first_refused words bytes t.0 run refused.1 number why fault) t.2)
+  first_fault run = refused IsFirstFault only_fault (λ bytes text refusal. by_run words refusal run)
 
   pub first_fault_in_front : IsCheck words → result ≡ status.BadInput → IfSome left (λ bytes. (number : ℕ) (why : Fault)
       → IsFrontFault bytes number why → Appends before after (refused_line number why))
-  first_fault_in_front check is =
-      let t = text_of status.BadInput is in
-      of_left left t.1.2 (λ bytes refused number why fault. subst (Appends before after) (front_refused words bytes t.0 check refused.1 number why fault) t.2)
+  first_fault_in_front check = refused IsFrontFault only_front (λ bytes text refusal. by_check words refusal check)
 
   pub first_record_fault : IsRecords words → result ≡ status.BadInput → IfSome left (λ bytes. (number : ℕ) (why : Fault)
       → IsRecordFault bytes number why → Appends before after (refused_line number why))
-  first_record_fault records is =
-      let t = text_of status.BadInput is in
-      of_left left t.1.2 (λ bytes refused number why fault.
-      subst (Appends before after) (record_refused words bytes t.0 records refused.1 number why fault) t.2)
+  first_record_fault records = refused IsRecordFault only_record (λ bytes text refusal. by_records words refusal records)
+
+  pub first_order_fault : IsOrders words → result ≡ status.BadInput → IfSome left (λ bytes. (number : ℕ) (why : Fault)
+      → IsOrderFault bytes number why → Appends before after (refused_line number why))
+  first_order_fault orders = refused IsOrderFault only_order (λ bytes text refusal. by_orders words refusal orders)
 
   pub bad_input : result ≡ status.BadInput → IfSome left (λ bytes. HaveInputFor words bytes → ⊥)
   bad_input is = let t = text_of status.BadInput is in of_left left t.1.2 (λ bytes refused. refused_none words bytes t.0 refused.1)
@@ -246,28 +240,40 @@ module _ {result : Status} {words : List (List ℕ)} {left now before after : Op
   pub only_check : result ≡ status.Differs → IsCheck words
   only_check is = (text_of status.Differs is).1.2.holds.1.0
 
-  -- where nothing is wrong, the work is done
+  -- where nothing is wrong, the work is done, or a text differs
+  complete_reading : IsReading words
+      → IfSome left (λ bytes. length bytes ≤ MOST_INPUT_BYTES → HaveInputFor words bytes → (Read → ⊥) → (Write → ⊥)
+      → (result ≡ status.Done) ⊎ (result ≡ status.Differs) ⊎ (result ≡ status.OutOfMemory))
+  complete_reading reading =
+      IfSome_then left (ends result words left now before after h.text h.taken reading)
+      (λ bytes end within have read write.
+      on_input result words bytes end within have (λ is. read (h.read is).1) (λ is. write (h.write is)))
+
+  complete_running : (IsText : List ℕ → Type 0) → IsReading words → ¬ IsCheck words → ((bytes : List ℕ) → IsText bytes → HaveInputFor words bytes)
+      → IfSome left (λ bytes. length bytes ≤ MOST_INPUT_BYTES → IsText bytes → (Read → ⊥) → (Write → ⊥)
+      → (result ≡ status.Done) ⊎ (result ≡ status.OutOfMemory))
+  complete_running IsText reading not have =
+      IfSome_then left (complete_reading reading)
+      (λ bytes ends within text read write. on_no_check result words bytes only_check not (ends within (have bytes text) read write))
+
   pub complete : IsAnyRunCommand words → IfSome left (λ bytes. length bytes ≤ MOST_INPUT_BYTES → IsValidInput bytes → (Read → ⊥)
       → (Write → ⊥) → (result ≡ status.Done) ⊎ (result ≡ status.OutOfMemory))
-  complete run =
-      IfSome_then left (ends result words left now before after h.text h.taken (inl run))
-      (λ bytes end within valid read write. on_run result words bytes only_check run
-      (on_input result words bytes end within (inl (run, valid)) (λ is. read (h.read is).1) (λ is. write (h.write is))))
+  complete run = complete_running IsValidInput (inl run) (run_not_check words run) (λ bytes valid. inl (run, valid))
 
   pub complete_check : IsCheck words
       → IfSome left (λ bytes. length bytes ≤ MOST_INPUT_BYTES → BeginWithInput bytes → (Read → ⊥) → (Write → ⊥)
       → (result ≡ status.Done) ⊎ (result ≡ status.Differs) ⊎ (result ≡ status.OutOfMemory))
-  complete_check check =
-      IfSome_then left (ends result words left now before after h.text h.taken (inr (inl check)))
-      (λ bytes end within begins read write. on_input result words bytes end within (inr (inl (check, begins)))
-      (λ is. read (h.read is).1) (λ is. write (h.write is)))
+  complete_check check = IfSome_then left (complete_reading (inr (inl check))) (λ bytes ends within begins. ends within (inr (inl (check, begins))))
 
   pub complete_records : IsRecords words → IfSome left (λ bytes. length bytes ≤ MOST_INPUT_BYTES → IsRecordsText bytes → (Read → ⊥)
       → (Write → ⊥) → (result ≡ status.Done) ⊎ (result ≡ status.OutOfMemory))
-  complete_records records =
-      IfSome_then left (ends result words left now before after h.text h.taken (inr (inr records)))
-      (λ bytes end within spelled read write. on_records result words bytes only_check records
-      (on_input result words bytes end within (inr (inr (records, spelled))) (λ is. read (h.read is).1) (λ is. write (h.write is))))
+  complete_records records = complete_running IsRecordsText (inr (inr (inl records))) (records_not_check words records)
+      (λ bytes text. inr (inr (inl (records, text))))
+
+  pub complete_orders : IsOrders words → IfSome left (λ bytes. length bytes ≤ MOST_INPUT_BYTES → IsOrdersText bytes → (Read → ⊥)
+      → (Write → ⊥) → (result ≡ status.Done) ⊎ (result ≡ status.OutOfMemory))
+  complete_orders orders = complete_running IsOrdersText (inr (inr (inr orders))) (orders_not_check words orders)
+      (λ bytes text. inr (inr (inr (orders, text))))
 
   pub complete_making : IsMaking words → (Write → ⊥) → (result ≡ status.Done) ⊎ (result ≡ status.OutOfMemory)
   complete_making making write = makes result words left now before after h.text (λ is. (h.read is).0) (λ is. write (h.write is)) making

@@ -8,7 +8,7 @@ use Rattle.txn_cells.specs.declared.limits.TheConstants.{CELLS}
 use Rattle.txn_cells.specs.Adding.{sums_of}
 use Rattle.txn_cells.specs.Cells.{AreCellValues}
 use Rattle.word_table.specs.Closing.{ClosedView}
-use Rattle.twoplsf.specs.Cells.{IsCellsRun, IsCellsRunFor, cells_text}
+use Rattle.twoplsf.specs.Cells.{IsCellsRunFor, cells_text}
 use Rattle.twoplsf.specs.Command.{IsAnyRunCommand, IsCells, IsDrill, IsMaking, IsReading}
 use Rattle.twoplsf.specs.Commands.{IsCommand, IsMakingBy}
 use Rattle.twoplsf.specs.Made.{IsDrillDay, IsMadeText}

@@ -1,40 +1,53 @@
 -- What was printed, put together.
-use Rattle.std.proofs.Common.{Vec, Global, ◌≡◌, ◌≢◌, ◌≤◌, ◌⊎◌, ◌++◌, ℕ, List, length, refl, Option, Some, None, IfSome, IsSome, ◌↔◌, sym, ap, ◌∙◌, subst, inl}
+use Rattle.std.proofs.Common.{◌≡◌, ◌≢◌, ◌≤◌, ◌⊎◌, ◌++◌, ℕ, List, length, refl, Option, Some, None, IfSome, IsSome, ◌↔◌, sym, ap, ◌∙◌, subst, inl}
 use Rattle.std.proofs.Common.{inr, arith, append-nil, true≢false, [], ◌∷◌, codes}
+use Rattle.std.proofs.lemmas.Option.{IfSome_then}
 use Rattle.std.specs.Io.KnownBytes.{Appends, Consumes, IsAtEnd}
 use Rattle.io_ends.specs.Taken.{AppendsPrefix}
 use Rattle.script_reader.specs.declared.fault.Fault.{Fault}
 use Rattle.script_reader.specs.Lines.{word_at}
 use Rattle.script_reader.specs.Faults.{IsFirstFault, IsFrontFault}
 use Rattle.script_reader.specs.Input.{ClearingInput}
-use Rattle.script_reader.specs.Grammar.{AreTwoTexts}
-use Rattle.twoplsf.specs.Command.{IsAnyRunCommand, IsCheck, IsDrill, IsMaking, IsReading, IsRecords}
+use Rattle.script_reader.specs.Grammar.{AreTwoTexts, Spells}
+use Rattle.twoplsf.specs.Command.{ByCommand, IsAnyRunCommand, IsCheck, IsDrill, IsMaking, IsOrders, IsOrdersCommand}
+use Rattle.twoplsf.specs.Command.{IsReading, IsRecords, IsRecordsCommand, IsRunCommand}
 use Rattle.script_reader.proofs.Texts.Deciding.{not_both, one_fault}
 use Rattle.script_reader.proofs.Texts.FrontLaws.{never_both, one_front}
+use Rattle.script_reader.proofs.Listed.Telling.{one_fault as one_in_language, not_both as not_in_language}
 use Rattle.books_report.specs.declared.limits.TheConstants.{RESTARTS_BELOW}
 use Rattle.books_report.specs.Output.{IsOutput}
 use Rattle.books_report.specs.Checking.{IsFirstWrongLine}
 use Rattle.books_report.proofs.Checks.Wrong.{one_wrong, none_of_output}
 use Rattle.script_reader.specs.declared.limits.TheConstants.{MOST_INPUT_BYTES}
-use Rattle.twoplsf.specs.declared.answer.Answer.{Answer}
-use Rattle.twoplsf.specs.declared.answer.Answer.TheVariants.{Output, Agrees, Difference, Refusal, Records}
+use Rattle.record_text.specs.Grammar.{IsRecordFault, SpellsRecords}
+use Rattle.record_text.specs.Input.{StoreInput}
+use Rattle.record_text.specs.Language.{record_language, record_language_lawful}
+use Rattle.order_text.specs.Grammar.{IsOrderFault, SpellsOrders}
+use Rattle.order_text.specs.Input.{BookInput}
+use Rattle.order_text.specs.Language.{order_language, order_language_lawful}
 use Rattle.worker_pool.specs.declared.done.DayEnd.{DayEnd}
+use Rattle.txn_records.specs.declared.done.RecordDay.{RecordDay}
+use Rattle.order_match.specs.declared.done.OrderDay.{OrderDay}
 use Rattle.twoplsf.proofs.Days.{day_output}
+use Rattle.twoplsf.specs.declared.answer.Answer.{Answer}
+use Rattle.twoplsf.specs.declared.answer.Answer.TheVariants.{Output, Agrees, Difference, Refusal, Records, Orders}
 use Rattle.twoplsf.specs.declared.command.Reading.{Reading}
 use Rattle.twoplsf.specs.declared.command.Reading.TheVariants as reading
 use Rattle.twoplsf.specs.declared.command.Command.{Command}
 use Rattle.twoplsf.specs.declared.command.Command.TheVariants.{Read}
-use Rattle.twoplsf.specs.Commands.{IsCommand, IsReadingBy}
-use Rattle.twoplsf.specs.Check.{differs_line}
 use Rattle.twoplsf.specs.declared.status.Status.{Status}
 use Rattle.twoplsf.specs.declared.status.Status.TheVariants as status
-use Rattle.twoplsf.specs.Answer.{OfBytesRead, IsDayFor, IsOutputFor, IsAnswerBy, IsDoneText, IsDifferenceFor, IsRefusalOf, IsRefusalOfFront, IsRefusalFor}
-use Rattle.twoplsf.specs.Answer.{HaveInputFor, IsRefusalOfRecords, IsTextFor, TookText, day_of, records_of, refused_line, status_of, text_of_answer}
-use Rattle.twoplsf.specs.Records.{IsRecordOutputFor, IsRecordsDayFor}
-use Rattle.record_text.specs.Grammar.{IsRecordFault}
-use Rattle.record_text.specs.Language.{record_language, record_language_lawful}
-use Rattle.script_reader.proofs.Listed.Telling.{one_fault as one_record_fault, not_both as no_record_fault}
-use Rattle.txn_records.specs.declared.done.RecordDay.{RecordDay}
+use Rattle.twoplsf.specs.Commands.{IsCommand, IsReadingBy}
+use Rattle.twoplsf.specs.Check.{HoldOutput, agrees_line, differs_line}
+use Rattle.twoplsf.specs.Answer.{OfBytesRead, IsDayFor, IsAnswerBy, IsDoneText, IsDifferenceFor, IsRefusalOf, IsRefusalFor, HaveInputFor}
+use Rattle.twoplsf.specs.Answer.{IsTextFor, TellsOfDay, TookText, day_of, orders_of, records_of, refused_line, status_of, text_of_answer}
+use Rattle.twoplsf.specs.Orders.{IsOrdersDayFor, IsOrdersDayOf}
+use Rattle.twoplsf.specs.Records.{IsRecordsDayFor, IsRecordsDayOf}
+
+-- the work was done, or not
+done_or_not : (s : Status) → (s ≡ status.Done) ⊎ (s ≢ status.Done)
+done_or_not status.Done = inl refl
+done_or_not _ = inr (λ e. cc)
 
 -- what was read to the end is all that was left
 all_read : (left now : Option (List ℕ)) (bytes : List ℕ) → Consumes left now bytes → IsAtEnd now → IfSome left (λ all. all ≡ bytes)
@@ -47,24 +60,62 @@ pub of_left : {P Q : List ℕ → Type 0} (left : Option (List ℕ)) → OfBytes
 of_left None read h = tt
 of_left {P = P} (Some all) read h = h all (subst P (sym read.told) read.holds)
 
--- no words are both commands
-pub run_not_check : (words : List (List ℕ)) → IsAnyRunCommand words → IsCheck words → ⊥
-run_not_check words run check = omega (arith, ap length run.1.words_are, ap length check)
+-- a command that reads is told by the length of its first word
+module _ (words : List (List ℕ)) where
+  run_word : IsAnyRunCommand words → length (word_at words 0) ≡ length (codes "run")
+  run_word run = ap (λ (ws : List (List ℕ)). length (word_at ws 0)) run.1.words_are
 
-run_not_records : (words : List (List ℕ)) → IsAnyRunCommand words → IsRecords words → ⊥
-run_not_records words run records =
-    let names : length (codes "run") ≡ length (codes "records") =
-    ap (λ (ws : List (List ℕ)). length (word_at ws 0)) (sym run.1.words_are ∙ records.1.words_are) in
-    omega (arith, names)
+  check_word : IsCheck words → length (word_at words 0) ≡ length (codes "check")
+  check_word check = ap (λ (ws : List (List ℕ)). length (word_at ws 0)) check
 
-pub check_not_records : (words : List (List ℕ)) → IsCheck words → IsRecords words → ⊥
-check_not_records words check records = omega (arith, ap length records.1.words_are, ap length check)
+  records_word : IsRecords words → length (word_at words 0) ≡ length (codes "records")
+  records_word records = ap (λ (ws : List (List ℕ)). length (word_at ws 0)) records.1.words_are
+
+  orders_word : IsOrders words → length (word_at words 0) ≡ length (codes "orders")
+  orders_word orders = ap (λ (ws : List (List ℕ)). length (word_at ws 0)) orders.1.words_are
+
+  -- so no words are both `check` and one with workers
+  pub run_not_check : IsAnyRunCommand words → IsCheck words → ⊥
+  run_not_check run check = omega (arith, run_word run, check_word check)
+
+  pub records_not_check : IsRecords words → IsCheck words → ⊥
+  records_not_check records check = omega (arith, records_word records, check_word check)
+
+  pub orders_not_check : IsOrders words → IsCheck words → ⊥
+  orders_not_check orders check = omega (arith, orders_word orders, check_word check)
+
+  -- and of what is said by the command, that of the one that the words are holds
+  module _ {A B C D : Type 0} where
+    pub by_run : ByCommand words A B C D → IsAnyRunCommand words → A
+    by_run (inl h) run = h.1
+    by_run (inr (inl h)) run = absurd (run_not_check run h.0)
+    by_run (inr (inr (inl h))) run = absurd (omega (arith, run_word run, records_word h.0))
+    by_run (inr (inr (inr h))) run = absurd (omega (arith, run_word run, orders_word h.0))
+
+    pub by_check : ByCommand words A B C D → IsCheck words → B
+    by_check (inl h) check = absurd (run_not_check h.0 check)
+    by_check (inr (inl h)) check = h.1
+    by_check (inr (inr (inl h))) check = absurd (records_not_check h.0 check)
+    by_check (inr (inr (inr h))) check = absurd (orders_not_check h.0 check)
+
+    pub by_records : ByCommand words A B C D → IsRecords words → C
+    by_records (inl h) records = absurd (omega (arith, run_word h.0, records_word records))
+    by_records (inr (inl h)) records = absurd (records_not_check records h.0)
+    by_records (inr (inr (inl h))) records = h.1
+    by_records (inr (inr (inr h))) records = absurd (omega (arith, orders_word h.0, records_word records))
+
+    pub by_orders : ByCommand words A B C D → IsOrders words → D
+    by_orders (inl h) orders = absurd (omega (arith, run_word h.0, orders_word orders))
+    by_orders (inr (inl h)) orders = absurd (orders_not_check orders h.0)
+    by_orders (inr (inr (inl h))) orders = absurd (omega (arith, records_word h.0, orders_word orders))
+    by_orders (inr (inr (inr h))) orders = h.1
 
 -- a command that reads has two words at most, and one that reads nothing has more
 reading_short : (words : List (List ℕ)) → IsReading words → length words ≤ 2
 reading_short words (inl run) = omega (arith, ap length run.1.words_are)
 reading_short words (inr (inl check)) = omega (arith, ap length check)
-reading_short words (inr (inr records)) = omega (arith, ap length records.1.words_are)
+reading_short words (inr (inr (inl records))) = omega (arith, ap length records.1.words_are)
+reading_short words (inr (inr (inr orders))) = omega (arith, ap length orders.1.words_are)
 
 making_long : (words : List (List ℕ)) → IsMaking words → 3 ≤ length words
 making_long words (inl make) = omega (arith, ap length make.3.words_are)
@@ -79,7 +130,8 @@ read_not_made words reading making = omega (arith, reading_short words reading, 
 pub reading_is : (words : List (List ℕ)) (r : Reading) → IsReadingBy words r → IsReading words
 reading_is words (reading.Run w) is = inl (w, is)
 reading_is words reading.Check is = inr (inl is)
-reading_is words (reading.Records w) is = inr (inr (w, is))
+reading_is words (reading.Records w) is = inr (inr (inl (w, is)))
+reading_is words (reading.Orders w) is = inr (inr (inr (w, is)))
 
 -- where the command that was found reads, the words are those of one that does
 pub read_by : (words : List (List ℕ)) {o : Command} {r : Reading} → o ≡ Read r → IsCommand words o → IsReadingBy words r
@@ -92,206 +144,102 @@ read_is words {r = r} is h = reading_is words r (read_by words is h)
 pub not_made : (words : List (List ℕ)) {o : Command} {r : Reading} → o ≡ Read r → IsCommand words o → IsMaking words → ⊥
 not_made words is h making = read_not_made words (read_is words is h) making
 
+-- what an answer says of the words and the bytes
+abbrev Says : List (List ℕ) → List ℕ → Answer → Type 0
+Says words bytes (Output text day) =
+    (w : ℕ) × IsRunCommand words w × (input : ClearingInput) × Spells bytes input × TellsOfDay input w text.items day
+Says words bytes (Agrees text) = IsCheck words × HoldOutput bytes × (text.items ≡ agrees_line)
+Says words bytes (Difference text) = IsDifferenceFor words bytes text.items
+Says words bytes (Refusal text) = IsRefusalFor words bytes text.items
+Says words bytes (Records day) = (w : ℕ) × IsRecordsCommand words w × (input : StoreInput) × SpellsRecords bytes input × IsRecordsDayOf input w day
+Says words bytes (Orders day) = (w : ℕ) × IsOrdersCommand words w × (input : BookInput) × SpellsOrders bytes input × IsOrdersDayOf input w day
+
 -- the answer to the bytes that were read, by the words
-output_text : (words : List (List ℕ)) (r : Reading) (bytes : List ℕ) (text : Vec ℕ Global) (day : DayEnd)
-    → IsReadingBy words r → IsAnswerBy r bytes (Output text day) → IsDoneText words bytes text.items
-output_text words (reading.Run w) bytes text day is answer =
-    inl (record {
-      workers = w;
-      command = is;
-      input = answer.0;
-      spelled = answer.1;
-      output =
-          day_output answer.0 w day answer.2.of_input text.items answer.2.text_is;
-    })
-output_text words reading.Check bytes text day is answer = absurd answer
-output_text words (reading.Records w) bytes text day is answer = absurd answer
-
-agrees_text : (words : List (List ℕ)) (r : Reading) (bytes : List ℕ) (text : Vec ℕ Global) → IsReadingBy words r
-    → IsAnswerBy r bytes (Agrees text) → IsDoneText words bytes text.items
-agrees_text words (reading.Run w) bytes text is answer = absurd answer
-agrees_text words reading.Check bytes text is answer = inr (inl (is, answer.0, answer.1))
-agrees_text words (reading.Records w) bytes text is answer = absurd answer
-
--- a day of a record store, and its text, are those of the words
-records_day : (words : List (List ℕ)) (r : Reading) (bytes : List ℕ) (day : RecordDay) (before now : Option (List ℕ)) → IsReadingBy words r
-    → IsAnswerBy r bytes (Records day) → Appends before now day.text.items → IsRecordsDayFor words bytes before now day
-records_day words (reading.Run w) bytes day before now is answer printed = absurd answer
-records_day words reading.Check bytes day before now is answer printed = absurd answer
-records_day words (reading.Records w) bytes day before now is answer printed = record {
-  workers = w;
-  command = is;
-  input = answer.0;
-  spelled = answer.1;
-  day_is = answer.2;
-  printed = printed;
-}
-
-records_text : (words : List (List ℕ)) (r : Reading) (bytes : List ℕ) (day : RecordDay) → IsReadingBy words r
-    → IsAnswerBy r bytes (Records day) → IsDoneText words bytes day.text.items
-records_text words (reading.Run w) bytes day is answer = absurd answer
-records_text words reading.Check bytes day is answer = absurd answer
-records_text words (reading.Records w) bytes day is answer =
-    inr (inr (record { workers = w; command = is; input = answer.0; spelled = answer.1; output = answer.2.output }))
-
--- it is that of `records`, and no other answer is to it where the work was done
-records_run : (words : List (List ℕ)) (r : Reading) (bytes : List ℕ) (day : RecordDay) → IsReadingBy words r
-    → IsAnswerBy r bytes (Records day) → IsRecords words
-records_run words (reading.Run w) bytes day is answer = absurd answer
-records_run words reading.Check bytes day is answer = absurd answer
-records_run words (reading.Records w) bytes day is answer = (w, is)
-
-records_runs_not : (words : List (List ℕ)) (r : Reading) (bytes : List ℕ) (day : RecordDay) → IsReadingBy words r
-    → IsAnswerBy r bytes (Records day) → IsAnyRunCommand words ⊎ IsDrill words → ⊥
-records_runs_not words r bytes day is answer (inl run) = run_not_records words run (records_run words r bytes day is answer)
-records_runs_not words r bytes day is answer (inr drill) =
-    read_not_made words (inr (inr (records_run words r bytes day is answer))) (inr (inl drill))
-
-output_no_records : (words : List (List ℕ)) (r : Reading) (bytes : List ℕ) (text : Vec ℕ Global) (day : DayEnd)
-    → IsReadingBy words r → IsAnswerBy r bytes (Output text day) → IsRecords words → ⊥
-output_no_records words (reading.Run w) bytes text day is answer records = run_not_records words (w, is) records
-output_no_records words reading.Check bytes text day is answer records = absurd answer
-output_no_records words (reading.Records w) bytes text day is answer records = absurd answer
-
-agrees_no_records : (words : List (List ℕ)) (r : Reading) (bytes : List ℕ) (text : Vec ℕ Global) → IsReadingBy words r
-    → IsAnswerBy r bytes (Agrees text) → IsRecords words → ⊥
-agrees_no_records words (reading.Run w) bytes text is answer records = absurd answer
-agrees_no_records words reading.Check bytes text is answer records = check_not_records words is records
-agrees_no_records words (reading.Records w) bytes text is answer records = absurd answer
+says : (words : List (List ℕ)) (r : Reading) (bytes : List ℕ) (answer : Answer) → IsReadingBy words r → IsAnswerBy r bytes answer → Says words bytes answer
+says words (reading.Run w) bytes (Output text day) is h = (w, is, h.0, h.1, h.2)
+says words (reading.Run w) bytes (Refusal text) is h = inl ((w, is), h)
+says words (reading.Run w) bytes _ is h = absurd h
+says words reading.Check bytes (Agrees text) is h = (is, h.0, h.1)
+says words reading.Check bytes (Difference text) is h = (is, h)
+says words reading.Check bytes (Refusal text) is h = inr (inl (is, h))
+says words reading.Check bytes _ is h = absurd h
+says words (reading.Records w) bytes (Records day) is h = (w, is, h.0, h.1, h.2)
+says words (reading.Records w) bytes (Refusal text) is h = inr (inr (inl ((w, is), h)))
+says words (reading.Records w) bytes _ is h = absurd h
+says words (reading.Orders w) bytes (Orders day) is h = (w, is, h.0, h.1, h.2)
+says words (reading.Orders w) bytes (Refusal text) is h = inr (inr (inr ((w, is), h)))
+says words (reading.Orders w) bytes _ is h = absurd h
 
 -- bytes whose text is printed have the input that the command reads
 pub done_input : (words : List (List ℕ)) (bytes text : List ℕ) → IsDoneText words bytes text → HaveInputFor words bytes
-done_input words bytes text (inl output) = inl ((output.workers, output.command), (output.input, output.spelled))
-done_input words bytes text (inr (inl (check, h, line))) = inr (inl (check, record { input = h.input; text = h.text; two = h.two }))
-done_input words bytes text (inr (inr output)) = inr (inr ((output.workers, output.command), (output.input, output.spelled)))
-
--- the day of an output is one for the words, and its text the output
-output_day : (words : List (List ℕ)) (r : Reading) (bytes : List ℕ) (text : Vec ℕ Global) (day : DayEnd)
-    (before now : Option (List ℕ)) → IsReadingBy words r → IsAnswerBy r bytes (Output text day)
-    → Appends before now text.items → IsDayFor words bytes before now day
-output_day words (reading.Run w) bytes text day before now is answer printed = record {
-  workers = w;
-  command = is;
-  input = answer.0;
-  spelled = answer.1;
-  day_is = answer.2.of_input;
-  printed = subst (Appends before now) answer.2.text_is printed;
-}
-output_day words reading.Check bytes text day before now is answer printed = absurd answer
-output_day words (reading.Records w) bytes text day before now is answer printed = absurd answer
-
--- an output is that of a run, and no other answer is to `run W` where the work was done
-output_runs : (words : List (List ℕ)) (r : Reading) (bytes : List ℕ) (text : Vec ℕ Global) (day : DayEnd)
-    → IsReadingBy words r → IsAnswerBy r bytes (Output text day) → IsAnyRunCommand words
-output_runs words (reading.Run w) bytes text day is answer = (w, is)
-output_runs words reading.Check bytes text day is answer = absurd answer
-output_runs words (reading.Records w) bytes text day is answer = absurd answer
-
-agrees_runs_not : (words : List (List ℕ)) (r : Reading) (bytes : List ℕ) (text : Vec ℕ Global) → IsReadingBy words r
-    → IsAnswerBy r bytes (Agrees text) → IsAnyRunCommand words ⊎ IsDrill words → ⊥
-agrees_runs_not words (reading.Run w) bytes text is answer runs = absurd answer
-agrees_runs_not words reading.Check bytes text is answer (inl run) = run_not_check words run is
-agrees_runs_not words reading.Check bytes text is answer (inr drill) = read_not_made words (inr (inl is)) (inr (inl drill))
-agrees_runs_not words (reading.Records w) bytes text is answer runs = absurd answer
-
-pub none_there : {T : Type 0} (told : Option T) → told ≡ None → IsSome told → ⊥
-none_there told none some = true≢false (sym (subst IsSome none some))
-
--- after a text was written or not, what is told beside it is there only where it was
-pub told_kept : {T : Type 0} (result : Status) (day kept : Option T) (W R F : Type 0) (P : T → Type 0)
-    → (result ≡ status.Done → kept ≡ day) → (result ≢ status.Done → kept ≡ None)
-    → (result ≡ status.Done × W) ⊎ (result ≡ status.WriteFault × R × F) → (result ≡ status.Done → IfSome day P) → IfSome kept P
-told_kept {T} result day kept W R F P done other (inl h) holds = subst (λ (d : Option T). IfSome d P) (sym (done h.0)) (holds h.0)
-told_kept {T} result day kept W R F P done other (inr h) holds =
-    subst (λ (d : Option T). IfSome d P) (sym (other (λ e. let same : status.WriteFault ≡ status.Done = sym h.0 ∙ e in cc))) tt
-
-pub told_there : {T : Type 0} (result : Status) (day kept : Option T) (W R F run : Type 0)
-    → (result ≡ status.Done → kept ≡ day) → (result ≢ status.Done → kept ≡ None)
-    → (result ≡ status.Done × W) ⊎ (result ≡ status.WriteFault × R × F) → IsSome day ↔ run → IsSome kept ↔ (run × (result ≡ status.Done))
-told_there result day kept W R F run done other (inl h) has =
-    (λ some. (has.0 (subst IsSome (done h.0) some), h.0), λ both. subst IsSome (sym (done both.1)) (has.1 both.0))
-told_there result day kept W R F run done other (inr h) has = (
-  λ some. absurd (none_there kept (other (λ e. let same : status.WriteFault ≡ status.Done = sym h.0 ∙ e in cc)) some),
-  λ both. subst IsSome (sym (done both.1)) (has.1 both.0),
-)
-
-difference_text : (words : List (List ℕ)) (r : Reading) (bytes : List ℕ) (text : Vec ℕ Global) → IsReadingBy words r
-    → IsAnswerBy r bytes (Difference text) → IsDifferenceFor words bytes text.items
-difference_text words (reading.Run w) bytes text is answer = absurd answer
-difference_text words reading.Check bytes text is answer = (is, answer)
-difference_text words (reading.Records w) bytes text is answer = absurd answer
+done_input words bytes text (inl (run, output)) = inl (run, (output.input, output.spelled))
+done_input words bytes text (inr (inl (check, h))) = inr (inl (check, record { input = h.0.input; text = h.0.text; two = h.0.two }))
+done_input words bytes text (inr (inr (inl (records, output)))) = inr (inr (inl (records, (output.input, output.spelled))))
+done_input words bytes text (inr (inr (inr (orders, output)))) = inr (inr (inr (orders, (output.input, output.spelled))))
 
 pub difference_input : (words : List (List ℕ)) (bytes text : List ℕ) → IsDifferenceFor words bytes text → HaveInputFor words bytes
 difference_input words bytes text d = inr (inl (d.0, record { input = d.1.1.input; text = d.1.1.text; two = d.1.1.two }))
 
-refusal_text : (words : List (List ℕ)) (r : Reading) (bytes : List ℕ) (text : Vec ℕ Global) → IsReadingBy words r
-    → IsAnswerBy r bytes (Refusal text) → IsRefusalFor words bytes text.items
-refusal_text words (reading.Run w) bytes text is answer = inl ((w, is), answer)
-refusal_text words reading.Check bytes text is answer = inr (inl (is, answer))
-refusal_text words (reading.Records w) bytes text is answer = inr (inr ((w, is), answer))
+pub none_there : {T : Type 0} (told : Option T) → told ≡ None → IsSome told → ⊥
+none_there told none some = true≢false (sym (subst IsSome none some))
 
--- an output for `run W`
-pub output_of_run : (words : List (List ℕ)) (bytes text : List ℕ) → IsAnyRunCommand words → IsDoneText words bytes text → IsOutputFor words bytes text
-output_of_run words bytes text run (inl output) = output
-output_of_run words bytes text run (inr (inl check)) = absurd (run_not_check words run check.0)
-output_of_run words bytes text run (inr (inr records)) = absurd (run_not_records words run (records.workers, records.command))
+-- after a text was written or not, what is told beside it is there only where it was, and the work was done
+module _ {T : Type 0} (result is : Status) (told kept : Option T) (W R F : Type 0) (done : result ≡ status.Done → kept ≡ told)
+    (other : result ≢ status.Done → kept ≡ None) where
+  pub told_kept : (P : T → Type 0) → (result ≡ is × W) ⊎ (result ≡ status.WriteFault × R × F) → (W → IfSome told P) → IfSome kept P
+  told_kept P wrote holds = by wrote (done_or_not result)
+    where
+      by : (result ≡ is × W) ⊎ (result ≡ status.WriteFault × R × F) → (result ≡ status.Done) ⊎ (result ≢ status.Done) → IfSome kept P
+      by (inl h) (inl e) = subst (λ (d : Option T). IfSome d P) (sym (done e)) (holds h.1)
+      by (inr h) (inl e) = let same : status.WriteFault ≡ status.Done = sym h.0 ∙ e in absurd (cc)
+      by wrote (inr not) = subst (λ (d : Option T). IfSome d P) (sym (other not)) tt
 
--- and for `records W`
-pub output_of_records : (words : List (List ℕ)) (bytes text : List ℕ) → IsRecords words → IsDoneText words bytes text → IsRecordOutputFor words bytes text
-output_of_records words bytes text records (inl output) = absurd (run_not_records words (output.workers, output.command) records)
-output_of_records words bytes text records (inr (inl check)) = absurd (check_not_records words check.0 records)
-output_of_records words bytes text records (inr (inr output)) = output
+  pub told_there : (run : Type 0) → (result ≡ is × W) ⊎ (result ≡ status.WriteFault × R × F)
+      → (is ≡ status.Done → IsSome told ↔ run) → IsSome kept ↔ (run × (result ≡ status.Done))
+  told_there run wrote has = by wrote (done_or_not result)
+    where
+      by : (result ≡ is × W) ⊎ (result ≡ status.WriteFault × R × F) → (result ≡ status.Done) ⊎ (result ≢ status.Done)
+          → IsSome kept ↔ (run × (result ≡ status.Done))
+      by (inl h) (inl e) =
+          let there = has (sym h.0 ∙ e) in
+          (λ some. (there.0 (subst IsSome (done e) some), e), λ both. subst IsSome (sym (done e)) (there.1 both.0))
+      by (inr h) (inl e) = let same : status.WriteFault ≡ status.Done = sym h.0 ∙ e in absurd (cc)
+      by wrote (inr not) = (λ some. absurd (none_there kept (other not) some), λ both. absurd (not both.1))
 
--- the refusal for `run W`, for `check`, and for `records W`
-refusal_of_run : (words : List (List ℕ)) (bytes text : List ℕ) → IsAnyRunCommand words → IsRefusalFor words bytes text → IsRefusalOf bytes text
-refusal_of_run words bytes text run (inl refusal) = refusal.1
-refusal_of_run words bytes text run (inr (inl check)) = absurd (run_not_check words run check.0)
-refusal_of_run words bytes text run (inr (inr records)) = absurd (run_not_records words run records.0)
+-- a fault that is the first one is the only one that is
+abbrev pub IsOnly : (List ℕ → ℕ → Fault → Type 0) → Type 0
+IsOnly IsFirst = (bytes : List ℕ) (n m : ℕ) (v w : Fault) → IsFirst bytes n v → IsFirst bytes m w → (n ≡ m) × (v ≡ w)
 
-refusal_of_check : (words : List (List ℕ)) (bytes text : List ℕ) → IsCheck words → IsRefusalFor words bytes text → IsRefusalOfFront bytes text
-refusal_of_check words bytes text check (inl run) = absurd (run_not_check words run.0 check)
-refusal_of_check words bytes text check (inr (inl refusal)) = refusal.1
-refusal_of_check words bytes text check (inr (inr records)) = absurd (check_not_records words check records.0)
+pub refused_first : (IsFirst : List ℕ → ℕ → Fault → Type 0) (bytes text : List ℕ) → IsOnly IsFirst → IsRefusalOf IsFirst bytes text
+    → (number : ℕ) (why : Fault) → IsFirst bytes number why → text ≡ refused_line number why
+refused_first IsFirst bytes text only refusal number why fault =
+    let same = only bytes refusal.number number refusal.why why refusal.first fault in
+    refusal.text_is ∙ (λ i. refused_line (same.0 i) (same.1 i))
 
-refusal_of_records : (words : List (List ℕ)) (bytes text : List ℕ) → IsRecords words → IsRefusalFor words bytes text → IsRefusalOfRecords bytes text
-refusal_of_records words bytes text records (inl run) = absurd (run_not_records words run.0 records)
-refusal_of_records words bytes text records (inr (inl check)) = absurd (check_not_records words check.0 records)
-refusal_of_records words bytes text records (inr (inr refusal)) = refusal.1
+-- so it is for each command that reads
+pub only_fault : IsOnly IsFirstFault
+only_fault bytes n m v w = one_fault bytes n m v w
 
--- the first faulty line that is refused for `run W`, and for `check`
-pub first_refused : (words : List (List ℕ)) (bytes text : List ℕ) → IsAnyRunCommand words → IsRefusalFor words bytes text
-    → (number : ℕ) (why : Fault) → IsFirstFault bytes number why → text ≡ refused_line number why
-first_refused words bytes text run refusal number why fault =
-    let first = refusal_of_run words bytes text run refusal in
-    let same = one_fault bytes first.number number first.why why first.first fault in
-    first.text_is ∙ (λ i. refused_line (same.0 i) (same.1 i))
+pub only_front : IsOnly IsFrontFault
+only_front bytes n m v w first second = one_fault bytes n m v w (inl first) (inl second)
 
-pub front_refused : (words : List (List ℕ)) (bytes text : List ℕ) → IsCheck words → IsRefusalFor words bytes text
-    → (number : ℕ) (why : Fault) → IsFrontFault bytes number why → text ≡ refused_line number why
-front_refused words bytes text check refusal number why fault =
-    let first = refusal_of_check words bytes text check refusal in
-    let same = one_fault bytes first.number number first.why why (inl first.first) (inl fault) in
-    first.text_is ∙ (λ i. refused_line (same.0 i) (same.1 i))
+pub only_record : IsOnly IsRecordFault
+only_record = one_in_language record_language record_language_lawful
 
-pub record_refused : (words : List (List ℕ)) (bytes text : List ℕ) → IsRecords words → IsRefusalFor words bytes text
-    → (number : ℕ) (why : Fault) → IsRecordFault bytes number why → text ≡ refused_line number why
-record_refused words bytes text records refusal number why fault =
-    let first = refusal_of_records words bytes text records refusal in
-    let same = one_record_fault record_language record_language_lawful bytes first.number number first.why why first.first fault in
-    first.text_is ∙ (λ i. refused_line (same.0 i) (same.1 i))
+pub only_order : IsOnly IsOrderFault
+only_order = one_in_language order_language order_language_lawful
 
 -- bytes that are refused do not have the input
 pub refused_none : (words : List (List ℕ)) (bytes text : List ℕ) → IsRefusalFor words bytes text → HaveInputFor words bytes → ⊥
-refused_none words bytes text (inl (run, r)) (inl (run', valid)) = not_both bytes valid (r.number, r.why, r.first)
-refused_none words bytes text (inl (run, r)) (inr (inl (check, begins))) = run_not_check words run check
-refused_none words bytes text (inl (run, r)) (inr (inr (records, spelled))) = run_not_records words run records
-refused_none words bytes text (inr (inl (check, r))) (inl (run, valid)) = run_not_check words run check
-refused_none words bytes text (inr (inl (check, r))) (inr (inl (check', begins))) = never_both bytes begins (r.number, r.why, r.first)
-refused_none words bytes text (inr (inl (check, r))) (inr (inr (records, spelled))) = check_not_records words check records
-refused_none words bytes text (inr (inr (records, r))) (inl (run, valid)) = run_not_records words run records
-refused_none words bytes text (inr (inr (records, r))) (inr (inl (check, begins))) = check_not_records words check records
-refused_none words bytes text (inr (inr (records, r))) (inr (inr (records', spelled))) =
-    no_record_fault record_language record_language_lawful bytes (spelled.0.blocks ∷ []) spelled.0.callers r.number r.why spelled.1 r.first
+refused_none words bytes text (inl (run, r)) have = not_both bytes (by_run words have run) (r.number, r.why, r.first)
+refused_none words bytes text (inr (inl (check, r))) have = never_both bytes (by_check words have check) (r.number, r.why, r.first)
+refused_none words bytes text (inr (inr (inl (records, r)))) have =
+    let spelled = by_records words have records in
+    not_in_language record_language record_language_lawful bytes (spelled.0.blocks ∷ []) spelled.0.callers r.number r.why spelled.1 r.first
+refused_none words bytes text (inr (inr (inr (orders, r)))) have =
+    let spelled = by_orders words have orders in
+    let sizes = spelled.0.blocks ∷ spelled.0.instruments ∷ [] in
+    not_in_language order_language order_language_lawful bytes sizes spelled.0.callers r.number r.why spelled.1 r.first
 
 -- a text with a wrong line is no output of its input
 pub wrong_is_none : (words : List (List ℕ)) (bytes printed : List ℕ) → IsDifferenceFor words bytes printed
@@ -313,16 +261,10 @@ wrong_is_first words bytes printed (check, (n, h, is)) input text number two wro
 -- a text that agrees is an output of its input
 pub done_is_output : (words : List (List ℕ)) (bytes printed : List ℕ) → IsCheck words → IsDoneText words bytes printed
     → (input : ClearingInput) (text : List ℕ) → AreTwoTexts bytes input text → IsOutput input RESTARTS_BELOW text
-done_is_output words bytes printed check (inl run) input text two = absurd (run_not_check words (run.workers, run.command) check)
-done_is_output words bytes printed check (inr (inr records)) input text two = absurd (check_not_records words check (records.workers, records.command))
-done_is_output words bytes printed check (inr (inl (is, h, line))) input text two =
+done_is_output words bytes printed check done input text two =
+    let h = (by_check words done check).0 in
     let same = one_front bytes h.input input h.text text h.two two in
     subst (λ t. IsOutput input RESTARTS_BELOW t) same.2 (subst (λ i. IsOutput i RESTARTS_BELOW h.text) same.1 h.output)
-
--- where the status is not a write fault, the text was written whole
-pub written : (result is : Status) (W R F : Type 0) → (result ≡ is × W) ⊎ (result ≡ status.WriteFault × R × F) → result ≢ status.WriteFault → W
-written result is W R F (inl h) other = h.1
-written result is W R F (inr h) other = absurd (other h.0)
 
 -- the sink took a text that goes with a status, whole
 took_whole : (is : Status) (words : List (List ℕ)) (left now before after : Option (List ℕ)) (text : List ℕ)
@@ -362,141 +304,139 @@ module _ {words : List (List ℕ)} {r : Reading} {left now : Option (List ℕ)} 
   told : (P : List ℕ → Type 0) → P bytes → IsReading words × IsAtEnd now × OfBytesRead left (λ all. (length all ≤ MOST_INPUT_BYTES) × P all)
   told P p = (reading_is words r h.is, h.end, of_read (λ all. (length all ≤ MOST_INPUT_BYTES) × P all) (h.few, p))
 
+  -- and what the answer says
+  said : Says words bytes answer
+  said = says words r bytes answer h.is h.answers
+
 -- the text of an answer goes with its status
 text_is_for : (words : List (List ℕ)) (r : Reading) (left now : Option (List ℕ)) (bytes : List ℕ) (answer : Answer)
-    → HasAnswered words r left now bytes answer → IsTextFor (status_of answer) words left now (text_of_answer answer)
-text_is_for words r left now bytes (Output text day) h =
-    inl (told h (λ all. IsDoneText words all text.items) (output_text words r bytes text day h.is h.answers))
-text_is_for words r left now bytes (Agrees text) h = inl (told h (λ all. IsDoneText words all text.items) (agrees_text words r bytes text h.is h.answers))
-text_is_for words r left now bytes (Difference text) h =
-    told h (λ all. IsDifferenceFor words all text.items) (difference_text words r bytes text h.is h.answers)
-text_is_for words r left now bytes (Refusal text) h = told h (λ all. IsRefusalFor words all text.items) (refusal_text words r bytes text h.is h.answers)
-text_is_for words r left now bytes (Records day) h =
-    inl (told h (λ all. IsDoneText words all day.text.items) (records_text words r bytes day h.is h.answers))
+    → HasAnswered words r left now bytes answer → Says words bytes answer → IsTextFor (status_of answer) words left now (text_of_answer answer)
+text_is_for words r left now bytes (Output text day) h (w, is, input, spelled, tells) =
+    inl (told h (λ all. IsDoneText words all text.items) (inl (
+      (w, is),
+      record {
+        workers = w;
+        command = is;
+        input = input;
+        spelled = spelled;
+        output = day_output input w day tells.of_input text.items tells.text_is;
+      },
+    )))
+text_is_for words r left now bytes (Agrees text) h (check, output, line) =
+    inl (told h (λ all. IsDoneText words all text.items) (inr (inl (check, (output, line)))))
+text_is_for words r left now bytes (Difference text) h differs = told h (λ all. IsDifferenceFor words all text.items) differs
+text_is_for words r left now bytes (Refusal text) h refusal = told h (λ all. IsRefusalFor words all text.items) refusal
+text_is_for words r left now bytes (Records day) h (w, is, input, spelled, of_input) =
+    inl (told h (λ all. IsDoneText words all day.text.items)
+    (inr (inr (inl ((w, is), record { workers = w; command = is; input = input; spelled = spelled; holds = of_input.output })))))
+text_is_for words r left now bytes (Orders day) h (w, is, input, spelled, of_input) =
+    inl (told h (λ all. IsDoneText words all day.text.items)
+    (inr (inr (inr ((w, is), record { workers = w; command = is; input = input; spelled = spelled; holds = of_input.output })))))
 
--- an answer was printed or not, with its day where it was: that of a run, or of a record store
-pub record HasPrinted {T : Type 0} (day : Answer → Option T) (answer : Answer) (result : Status) (kept : Option T)
+-- an answer was printed or not, with what it tells where it was: its day of a run, of a record store, or of a limit order
+-- book
+pub record HasPrinted {T : Type 0} (tells : Answer → Option T) (answer : Answer) (result : Status) (kept : Option T)
     (before after : Option (List ℕ)) (R : Type 0) : Type 0 where
   pub wrote : (result ≡ status_of answer × Appends before after (text_of_answer answer))
       ⊎ (result ≡ status.WriteFault × R × AppendsPrefix before after (text_of_answer answer))
-  pub done : result ≡ status.Done → kept ≡ day answer
+  pub done : result ≡ status.Done → kept ≡ tells answer
   pub other : result ≢ status.Done → kept ≡ None
 
--- then the sink took the text that goes with the status
-pub printed_text : (words : List (List ℕ)) (r : Reading) (left now : Option (List ℕ)) (bytes : List ℕ) (answer : Answer)
-    (result : Status) (kept : Option DayEnd) (before after : Option (List ℕ)) (R : Type 0)
-    → HasAnswered words r left now bytes answer → HasPrinted day_of answer result kept before after R → TookText result words left now before after
-printed_text words r left now bytes answer result kept before after R h p =
-    took_text result (status_of answer) words left now before after (text_of_answer answer) R (text_is_for words r left now bytes answer h) p.wrote
+-- what is told is so of the words and the bytes
+module _ (words : List (List ℕ)) (bytes : List ℕ) where
+  day_told : (before after : Option (List ℕ)) (answer : Answer) → Says words bytes answer → Appends before after (text_of_answer answer)
+      → IfSome (day_of answer) (IsDayFor words bytes before after)
+  day_told before after (Output text day) (w, is, input, spelled, tells) printed = record {
+    workers = w;
+    command = is;
+    input = input;
+    spelled = spelled;
+    day_is = tells.of_input;
+    printed = subst (Appends before after) tells.text_is printed;
+  }
+  day_told before after _ h printed = tt
 
--- no day is told but that of an output
-none_kept : {T : Type 0} (result is : Status) (kept : Option T) → result ≡ is → is ≢ status.Done → (result ≢ status.Done → kept ≡ None) → kept ≡ None
-none_kept result is kept same differs other = other (λ done. differs (sym same ∙ done))
+  records_told : (before after : Option (List ℕ)) (answer : Answer) → Says words bytes answer → Appends before after (text_of_answer answer)
+      → IfSome (records_of answer) (IsRecordsDayFor words bytes before after)
+  records_told before after (Records day) (w, is, input, spelled, of_input) printed =
+      record { workers = w; command = is; input = input; spelled = spelled; holds = (of_input, printed) }
+  records_told before after _ h printed = tt
 
--- the day that is told is that of the bytes
-pub printed_day : (words : List (List ℕ)) (r : Reading) (left now : Option (List ℕ)) (bytes : List ℕ) (answer : Answer)
-    (result : Status) (kept : Option DayEnd) (before after : Option (List ℕ)) (R : Type 0)
-    → HasAnswered words r left now bytes answer → HasPrinted day_of answer result kept before after R
-    → IfSome kept (λ d. OfBytesRead left (λ all. IsDayFor words all before after d))
-printed_day words r left now bytes answer result kept before after R h p = by answer h p p.wrote
-  where
-    Told : Option DayEnd → Type 0
-    Told kept = IfSome kept (λ d. OfBytesRead left (λ all. IsDayFor words all before after d))
+  orders_told : (before after : Option (List ℕ)) (answer : Answer) → Says words bytes answer → Appends before after (text_of_answer answer)
+      → IfSome (orders_of answer) (IsOrdersDayFor words bytes before after)
+  orders_told before after (Orders day) (w, is, input, spelled, of_input) printed =
+      record { workers = w; command = is; input = input; spelled = spelled; holds = (of_input, printed) }
+  orders_told before after _ h printed = tt
 
-    none : kept ≡ None → Told kept
-    none is = subst Told (sym is) tt
+  -- where the work was done, it is told by the command
+  told_by : (answer : Answer) → Says words bytes answer → status_of answer ≡ status.Done
+      → ByCommand words (IsSome (day_of answer)) (Unit {0}) (IsSome (records_of answer)) (IsSome (orders_of answer))
+  told_by (Output text day) h done = inl ((h.0, h.1), refl)
+  told_by (Agrees text) h done = inr (inl (h.0, tt))
+  told_by (Difference text) h done = absurd (cc)
+  told_by (Refusal text) h done = absurd (cc)
+  told_by (Records day) h done = inr (inr (inl ((h.0, h.1), refl)))
+  told_by (Orders day) h done = inr (inr (inr ((h.0, h.1), refl)))
 
-    by : (a : Answer) → HasAnswered words r left now bytes a → HasPrinted day_of a result kept before after R
-        → (result ≡ status_of a × Appends before after (text_of_answer a))
-        ⊎ (result ≡ status.WriteFault × R × AppendsPrefix before after (text_of_answer a)) → Told kept
-    by a h p (inr fault) = none (none_kept result status.WriteFault kept fault.0 (λ e. cc) p.other)
-    by (Output text day) h p (inl wrote) =
-        subst Told (sym (p.done wrote.0)) (of_read h (λ all. IsDayFor words all before after day)
-        (output_day words r bytes text day before after h.is h.answers wrote.1))
-    by (Agrees text) h p (inl wrote) = none (p.done wrote.0)
-    by (Difference text) h p (inl wrote) = none (none_kept result status.Differs kept wrote.0 (λ e. cc) p.other)
-    by (Refusal text) h p (inl wrote) = none (none_kept result status.BadInput kept wrote.0 (λ e. cc) p.other)
-    by (Records day) h p (inl wrote) = none (p.done wrote.0)
+  -- and by no other
+  day_runs : (answer : Answer) → Says words bytes answer → IsSome (day_of answer) → IsAnyRunCommand words
+  day_runs (Output text day) h some = (h.0, h.1)
+  day_runs _ h some = absurd (true≢false (sym some))
 
--- it is told exactly where scripts were run, and the work was done
-pub printed_has_day : (words : List (List ℕ)) (r : Reading) (left now : Option (List ℕ)) (bytes : List ℕ)
-    (answer : Answer) (result : Status) (kept : Option DayEnd) (before after : Option (List ℕ)) (R : Type 0)
-    → HasAnswered words r left now bytes answer → HasPrinted day_of answer result kept before after R → IsSome kept
-    ↔ ((IsAnyRunCommand words ⊎ IsDrill words) × (result ≡ status.Done))
-printed_has_day words r left now bytes answer result kept before after R h p = by answer h p p.wrote
-  where
-    Runs : Type 0
-    Runs = (IsAnyRunCommand words ⊎ IsDrill words) × (result ≡ status.Done)
+  records_run : (answer : Answer) → Says words bytes answer → IsSome (records_of answer) → IsRecords words
+  records_run (Records day) h some = (h.0, h.1)
+  records_run _ h some = absurd (true≢false (sym some))
 
-    never : kept ≡ None → ¬ Runs → IsSome kept ↔ Runs
-    never none not = (λ some. absurd (none_there kept none some), λ runs. absurd (not runs))
+  orders_run : (answer : Answer) → Says words bytes answer → IsSome (orders_of answer) → IsOrders words
+  orders_run (Orders day) h some = (h.0, h.1)
+  orders_run _ h some = absurd (true≢false (sym some))
 
-    unlike : (is : Status) → result ≡ is → is ≢ status.Done → (result ≢ status.Done → kept ≡ None) → IsSome kept ↔ Runs
-    unlike is same differs other = never (none_kept result is kept same differs other) (λ runs. differs (sym same ∙ runs.1))
+-- so the sink took the text that goes with the status, and what is kept is so, and there exactly where the command was done
+module _ {words : List (List ℕ)} {r : Reading} {left now : Option (List ℕ)} {bytes : List ℕ} {answer : Answer}
+    (h : HasAnswered words r left now bytes answer) where
+  module _ {T : Type 0} {tells : Answer → Option T} {result : Status} {kept : Option T} {before after : Option (List ℕ)} {R : Type 0}
+      (p : HasPrinted tells answer result kept before after R) where
+    pub printed_text : TookText result words left now before after
+    printed_text = took_text result (status_of answer) words left now before after (text_of_answer answer) R
+        (text_is_for words r left now bytes answer h (said h)) p.wrote
 
-    by : (a : Answer) → HasAnswered words r left now bytes a → HasPrinted day_of a result kept before after R
-        → (result ≡ status_of a × Appends before after (text_of_answer a))
-        ⊎ (result ≡ status.WriteFault × R × AppendsPrefix before after (text_of_answer a)) → IsSome kept ↔ Runs
-    by a h p (inr fault) = unlike status.WriteFault fault.0 (λ e. cc) p.other
-    by (Output text day) h p (inl wrote) = (
-      λ some. (inl (output_runs words r bytes text day h.is h.answers), wrote.0),
-      λ runs. subst IsSome (sym (p.done wrote.0)) refl,
-    )
-    by (Agrees text) h p (inl wrote) = never (p.done wrote.0) (λ runs. agrees_runs_not words r bytes text h.is h.answers runs.0)
-    by (Difference text) h p (inl wrote) = unlike status.Differs wrote.0 (λ e. cc) p.other
-    by (Refusal text) h p (inl wrote) = unlike status.BadInput wrote.0 (λ e. cc) p.other
-    by (Records day) h p (inl wrote) = never (p.done wrote.0) (λ runs. records_runs_not words r bytes day h.is h.answers runs.0)
+    printed_told : (P : List ℕ → T → Type 0) → (Appends before after (text_of_answer answer) → IfSome (tells answer) (P bytes))
+        → IfSome kept (λ d. OfBytesRead left (λ all. P all d))
+    printed_told P holds =
+        told_kept result (status_of answer) (tells answer) kept _ _ _ p.done p.other (λ d. OfBytesRead left (λ all. P all d)) p.wrote
+        (λ printed. IfSome_then (tells answer) (holds printed) (λ d is. of_read h (λ all. P all d) is))
 
--- the day of a record store that is told is that of the bytes
-pub printed_records : (words : List (List ℕ)) (r : Reading) (left now : Option (List ℕ)) (bytes : List ℕ) (answer : Answer)
-    (result : Status) (kept : Option RecordDay) (before after : Option (List ℕ)) (R : Type 0)
-    → HasAnswered words r left now bytes answer → HasPrinted records_of answer result kept before after R
-    → IfSome kept (λ d. OfBytesRead left (λ all. IsRecordsDayFor words all before after d))
-printed_records words r left now bytes answer result kept before after R h p = by answer h p p.wrote
-  where
-    Told : Option RecordDay → Type 0
-    Told kept = IfSome kept (λ d. OfBytesRead left (λ all. IsRecordsDayFor words all before after d))
+    printed_there : (run : Type 0) → (status_of answer ≡ status.Done → IsSome (tells answer) ↔ run) → IsSome kept ↔ (run × (result ≡ status.Done))
+    printed_there run has = told_there result (status_of answer) (tells answer) kept _ _ _ p.done p.other run p.wrote has
 
-    none : kept ≡ None → Told kept
-    none is = subst Told (sym is) tt
+  module _ {result : Status} {before after : Option (List ℕ)} {R : Type 0} where
+    pub printed_day : {day : Option DayEnd} → HasPrinted day_of answer result day before after R
+        → IfSome day (λ d. OfBytesRead left (λ all. IsDayFor words all before after d))
+    printed_day p = printed_told p (λ all. IsDayFor words all before after) (day_told words bytes before after answer (said h))
 
-    by : (a : Answer) → HasAnswered words r left now bytes a → HasPrinted records_of a result kept before after R
-        → (result ≡ status_of a × Appends before after (text_of_answer a))
-        ⊎ (result ≡ status.WriteFault × R × AppendsPrefix before after (text_of_answer a)) → Told kept
-    by a h p (inr fault) = none (none_kept result status.WriteFault kept fault.0 (λ e. cc) p.other)
-    by (Output text day) h p (inl wrote) = none (p.done wrote.0)
-    by (Agrees text) h p (inl wrote) = none (p.done wrote.0)
-    by (Difference text) h p (inl wrote) = none (none_kept result status.Differs kept wrote.0 (λ e. cc) p.other)
-    by (Refusal text) h p (inl wrote) = none (none_kept result status.BadInput kept wrote.0 (λ e. cc) p.other)
-    by (Records day) h p (inl wrote) =
-        subst Told (sym (p.done wrote.0)) (of_read h (λ all. IsRecordsDayFor words all before after day)
-        (records_day words r bytes day before after h.is h.answers wrote.1))
+    pub printed_records : {day : Option RecordDay} → HasPrinted records_of answer result day before after R
+        → IfSome day (λ d. OfBytesRead left (λ all. IsRecordsDayFor words all before after d))
+    printed_records p = printed_told p (λ all. IsRecordsDayFor words all before after) (records_told words bytes before after answer (said h))
 
--- it is told exactly where the scripts of a record store were run, and the work was done
-pub printed_has_records : (words : List (List ℕ)) (r : Reading) (left now : Option (List ℕ)) (bytes : List ℕ)
-    (answer : Answer) (result : Status) (kept : Option RecordDay) (before after : Option (List ℕ)) (R : Type 0)
-    → HasAnswered words r left now bytes answer → HasPrinted records_of answer result kept before after R
-    → IsSome kept ↔ (IsRecords words × (result ≡ status.Done))
-printed_has_records words r left now bytes answer result kept before after R h p = by answer h p p.wrote
-  where
-    Runs : Type 0
-    Runs = IsRecords words × (result ≡ status.Done)
+    pub printed_orders : {day : Option OrderDay} → HasPrinted orders_of answer result day before after R
+        → IfSome day (λ d. OfBytesRead left (λ all. IsOrdersDayFor words all before after d))
+    printed_orders p = printed_told p (λ all. IsOrdersDayFor words all before after) (orders_told words bytes before after answer (said h))
 
-    never : kept ≡ None → ¬ Runs → IsSome kept ↔ Runs
-    never none not = (λ some. absurd (none_there kept none some), λ runs. absurd (not runs))
+    pub printed_has_day : {day : Option DayEnd} → HasPrinted day_of answer result day before after R
+        → IsSome day ↔ ((IsAnyRunCommand words ⊎ IsDrill words) × (result ≡ status.Done))
+    printed_has_day p = printed_there p (IsAnyRunCommand words ⊎ IsDrill words)
+        (λ done. (λ some. inl (day_runs words bytes answer (said h) some), by (told_by words bytes answer (said h) done)))
+      where
+        by : {B C D : Type 0} → ByCommand words (IsSome (day_of answer)) B C D → IsAnyRunCommand words ⊎ IsDrill words → IsSome (day_of answer)
+        by told (inl run) = by_run words told run
+        by told (inr drill) = absurd (read_not_made words (reading_is words r h.is) (inr (inl drill)))
 
-    unlike : (is : Status) → result ≡ is → is ≢ status.Done → (result ≢ status.Done → kept ≡ None) → IsSome kept ↔ Runs
-    unlike is same differs other = never (none_kept result is kept same differs other) (λ runs. differs (sym same ∙ runs.1))
+    pub printed_has_records : {day : Option RecordDay} → HasPrinted records_of answer result day before after R
+        → IsSome day ↔ (IsRecords words × (result ≡ status.Done))
+    printed_has_records p = printed_there p (IsRecords words)
+        (λ done. (records_run words bytes answer (said h), by_records words (told_by words bytes answer (said h) done)))
 
-    by : (a : Answer) → HasAnswered words r left now bytes a → HasPrinted records_of a result kept before after R
-        → (result ≡ status_of a × Appends before after (text_of_answer a))
-        ⊎ (result ≡ status.WriteFault × R × AppendsPrefix before after (text_of_answer a)) → IsSome kept ↔ Runs
-    by a h p (inr fault) = unlike status.WriteFault fault.0 (λ e. cc) p.other
-    by (Output text day) h p (inl wrote) = never (p.done wrote.0) (λ runs. output_no_records words r bytes text day h.is h.answers runs.0)
-    by (Agrees text) h p (inl wrote) = never (p.done wrote.0) (λ runs. agrees_no_records words r bytes text h.is h.answers runs.0)
-    by (Difference text) h p (inl wrote) = unlike status.Differs wrote.0 (λ e. cc) p.other
-    by (Refusal text) h p (inl wrote) = unlike status.BadInput wrote.0 (λ e. cc) p.other
-    by (Records day) h p (inl wrote) = (
-      λ some. (records_run words r bytes day h.is h.answers, wrote.0),
-      λ runs. subst IsSome (sym (p.done wrote.0)) refl,
-    )
+    pub printed_has_orders : {day : Option OrderDay} → HasPrinted orders_of answer result day before after R
+        → IsSome day ↔ (IsOrders words × (result ≡ status.Done))
+    printed_has_orders p = printed_there p (IsOrders words)
+        (λ done. (orders_run words bytes answer (said h), by_orders words (told_by words bytes answer (said h) done)))

@@ -28,10 +28,18 @@ pub record IsCellsCommand (words : List (List ℕ)) (workers rounds : ℕ) : Typ
   pub workers_range : IsWithin 1 MOST_WORKERS workers
   pub rounds_range : IsWithin 1 MOST_ROUNDS rounds
 
--- `records W`
-pub record IsRecordsCommand (words : List (List ℕ)) (workers : ℕ) : Type 0 where
-  pub words_are : words ≡ codes "records" ∷ number workers ∷ []
+-- the words are a command's and a number of workers
+pub record HasWorkersBehind (words : List (List ℕ)) (command : List ℕ) (workers : ℕ) : Type 0 where
+  pub words_are : words ≡ command ∷ number workers ∷ []
   pub range : IsWithin 1 MOST_WORKERS workers
+
+-- `records W`
+abbrev pub IsRecordsCommand : List (List ℕ) → ℕ → Type 0
+IsRecordsCommand words workers = HasWorkersBehind words (codes "records") workers
+
+-- `orders W`
+abbrev pub IsOrdersCommand : List (List ℕ) → ℕ → Type 0
+IsOrdersCommand words workers = HasWorkersBehind words (codes "orders") workers
 
 -- `run W`, for some number of workers
 abbrev pub IsAnyRunCommand : List (List ℕ) → Type 0
@@ -40,6 +48,10 @@ IsAnyRunCommand words = (workers : ℕ) × IsRunCommand words workers
 -- `records W`, for some number of workers
 abbrev pub IsRecords : List (List ℕ) → Type 0
 IsRecords words = (workers : ℕ) × IsRecordsCommand words workers
+
+-- `orders W`, for some number of workers
+abbrev pub IsOrders : List (List ℕ) → Type 0
+IsOrders words = (workers : ℕ) × IsOrdersCommand words workers
 
 -- `check`
 abbrev pub IsCheck : List (List ℕ) → Type 0
@@ -59,7 +71,12 @@ IsCells words = (workers rounds : ℕ) × IsCellsCommand words workers rounds
 
 -- a command that reads a text
 abbrev pub IsReading : List (List ℕ) → Type 0
-IsReading words = IsAnyRunCommand words ⊎ IsCheck words ⊎ IsRecords words
+IsReading words = IsAnyRunCommand words ⊎ IsCheck words ⊎ IsRecords words ⊎ IsOrders words
+
+-- by the command that reads: this of `run W`, of `check`, of `records W`, or of `orders W`
+abbrev pub ByCommand : List (List ℕ) → Type 0 → Type 0 → Type 0 → Type 0 → Type 0
+ByCommand words run check records orders =
+    (IsAnyRunCommand words × run) ⊎ (IsCheck words × check) ⊎ (IsRecords words × records) ⊎ (IsOrders words × orders)
 
 -- a command that reads nothing
 abbrev pub IsMaking : List (List ℕ) → Type 0

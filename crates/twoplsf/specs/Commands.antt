@@ -1,21 +1,14 @@
 -- What the words of the command line ask for.
-use Rattle.std.specs.Prelude.{◌≡◌, ℕ, List, [], ◌∷◌}
-use Rattle.books_model.specs.Ranges.{IsWithin}
-use Rattle.script_reader.specs.declared.limits.TheConstants.{MOST_WORKERS}
+use Rattle.std.specs.Prelude.{◌≡◌, ℕ, List}
 use Rattle.script_reader.specs.Text.{number}
 use Rattle.input_maker.specs.Statements.{AreForMake}
-use Rattle.twoplsf.specs.Command.{IsRunCommand, IsRecordsCommand, IsMakeCommand, IsDrillCommand, IsCellsCommand, IsCheck}
+use Rattle.twoplsf.specs.Command.{IsRunCommand, IsRecordsCommand, IsOrdersCommand, IsMakeCommand, IsDrillCommand, IsCellsCommand, IsCheck}
 use Rattle.twoplsf.specs.declared.command.Reading.{Reading}
 use Rattle.twoplsf.specs.declared.command.Reading.TheVariants as reading
 use Rattle.twoplsf.specs.declared.command.Making.{Making}
 use Rattle.twoplsf.specs.declared.command.Making.TheVariants as making
 use Rattle.twoplsf.specs.declared.command.Command.{Command}
 use Rattle.twoplsf.specs.declared.command.Command.TheVariants as command
-
--- the words are a command's and a number of workers
-pub record HasWorkersBehind (words : List (List ℕ)) (command : List ℕ) (workers : ℕ) : Type 0 where
-  pub words_are : words ≡ command ∷ number workers ∷ []
-  pub range : IsWithin 1 MOST_WORKERS workers
 
 -- three words are a seed, callers and scripts for a generated input
 pub record ArePlanned (seed_word callers_word scripts_word : List ℕ) (seed callers scripts : ℕ) : Type 0 where
@@ -29,6 +22,7 @@ abbrev pub IsReadingBy : List (List ℕ) → Reading → Type 0
 IsReadingBy words (reading.Run workers) = IsRunCommand words workers
 IsReadingBy words reading.Check = IsCheck words
 IsReadingBy words (reading.Records workers) = IsRecordsCommand words workers
+IsReadingBy words (reading.Orders workers) = IsOrdersCommand words workers
 
 -- the words are those of this command that reads nothing
 abbrev pub IsMakingBy : List (List ℕ) → Making → Type 0

@@ -3,7 +3,9 @@ pub mod Commands
 pub mod Day
 pub mod Check
 pub mod Cells
+pub mod Stores
 pub mod Records
+pub mod Orders
 pub mod Made
 pub mod Making
 pub mod Answer

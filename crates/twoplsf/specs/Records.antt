@@ -12,6 +12,7 @@ use Rattle.txn_records.specs.Layout.{words_of}
 use Rattle.txn_records.specs.Standing.{IsGoodFor, Stands}
 use Rattle.word_table.specs.Closing.{AreRecords, IsCoherent, IsLegalInEachOrder}
 use Rattle.twoplsf.specs.Command.{IsRecordsCommand}
+use Rattle.twoplsf.specs.Stores.{OfInput, PrintsText}
 
 -- a day of the input by so many workers: a table with a seat for each, of as many blocks as the input says, whose words
 -- stood for no record; all that was committed on it, with the attempts that gave way, has an arrangement, and each
@@ -36,26 +37,16 @@ IsRecordsText bytes = (input : StoreInput) × SpellsRecords bytes input
 
 -- the words are `records W`, the bytes are the text of an input of a record store, and this text is an output of that
 -- input with each number of restarts below W
-pub record IsRecordOutputFor (words : List (List ℕ)) (bytes text : List ℕ) : Type 0 where
-  pub workers : ℕ
-  pub command : IsRecordsCommand words workers
-  pub input : StoreInput
-  pub spelled : SpellsRecords bytes input
-  pub output : IsRecordOutput input workers text
+abbrev pub IsRecordOutputFor : List (List ℕ) → List ℕ → List ℕ → Type 0
+IsRecordOutputFor words bytes text =
+    OfInput IsRecordsCommand SpellsRecords words bytes (λ input workers. IsRecordOutput input workers text)
 
 -- one whole text was printed, an output of a record store for the words and the bytes
-pub record PrintsRecordOutput (words : List (List ℕ)) (bytes : List ℕ) (before now : Option (List ℕ)) : Type 0 where
-  pub text : List ℕ
-  pub output : IsRecordOutputFor words bytes text
-  pub printed : Appends before now text
+abbrev pub PrintsRecordOutput : List (List ℕ) → List ℕ → Option (List ℕ) → Option (List ℕ) → Type 0
+PrintsRecordOutput words bytes before now = PrintsText (IsRecordOutputFor words bytes) before now
 
 -- the day of `records`: that of the input that the bytes spell, by as many workers as the words say; and its text was
 -- printed
-pub record IsRecordsDayFor (words : List (List ℕ)) (bytes : List ℕ) (before now : Option (List ℕ)) (day : RecordDay)
-    : Type 0 where
-  pub workers : ℕ
-  pub command : IsRecordsCommand words workers
-  pub input : StoreInput
-  pub spelled : SpellsRecords bytes input
-  pub day_is : IsRecordsDayOf input workers day
-  pub printed : Appends before now day.text.items
+abbrev pub IsRecordsDayFor : List (List ℕ) → List ℕ → Option (List ℕ) → Option (List ℕ) → RecordDay → Type 0
+IsRecordsDayFor words bytes before now day = OfInput IsRecordsCommand SpellsRecords words bytes
+    (λ input workers. IsRecordsDayOf input workers day × Appends before now day.text.items)

@@ -5,7 +5,7 @@ ghost use Rattle.books_model.specs.Ranges.{IsWithin};
 ghost use Rattle.books_report.specs.Lines.{lent};
 ghost use Rattle.books_report.specs.Output.{output_of};
 ghost use Rattle.script_reader.specs.declared.limits.TheConstants.{MOST_WORKERS};
-ghost use Rattle.twoplsf.specs.Answer.{IsAnswerTo, day_of, records_of, refused_line, status_of, text_of_answer};
+ghost use Rattle.twoplsf.specs.Answer.{IsAnswerTo, day_of, orders_of, records_of, refused_line, status_of, text_of_answer};
 ghost use Rattle.twoplsf.specs.Day.{IsDayOf, closing_books, journal_of, line_of};
 
 use crate::day::run_day;
@@ -13,6 +13,7 @@ use crate::status::Status;
 use books_model::{Books, Reply};
 use books_report::{Line, journal_text};
 use io_ends::OutOfMemory;
+use order_match::OrderDay;
 use script_reader::{Fault, Input, InputFault, read_input};
 use std::alloc::Global;
 use std::sync::Wait;
@@ -36,6 +37,8 @@ pub enum Answer {
     Refusal(Vec<u8>),
     /// A day of a record store, with the text that tells of it.
     Records(RecordDay),
+    /// A day of a limit order book, with the text that tells of it.
+    Orders(OrderDay),
 }
 
 impl Answer {
@@ -44,7 +47,8 @@ impl Answer {
         ensures { result ≡ status_of self.now }
     {
         match self {
-            Answer::Output { .. } | Answer::Agrees(_) | Answer::Records(_) => Status::Done,
+            Answer::Output { .. } | Answer::Agrees(_) | Answer::Records(_) | Answer::Orders(_) =>
+                Status::Done,
             Answer::Difference(_) => Status::Differs,
             Answer::Refusal(_) => Status::BadInput,
         }
@@ -60,18 +64,21 @@ impl Answer {
             | Answer::Difference(text)
             | Answer::Refusal(text) => text,
             Answer::Records(day) => &day.text,
+            Answer::Orders(day) => &day.text,
         }
     }
 
-    // Its day, which an output alone has, and its day of a record store.
-    pub(crate) fn into_days(self) -> (Option<DayEnd>, Option<RecordDay>)
+    // Its day, which an output alone has, its day of a record store, and that of a limit order book.
+    pub(crate) fn into_days(self) -> (Option<DayEnd>, Option<RecordDay>, Option<OrderDay>)
         ensures day { result.0 ≡ day_of self }
         ensures records { result.1 ≡ records_of self }
+        ensures orders { result.2 ≡ orders_of self }
     {
         match self {
-            Answer::Output { day, .. } => (Some(day), None),
-            Answer::Records(day) => (None, Some(day)),
-            Answer::Agrees(_) | Answer::Difference(_) | Answer::Refusal(_) => (None, None),
+            Answer::Output { day, .. } => (Some(day), None, None),
+            Answer::Records(day) => (None, Some(day), None),
+            Answer::Orders(day) => (None, None, Some(day)),
+            Answer::Agrees(_) | Answer::Difference(_) | Answer::Refusal(_) => (None, None, None),
         }
     }
 }

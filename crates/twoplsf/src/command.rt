@@ -4,8 +4,8 @@ ghost use Rattle.std.specs.Prelude.{◌≡◌, ℕ, map, IfSome, IfNone};
 ghost use Rattle.std.specs.String.{string_bytes};
 ghost use Rattle.books_model.specs.Ranges.{IsWithin};
 ghost use Rattle.script_reader.specs.Text.{number};
-ghost use Rattle.twoplsf.specs.Command.{IsCells, IsCellsCommand, IsDrill, IsDrillCommand, IsMake, IsMakeCommand, IsMaking, IsReading, IsRecords, IsRecordsCommand, IsAnyRunCommand, IsRunCommand, IsValidCommand};
-ghost use Rattle.twoplsf.specs.Commands.{ArePlanned, HasWorkersBehind, IsCommand, IsMakingBy, IsReadingBy};
+ghost use Rattle.twoplsf.specs.Command.{IsCells, IsCellsCommand, IsDrill, IsDrillCommand, IsMake, IsMakeCommand, IsMaking, IsOrders, IsOrdersCommand, IsReading, IsRecords, IsRecordsCommand, HasWorkersBehind, IsAnyRunCommand, IsRunCommand, IsValidCommand};
+ghost use Rattle.twoplsf.specs.Commands.{ArePlanned, IsCommand, IsMakingBy, IsReadingBy};
 
 use input_maker::limits::GREATEST_SEED;
 use script_reader::limits::{MOST_CALLERS, MOST_SCRIPTS, MOST_WORKERS};
@@ -32,6 +32,8 @@ pub enum Reading {
     Check,
     /// The input of a record store is run by so many workers.
     Records(u32),
+    /// The input of a limit order book is run by so many workers.
+    Orders(u32),
 }
 
 /// What is to be done where nothing is read.
@@ -77,6 +79,9 @@ pub fn reading_of(words: &[String]) -> Option<Reading>
     if let Some(workers) = record_workers_of(words) {
         return Some(Reading::Records(workers));
     }
+    if let Some(workers) = order_workers_of(words) {
+        return Some(Reading::Orders(workers));
+    }
     match words {
         [check] if check.as_str() == "check" => Some(Reading::Check),
         _ => None,
@@ -112,6 +117,14 @@ pub fn record_workers_of(words: &[String]) -> Option<u32>
     ensures none { IfNone result (¬ IsRecords (map string_bytes words.now)) }
 {
     workers_behind(words, "records")
+}
+
+/// The number of workers of an `orders` command. It takes no memory.
+pub fn order_workers_of(words: &[String]) -> Option<u32>
+    ensures some { IfSome result (IsOrdersCommand (map string_bytes words.now)) }
+    ensures none { IfNone result (¬ IsOrders (map string_bytes words.now)) }
+{
+    workers_behind(words, "orders")
 }
 
 // The number of workers that stands behind this word, where there are no other words. It takes no memory.

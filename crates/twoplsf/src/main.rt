@@ -8,6 +8,7 @@ pub mod check;
 pub mod command;
 pub mod day;
 pub mod making;
+pub mod orders;
 pub mod program;
 pub mod records;
 pub mod serve;
@@ -53,6 +54,8 @@ mod cells_tests;
 mod faults_tests;
 #[cfg(test)]
 mod hostile_tests;
+#[cfg(test)]
+mod orders_tests;
 #[cfg(test)]
 mod records_tests;
 #[cfg(test)]

@@ -6,7 +6,8 @@ ghost use Rattle.io_ends.specs.Counts.{Rose};
 ghost use Rattle.io_ends.specs.Taken.{TakesAtMost};
 ghost use Rattle.script_reader.specs.Grammar.{BeginWithInput, IsValidInput};
 ghost use Rattle.twoplsf.specs.Answer.{OfBytesRead, PrintsOutput};
-ghost use Rattle.twoplsf.specs.Command.{IsCheck, IsMaking, IsAnyRunCommand, IsRecords, IsValidCommand};
+ghost use Rattle.twoplsf.specs.Command.{IsCheck, IsMaking, IsAnyRunCommand, IsOrders, IsRecords, IsValidCommand};
+ghost use Rattle.twoplsf.specs.Orders.{IsOrdersText, PrintsOrderOutput};
 ghost use Rattle.twoplsf.specs.Records.{IsRecordsText, PrintsRecordOutput};
 ghost use Rattle.twoplsf.specs.Ending.{EndsWith, exit_status};
 ghost use Rattle.twoplsf.specs.declared.status.Status.{Status};
@@ -42,6 +43,12 @@ pub fn run_program<R: Threads + Wait + Sync, S: Source, K: Sink, G: Gate + Sync>
         (λ bytes. PrintsRecordOutput (map string_bytes list.items) bytes
         (K.taken sink.old) (K.taken sink.new))) }
 
+    // And of a limit order book.
+    ensures headline_orders { IfOk words (λ list. IsOrders (map string_bytes list.items)
+        → result ≡ exit_status Status.Done → OfBytesRead (S.left source.old)
+        (λ bytes. PrintsOrderOutput (map string_bytes list.items) bytes
+        (K.taken sink.old) (K.taken sink.new))) }
+
     // The number is that of a status, which goes with what was printed, and comes where it may.
     ensures served { IfOk words (λ list. EndsWith result (map string_bytes list.items)
         (S.left source.old) (S.left source.new) (K.taken sink.old) (K.taken sink.new)
@@ -67,6 +74,12 @@ pub fn run_program<R: Threads + Wait + Sync, S: Source, K: Sink, G: Gate + Sync>
     ensures complete_records { IfOk words (λ list. IsRecords (map string_bytes list.items)
         → IfSome (S.left source.old) (λ bytes. length bytes ≤ MOST_INPUT_BYTES
         → IsRecordsText bytes
+        → (¬ Rose (S.faults source.old) (S.faults source.new))
+        → (¬ Rose (K.faults sink.old) (K.faults sink.new))
+        → (result ≡ exit_status Status.Done) ⊎ (result ≡ exit_status Status.OutOfMemory))) }
+    ensures complete_orders { IfOk words (λ list. IsOrders (map string_bytes list.items)
+        → IfSome (S.left source.old) (λ bytes. length bytes ≤ MOST_INPUT_BYTES
+        → IsOrdersText bytes
         → (¬ Rose (S.faults source.old) (S.faults source.new))
         → (¬ Rose (K.faults sink.old) (K.faults sink.new))
         → (result ≡ exit_status Status.Done) ⊎ (result ≡ exit_status Status.OutOfMemory))) }

@@ -9,26 +9,30 @@ ghost use Rattle.script_reader.specs.Grammar.{AreTwoTexts, BeginWithInput, IsVal
 ghost use Rattle.script_reader.specs.declared.fault.Fault.{Fault};
 ghost use Rattle.script_reader.specs.Faults.{IsFirstFault, IsFrontFault};
 ghost use Rattle.script_reader.specs.Input.{ClearingInput};
-ghost use Rattle.twoplsf.specs.Command.{IsAnyRunCommand, IsCells, IsCheck, IsDrill, IsMaking, IsReading, IsRecords, IsValidCommand};
+ghost use Rattle.twoplsf.specs.Command.{IsAnyRunCommand, IsCells, IsCheck, IsDrill, IsMaking, IsOrders, IsReading, IsRecords, IsValidCommand};
 ghost use Rattle.books_report.specs.Output.{IsOutput};
 ghost use Rattle.books_report.specs.Checking.{IsFirstWrongLine};
 ghost use Rattle.twoplsf.specs.Commands.{IsMakingBy, IsReadingBy};
 ghost use Rattle.twoplsf.specs.Cells.{IsCellsRunFor};
+ghost use Rattle.order_text.specs.Grammar.{IsOrderFault};
 ghost use Rattle.record_text.specs.Grammar.{IsRecordFault};
 ghost use Rattle.twoplsf.specs.Check.{differs_line};
 ghost use Rattle.twoplsf.specs.Made.{IsDrillDay, PrintsMade};
 ghost use Rattle.twoplsf.specs.Making.{AddsToCells, IsMakingDay, IsMakingRun, RunsScripts, making_text};
-ghost use Rattle.twoplsf.specs.Answer.{HaveInputFor, OfBytesRead, IsAnswerBy, IsDayFor, PrintsOutput, TookText, day_of, records_of, refused_line, status_of, text_of_answer};
+ghost use Rattle.twoplsf.specs.Answer.{HaveInputFor, OfBytesRead, IsAnswerBy, IsDayFor, PrintsOutput, TookText, day_of, orders_of, records_of, refused_line, status_of, text_of_answer};
+ghost use Rattle.twoplsf.specs.Orders.{IsOrdersDayFor, IsOrdersText, PrintsOrderOutput};
 ghost use Rattle.twoplsf.specs.Records.{IsRecordsDayFor, IsRecordsText, PrintsRecordOutput};
 
 use crate::answer::{Answer, answer_to};
 use crate::check::check_answer;
 use crate::command::{Command, Making, Reading, command_of};
 use crate::making::made_answer;
+use crate::orders::orders_answer;
 use crate::records::records_answer;
 use crate::status::Status;
 use books_report::limits::RESTARTS_BELOW;
 use io_ends::{OutOfMemory, ReadStop, Sink, Source, read_all, write_all_of};
+use order_match::OrderDay;
 use script_reader::limits::MOST_INPUT_BYTES;
 use std::alloc::Global;
 use std::sync::Wait;
@@ -49,6 +53,8 @@ pub struct Served {
     pub cells: Option<Closed<CellsShape<u128>>>,
     /// What the workers did on a record store, where their output was written whole.
     pub records: Option<RecordDay>,
+    /// What the workers did on a limit order book, where their output was written whole.
+    pub orders: Option<OrderDay>,
 }
 
 impl Served {
@@ -58,12 +64,14 @@ impl Served {
         ensures day { result.day ≡ None }
         ensures cells { result.cells ≡ None }
         ensures records { result.records ≡ None }
+        ensures orders { result.orders ≡ None }
     {
         Served {
             status,
             day: None,
             cells: None,
             records: None,
+            orders: None,
         }
     }
 }
@@ -99,16 +107,20 @@ fn print_answer<K: Sink>(sink: &mut K, answer: Answer) -> Served
     ensures cells { result.cells ≡ None }
     ensures done_records { result.status ≡ Status.Done → result.records ≡ records_of answer }
     ensures other_records { result.status ≢ Status.Done → result.records ≡ None }
+    ensures done_orders { result.status ≡ Status.Done → result.orders ≡ orders_of answer }
+    ensures other_orders { result.status ≢ Status.Done → result.orders ≡ None }
 {
     let status = finish(sink, answer.text(), answer.status());
-    let (day, records) = answer.into_days();
+    let (day, records, orders) = answer.into_days();
     let day = told_after(status, day);
     let records = told_after(status, records);
+    let orders = told_after(status, orders);
     Served {
         status,
         day,
         cells: None,
         records,
+        orders,
     }
 }
 
@@ -127,6 +139,7 @@ fn answer_by<R: Threads + Wait + Sync, G: Gate + Sync>(
         Reading::Run(workers) => answer_to(rt, alloc, bytes, workers, gate),
         Reading::Check => check_answer(alloc, bytes),
         Reading::Records(workers) => records_answer(rt, alloc, bytes, workers, gate),
+        Reading::Orders(workers) => orders_answer(rt, alloc, bytes, workers, gate),
     }
 }
 
@@ -150,6 +163,7 @@ fn serve_making<R: Threads + Wait + Sync, K: Sink, G: Gate + Sync>(
     ensures has_cells { IsSome result.cells
         ↔ (AddsToCells making × (result.status ≡ Status.Done)) }
     ensures records { result.records ≡ None }
+    ensures orders { result.orders ≡ None }
 {
     match made_answer(rt, alloc, making, gate) {
         Ok(made) => {
@@ -161,6 +175,7 @@ fn serve_making<R: Threads + Wait + Sync, K: Sink, G: Gate + Sync>(
                 day,
                 cells,
                 records: None,
+                orders: None,
             }
         }
         Err(_) => Served::without_day(Status::OutOfMemory),
@@ -200,6 +215,12 @@ fn serve_words<R: Threads + Wait + Sync, S: Source, K: Sink, G: Gate + Sync>(
         (K.taken sink.old) (K.taken sink.new) day)) }
     ensures has_records { IsSome result.records
         ↔ (IsRecords (map string_bytes words.now) × (result.status ≡ Status.Done)) }
+    ensures orders { IfSome result.orders
+        (λ day. OfBytesRead (S.left source.old)
+        (λ bytes. IsOrdersDayFor (map string_bytes words.now) bytes
+        (K.taken sink.old) (K.taken sink.new) day)) }
+    ensures has_orders { IsSome result.orders
+        ↔ (IsOrders (map string_bytes words.now) × (result.status ≡ Status.Done)) }
 
     // What is read, and when nothing is.
     ensures unread { (¬ IsReading (map string_bytes words.now)) → source.new ≡ source.old }
@@ -244,12 +265,13 @@ fn serve_words<R: Threads + Wait + Sync, S: Source, K: Sink, G: Gate + Sync>(
 
 /// Does what the words say: `run W` reads an input from the source, runs each of its scripts as one transaction on one
 /// of W threads, and writes the journal and the closing books to the sink; `records W` does the same for the input of a
-/// record store, with the closing records; `check` reads an input and a text behind it, and writes whether that is an
-/// output of the input, or its first wrong line. `make`, `drill` and `cells` read nothing: the first writes the input
-/// that a seed gives, the second runs it, checks the output, and writes what the closing books come to, and the third
-/// has threads add to cells of 128 bits, and writes what these come to. `run`, `records`, `drill` and `cells` may wait:
-/// that a wait ends, no clause says. Every text is made before the first write. Faults are looked for in the order
-/// words, read, size, input; out of memory may come before any of them but words.
+/// record store, with the closing records, and `orders W` for that of a limit order book, with the orders that rest;
+/// `check` reads an input and a text behind it, and writes whether that is an output of the input, or its first wrong
+/// line. `make`, `drill` and `cells` read nothing: the first writes the input that a seed gives, the second runs it,
+/// checks the output, and writes what the closing books come to, and the third has threads add to cells of 128 bits, and
+/// writes what these come to. `run`, `records`, `orders`, `drill` and `cells` may wait: that a wait ends, no clause says.
+/// Every text is made before the first write. Faults are looked for in the order words, read, size, input; out of memory
+/// may come before any of them but words.
 pub fn serve<R: Threads + Wait + Sync, S: Source, K: Sink, G: Gate + Sync>(
     rt: &R,
     alloc: Global,
@@ -297,6 +319,19 @@ pub fn serve<R: Threads + Wait + Sync, S: Source, K: Sink, G: Gate + Sync>(
         (K.taken sink.old) (K.taken sink.new) day)) }
     ensures has_records { IsSome result.records
         ↔ (IsRecords (map string_bytes words.now) × (result.status ≡ Status.Done)) }
+
+    // The same of a limit order book: its scripts from a book with no order, and the orders that rest at the end.
+    // (`headline_orders` follows from `text`.)
+    ensures headline_orders { IsOrders (map string_bytes words.now)
+        → result.status ≡ Status.Done → OfBytesRead (S.left source.old)
+        (λ bytes. PrintsOrderOutput (map string_bytes words.now) bytes
+        (K.taken sink.old) (K.taken sink.new)) }
+    ensures orders { IfSome result.orders
+        (λ day. OfBytesRead (S.left source.old)
+        (λ bytes. IsOrdersDayFor (map string_bytes words.now) bytes
+        (K.taken sink.old) (K.taken sink.new) day)) }
+    ensures has_orders { IsSome result.orders
+        ↔ (IsOrders (map string_bytes words.now) × (result.status ≡ Status.Done)) }
 
     // These commands read nothing, and print their one text: the input that is made, what became of it in a drill, or
     // what the cells come to. (`made` follows from `text`.)
@@ -350,6 +385,10 @@ pub fn serve<R: Threads + Wait + Sync, S: Source, K: Sink, G: Gate + Sync>(
         → result.status ≡ Status.BadInput → IfSome (S.left source.old)
         (λ bytes. (number : ℕ) (why : Fault) → IsRecordFault bytes number why
         → Appends (K.taken sink.old) (K.taken sink.new) (refused_line number why)) }
+    ensures first_order_fault { IsOrders (map string_bytes words.now)
+        → result.status ≡ Status.BadInput → IfSome (S.left source.old)
+        (λ bytes. (number : ℕ) (why : Fault) → IsOrderFault bytes number why
+        → Appends (K.taken sink.old) (K.taken sink.new) (refused_line number why)) }
     ensures bad_input { result.status ≡ Status.BadInput → IfSome (S.left source.old)
         (λ bytes. ¬ HaveInputFor (map string_bytes words.now) bytes) }
     ensures no_input { IsReading (map string_bytes words.now) → IfSome (S.left source.old)
@@ -390,6 +429,11 @@ pub fn serve<R: Threads + Wait + Sync, S: Source, K: Sink, G: Gate + Sync>(
 
     ensures complete_records { IsRecords (map string_bytes words.now) → IfSome (S.left source.old)
         (λ bytes. length bytes ≤ MOST_INPUT_BYTES → IsRecordsText bytes
+        → (¬ Rose (S.faults source.old) (S.faults source.new))
+        → (¬ Rose (K.faults sink.old) (K.faults sink.new))
+        → (result.status ≡ Status.Done) ⊎ (result.status ≡ Status.OutOfMemory)) }
+    ensures complete_orders { IsOrders (map string_bytes words.now) → IfSome (S.left source.old)
+        (λ bytes. length bytes ≤ MOST_INPUT_BYTES → IsOrdersText bytes
         → (¬ Rose (S.faults source.old) (S.faults source.new))
         → (¬ Rose (K.faults sink.old) (K.faults sink.new))
         → (result.status ≡ Status.Done) ⊎ (result.status ≡ Status.OutOfMemory)) }

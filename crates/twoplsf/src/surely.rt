@@ -6,10 +6,11 @@ ghost use Rattle.std.specs.String.{string_bytes};
 ghost use Rattle.script_reader.specs.Grammar.{AreTwoTexts, BeginWithInput, IsValidInput};
 ghost use Rattle.script_reader.specs.Input.{ClearingInput};
 ghost use Rattle.books_report.specs.Output.{IsOutput};
-ghost use Rattle.twoplsf.specs.Command.{IsAnyRunCommand, IsCells, IsCheck, IsDrill, IsMaking, IsReading, IsRecords, IsValidCommand};
+ghost use Rattle.twoplsf.specs.Command.{IsAnyRunCommand, IsCells, IsCheck, IsDrill, IsMaking, IsOrders, IsReading, IsRecords, IsValidCommand};
 ghost use Rattle.twoplsf.specs.Cells.{IsCellsRunFor};
 ghost use Rattle.twoplsf.specs.Made.{IsDrillDay};
 ghost use Rattle.twoplsf.specs.Answer.{HaveInputFor, IsDayFor};
+ghost use Rattle.twoplsf.specs.Orders.{IsOrdersDayFor, IsOrdersText};
 ghost use Rattle.twoplsf.specs.Records.{IsRecordsDayFor, IsRecordsText};
 
 use crate::serve::{Served, serve};
@@ -47,6 +48,10 @@ pub fn serve_surely<R: Threads + Wait + Sync, G: Gate + Sync>(
         → length bytes.items ≤ MOST_INPUT_BYTES
         → IsRecordsText bytes.items
         → (result.status ≡ Status.Done) ⊎ (result.status ≡ Status.OutOfMemory) }
+    ensures run_orders { IsOrders (map string_bytes words.now)
+        → length bytes.items ≤ MOST_INPUT_BYTES
+        → IsOrdersText bytes.items
+        → (result.status ≡ Status.Done) ⊎ (result.status ≡ Status.OutOfMemory) }
     ensures making { IsMaking (map string_bytes words.now)
         → (result.status ≡ Status.Done) ⊎ (result.status ≡ Status.OutOfMemory) }
 
@@ -77,6 +82,10 @@ pub fn serve_surely<R: Threads + Wait + Sync, G: Gate + Sync>(
         (IsRecordsDayFor (map string_bytes words.now) bytes.items None None) }
     ensures has_records { IsSome result.records
         ↔ (IsRecords (map string_bytes words.now) × (result.status ≡ Status.Done)) }
+    ensures orders { IfSome result.orders
+        (IsOrdersDayFor (map string_bytes words.now) bytes.items None None) }
+    ensures has_orders { IsSome result.orders
+        ↔ (IsOrders (map string_bytes words.now) × (result.status ≡ Status.Done)) }
     ensures cells { IfSome result.cells
         (IsCellsRunFor ⟦<u128 as Coded>⟧ (map string_bytes words.now) None None) }
     ensures has_cells { IsSome result.cells

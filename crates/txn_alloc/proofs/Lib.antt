@@ -4,5 +4,7 @@ pub mod Sets
 pub mod FreeLists
 -- what all maps on blocks share
 pub mod Maps
+-- a block is in one of an arena's parts alone
+pub mod Apart
 -- the words of tests: 285 zeros but for the two that link two free blocks
 pub mod TwoBlocks

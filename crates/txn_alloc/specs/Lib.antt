@@ -1,5 +1,6 @@
 pub mod FreeLists
 pub mod Statements
 pub mod EntryMaps
+pub mod Blocks
 pub mod Spread
 pub mod Laying

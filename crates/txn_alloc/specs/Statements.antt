@@ -1,9 +1,10 @@
 -- What the laws of free blocks say.
-use Rattle.std.specs.Prelude.{◌≡◌, ◌≢◌, ℕ, ◌<◌, ◌≤◌, true, List, Option, length, slice_get, sum_by, count_by}
+use Rattle.std.specs.Prelude.{◌≡◌, ◌≢◌, ℕ, ◌<◌, ◌≤◌, true, false, List, [], ◌∷◌, Option, length, slice_get, sum_by, count_by}
 use Rattle.std.specs.Ordering.{nat_cmp}
 use Rattle.std.specs.FinSet as set
 use Rattle.txn_alloc.specs.declared.arena.Arena.{Arena}
 use Rattle.txn_alloc.specs.FreeLists.{IsHead, IsInBlock, FreeListsHold, IsInOrder, Lacks, Takes, Gives}
+use Rattle.txn_alloc.specs.Blocks.{times_among}
 
 -- in one word list the free blocks are one set
 abbrev pub OneFreeSet : Type 0
@@ -40,3 +41,8 @@ LengthsSum =
     → ((b : ℕ) → b < n → count_by (λ s. set.contains s b) sets ≡ 1)
     → ((b : ℕ) → n ≤ b → count_by (λ s. set.contains s b) sets ≡ 0)
     → sum_by (λ s. set.len s) sets ≡ n
+
+-- a block that goes from one set to another is in as many of the two as before, and so is every other
+abbrev pub MovedBlock : Type 0
+MovedBlock = (used free : set.FinSet nat_cmp) (c : ℕ) → set.contains used c ≡ false → set.contains free c ≡ true → (b : ℕ)
+    → times_among b (set.insert used c ∷ set.remove free c ∷ []) ≡ times_among b (used ∷ free ∷ [])

@@ -1,7 +1,7 @@
 //! What a collection above concludes, each law the contract of a function that does nothing.
 
 ghost use Rattle.std.specs.Prelude.{◌≡◌};
-ghost use Rattle.txn_alloc.specs.Statements.{OneFreeSet, FreeListsStand, LacksTaken, LacksGiven, LengthsSum};
+ghost use Rattle.txn_alloc.specs.Statements.{OneFreeSet, FreeListsStand, LacksTaken, LacksGiven, LengthsSum, MovedBlock};
 
 use crate::arena::{BLOCK_WORDS, HEADS, LEFT, NEXT, RIGHT, VALUE};
 use crate::spread::MULTIPLIER;
@@ -29,6 +29,11 @@ pub fn lacks_given()
 /// Sets of blocks that share none and together have all of an arena's blocks have as many members as it has blocks.
 pub fn lengths_sum()
     ensures { LengthsSum }
+{}
+
+/// A block that goes from one set to another is in as many of the two as before, and so is every other.
+pub fn moved_block()
+    ensures { MovedBlock }
 {}
 
 /// How many lists an arena's free blocks may hang in, how many words a block has, what stands where in it, and what a

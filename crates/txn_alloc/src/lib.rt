@@ -2,8 +2,8 @@
 //!
 //! An `Arena` says where its blocks lie and where the lists of its free blocks begin, each block in the list of its
 //! number modulo sixteen. `take_near`, `take` and `give` see the free blocks as a set; how the lists go through them
-//! stands in `specs/FreeLists` alone. `laws` has what a
-//! collection above concludes of them.
+//! stands in `specs/FreeLists` alone. `laws` has what a collection above concludes of them, and `specs/Blocks` in how
+//! many parts of an arena a block is.
 #![tactic(auto)]
 
 pub mod arena;

@@ -1,19 +1,15 @@
 -- Which word lists stand for which books.
 use Rattle.std.specs.Prelude.{◌≡◌, ℕ, ◌+◌, ◌<◌, ◌==◌, List, [], ◌∷◌, All, count_by}
-use Rattle.std.specs.FinSet as set
 use Rattle.books_model.specs.Books.{ClearingBooks}
 use Rattle.books_model.specs.Ranges.{AreInRange}
 use Rattle.txn_alloc.specs.FreeLists.{FreeListsHold}
 use Rattle.txn_alloc.specs.EntryMaps.{Blocks}
+use Rattle.txn_alloc.specs.Blocks.{times_among}
 use Rattle.txn_tree_map.specs.Trees.{TreeHolds}
 use Rattle.txn_hash_map.specs.Chains.{ChainsHold}
 use Rattle.txn_ring.specs.Queues.{QueueHolds}
 use Rattle.txn_books.specs.declared.shape.BooksShape.{BooksShape}
 use Rattle.txn_books.specs.Layout.{shape_of, arena_of, tree_of, chains_of, queue_of, chained}
-
--- in how many of the sets block b is
-abbrev pub times_among : ℕ → List Blocks → ℕ
-times_among b sets = count_by (λ s. set.contains s b) sets
 
 -- the parts of the books lie in the words, and each block is used by the tree or by the chains, or free, or in hand
 pub record HasParts (words : List ℕ) (books : ClearingBooks) (in_hand : List ℕ) : Type 0 where

@@ -9,13 +9,14 @@ use Rattle.books_model.specs.Ranges.{IsWithin, AreInRange}
 use Rattle.txn_words.specs.Frames.{KeepsOthers}
 use Rattle.txn_alloc.specs.FreeLists.{FreeListsHold}
 use Rattle.txn_alloc.specs.EntryMaps.{Entries, Blocks, IsOwn}
+use Rattle.txn_alloc.specs.Blocks.{times_among}
 use Rattle.txn_tree_map.specs.Trees.{TreeHolds, tree_part}
 use Rattle.txn_hash_map.specs.Chains.{ChainsHold, chain_part}
 use Rattle.txn_ring.specs.Queues.{QueueHolds}
 use Rattle.txn_ring.specs.Queues as ring
 use Rattle.txn_books.specs.declared.shape.BooksShape.{BooksShape}
 use Rattle.txn_books.specs.Layout.{shape_of, arena_of, tree_of, chains_of, queue_of, price_key_of, position_key_of, chained}
-use Rattle.txn_books.specs.Standing.{times_among, HasParts, Stands}
+use Rattle.txn_books.specs.Standing.{HasParts, Stands}
 
 -- an instrument's number
 abbrev pub IsInstrument : ℕ → Type 0

@@ -1,5 +1,6 @@
 -- Lists that are put together of others, and two lists of which the one has something for each of the other.
-use Rattle.std.proofs.Common.{◌≡◌, ◌≢◌, ℕ, zero, suc, ◌<◌, ◌≤◌, ⊎_elim, List, [], ◌∷◌, ◌++◌, All, AllPairs, flat_map, length, map, get_or, slice_get, Some, refl}
+use Rattle.std.proofs.Common.{◌≡◌, ◌≢◌, ℕ, zero, suc, ◌<◌, ◌≤◌, ⊎_elim, List, [], ◌∷◌, ◌++◌, All}
+use Rattle.std.proofs.Common.{AllPairs, flat_map, length, map, get_or, slice_get, Some, refl}
 use Rattle.std.proofs.Common.{sym, ap, ◌∙◌, subst, subst₂, arith}
 use Rattle.std.proofs.lemmas.List.{append-nil}
 use Rattle.std.proofs.lemmas.List.Concat.{flat_map-cons}

@@ -13,7 +13,7 @@ use Rattle.txn_words.specs.Frames.{KeepsOthers, AppendsOnly, AppendsReads}
 use Rattle.txn_words.proofs.Steps.{after_write_end, fits_write_end}
 use Rattle.txn_words.proofs.FrameLaws.{only_more, only_then, only_write}
 use Rattle.txn_words.proofs.ReadLaws.{sees_more, sees_then, sees_write}
-use Rattle.txn_alloc.specs.FreeLists.{block_at, IsInBlock, IsHeadOrFirst, FreeListsHold, Lacks, Gives}
+use Rattle.txn_alloc.specs.FreeLists.{block_at, IsHeadOrFirst, FreeListsHold, Lacks, Gives}
 use Rattle.txn_alloc.proofs.FreeLists.Wider.{IsAnyHeadOrIn}
 use Rattle.txn_alloc.specs.FreeLists as lists
 use Rattle.txn_hash_map.specs.declared.map.ChainMap.{ChainMap}

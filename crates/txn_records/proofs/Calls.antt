@@ -12,6 +12,8 @@ use Rattle.txn_words.specs.Calls.{InEachState, LeadsTo}
 use Rattle.txn_words.proofs.CallLaws.{state_after}
 use Rattle.txn_alloc.specs.declared.put.Put.{Put}
 use Rattle.txn_alloc.specs.declared.put.Put.TheVariants.{New, Old, Full}
+use Rattle.txn_stores.proofs.Maps.{removed_here, removed_there}
+use Rattle.txn_stores.proofs.Turning.{Turns}
 use Rattle.txn_records.specs.declared.shape.RecordShape.{RecordShape}
 use Rattle.txn_records.specs.declared.layout.TheConstants.{RANK_STEP}
 use Rattle.txn_records.specs.Layout.{index_key_of}
@@ -19,8 +21,7 @@ use Rattle.txn_records.specs.Standing.{Trees, HasTrees, HasSomeTrees, HoldRecord
 use Rattle.txn_records.specs.Access.{first_in, first_key_in, PutsRecord, UnlessFull}
 use Rattle.txn_records.specs.Inner.Listing.{first_key, first_entry}
 use Rattle.txn_records.proofs.Keys.{key_first, entry_first}
-use Rattle.txn_records.proofs.Turning.{Turns}
-use Rattle.txn_records.proofs.Held.{rank_range, no_record, some_record, removed_here, removed_there, range_removed, cut_held, dropped, dropped_held}
+use Rattle.txn_records.proofs.Held.{rank_range, no_record, some_record, range_removed, cut_held, dropped, dropped_held}
 
 module _ (shape : RecordShape) where
   pub good_trees : (x : List ℕ) → IsGoodFor shape x → HasSomeTrees shape x

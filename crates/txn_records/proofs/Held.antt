@@ -1,15 +1,14 @@
 -- Trees that hold records, and hold them after a change.
 use Rattle.std.proofs.Common.{◌≡◌, ◌≢◌, ℕ, ◌<◌, ◌≤◌, if◌then◌else◌, Option, Some, None}
-use Rattle.std.proofs.Common.{IfSome, unwrap_or, refl, sym, ap, ◌∙◌, subst, arith, rules, eq-eqb, ne_eqb}
+use Rattle.std.proofs.Common.{IfSome, unwrap_or, refl, sym, ap, ◌∙◌, subst, arith, eq-eqb, ne_eqb}
 use mathlib.Core.Logic.{dite}
 use native.Mathlib.Decide.{ℕ_discrete}
-use Rattle.std.specs.Ordering.{nat_cmp}
 use Rattle.std.specs.FinMap as finite
-use Rattle.std.specs.FinMap.{gets}
 use Rattle.record_text.specs.declared.limits.TheConstants.{GREATEST_DATA}
 use Rattle.record_text.specs.Records.{Records}
 use Rattle.record_text.specs.Ranges.{IsId, IsRank}
 use Rattle.record_text.specs.Laws.{data_at_rank}
+use Rattle.txn_stores.proofs.Maps.{removed_here, removed_there, inserted_here, inserted_there}
 use Rattle.txn_records.specs.declared.layout.TheConstants.{RANK_STEP}
 use Rattle.txn_records.specs.Layout.{index_key_of}
 use Rattle.txn_records.specs.Standing.{Trees, HoldRecords, AreInRange, rank_in}
@@ -21,20 +20,6 @@ id_below id is = omega (arith, is.1)
 -- different records have different keys
 pub keys_differ : (rank id other q : ℕ) → id < RANK_STEP → q < RANK_STEP → index_key_of rank id ≡ index_key_of other q → (rank ≡ other) × (id ≡ q)
 keys_differ rank id other q lt below e = (omega (arith, lt, below, e), omega (arith, lt, below, e))
-
--- a map after a change at a key, there and elsewhere
-module _ {X : Type 0} (m : finite.FinMap nat_cmp X) (k : ℕ) where
-  pub removed_here : finite.get (finite.remove m k) k ≡ None
-  removed_here = grind (gets, rules)
-
-  pub removed_there : (q : ℕ) → q ≢ k → finite.get (finite.remove m k) q ≡ finite.get m q
-  removed_there q ne = grind (gets, rules)
-
-  pub inserted_here : (x : X) → finite.get (finite.insert m k x) k ≡ Some x
-  inserted_here x = grind (gets, rules)
-
-  pub inserted_there : (x : X) (q : ℕ) → q ≢ k → finite.get (finite.insert m k x) q ≡ finite.get m q
-  inserted_there x q ne = grind (gets, rules)
 
 -- a record that has no rank is not there
 pub no_record : (o : Option (ℕ × ℕ)) → rank_in o ≡ None → o ≡ None

@@ -11,10 +11,11 @@ use Rattle.record_text.specs.Records.{Records}
 use Rattle.record_text.specs.Laws.{data_at_rank}
 use Rattle.txn_alloc.specs.EntryMaps.{Entries}
 use Rattle.txn_tree_map.proofs.Held.Entries.{tied}
+use Rattle.txn_stores.proofs.Maps.{removed_here, removed_there, inserted_here, inserted_there}
 use Rattle.txn_records.specs.declared.layout.TheConstants.{RANK_STEP}
 use Rattle.txn_records.specs.Layout.{index_key_of}
 use Rattle.txn_records.specs.Standing.{Trees, HoldRecords, AreInRange, rank_in}
-use Rattle.txn_records.proofs.Held.{id_below, removed_here, removed_there, inserted_here, inserted_there, range_removed, data_here, dropped, dropped_held}
+use Rattle.txn_records.proofs.Held.{id_below, range_removed, data_here, dropped, dropped_held}
 
 -- a map has one entry more than without one that it has
 pub one_less : {X : Type 0} (m : finite.FinMap nat_cmp X) (k : ℕ) (x : X) → finite.get m k ≡ Some x → finite.len m ≡ finite.len (finite.remove m k) + 1

@@ -1,11 +1,7 @@
--- a block is in one of an arena's parts alone
-pub mod Apart
 -- two trees over one arena: a change of one leaves the other
 pub mod Two
 -- the two trees of a record store, each beside the other
 pub mod Sides
--- calls one after another on words that stand for a model, first looks and then changes
-pub mod Turning
 -- trees that hold records, and hold them after a change
 pub mod Held
 -- how many entries trees have that hold records

@@ -15,14 +15,15 @@ use Rattle.txn_words.specs.Access.{OfModel, TellsAndChanges}
 use Rattle.txn_alloc.specs.declared.put.Put.{Put}
 use Rattle.txn_alloc.specs.declared.put.Put.TheVariants.{New, Old, Full}
 use Rattle.txn_alloc.specs.EntryMaps.{Entries}
+use Rattle.txn_stores.proofs.Maps.{removed_here, removed_there, inserted_here, inserted_there}
+use Rattle.txn_stores.proofs.Turning.{Turns}
 use Rattle.txn_records.specs.declared.shape.RecordShape.{RecordShape}
 use Rattle.txn_records.specs.declared.layout.TheConstants.{RANK_STEP}
 use Rattle.txn_records.specs.Layout.{index_key_of}
 use Rattle.txn_records.specs.Standing.{Trees, HasTrees, HoldRecords, Stands, rank_in}
 use Rattle.txn_records.specs.Access.{is_used_up, put_answer, put_by, PutsRecord}
-use Rattle.txn_records.proofs.Turning.{Turns}
 use Rattle.txn_records.proofs.Held.{id_below, keys_differ, no_record, some_record, data_here, data_elsewhere}
-use Rattle.txn_records.proofs.Held.{removed_here, removed_there, inserted_here, inserted_there, range_inserted, put_held}
+use Rattle.txn_records.proofs.Held.{range_inserted, put_held}
 use Rattle.txn_records.proofs.Lengths.{lengths, one_less}
 use Rattle.txn_records.proofs.Sides.{trees_counted}
 

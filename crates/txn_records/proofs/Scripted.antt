@@ -22,6 +22,8 @@ use Rattle.txn_words.specs.declared.words.Words.{Ghosts as AnyWords}
 use Rattle.txn_words.specs.Access.{Tells, TellsAndChanges}
 use Rattle.txn_words.specs.Calls.{InEachState, LeadsTo}
 use Rattle.txn_words.proofs.CallLaws.{leads_from_start, leads_then}
+use Rattle.txn_stores.proofs.Maps.{remove_absent}
+use Rattle.txn_stores.proofs.Turning.{Leads, Turns, leads_less}
 use Rattle.txn_records.specs.declared.shape.RecordShape.{RecordShape}
 use Rattle.txn_records.specs.declared.operations.Outcome.{Outcome}
 use Rattle.txn_records.specs.declared.operations.Outcome.TheVariants as outcome
@@ -30,8 +32,6 @@ use Rattle.txn_records.specs.Access.{put_answer, PutsRecord}
 use Rattle.txn_records.specs.Operating.{step_of_outcome, Steps, IsLeft}
 use Rattle.txn_records.specs.Meaning.{is_done, ScriptMeans}
 use Rattle.txn_records.specs.Inner.Scripts.{IfDone, Runs}
-use Rattle.txn_records.proofs.Two.{remove_absent}
-use Rattle.txn_records.proofs.Turning.{Leads, Turns, leads_less}
 
 -- what the step of a put comes to, by what was answered
 put_new_step : (blocks id rank content : ℕ) (records : Records) (o : Option (ℕ × ℕ)) → finite.get records id ≡ o

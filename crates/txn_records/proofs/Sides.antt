@@ -8,14 +8,15 @@ use Rattle.txn_alloc.specs.EntryMaps.{Entries, HasMap, HasMapApart, Finds}
 use Rattle.txn_alloc.proofs.Maps.Parts.{held}
 use Rattle.txn_tree_map.specs.Trees.{tree_part}
 use Rattle.txn_tree_map.specs.Firsts.{FindsFirst, FindsFirstKey}
+use Rattle.txn_stores.proofs.Turning.{IsPut, IsCut}
+use Rattle.txn_alloc.proofs.Apart.{three_among}
 use Rattle.txn_records.specs.declared.shape.RecordShape.{RecordShape}
 use Rattle.txn_records.specs.declared.layout.Order.{Order}
 use Rattle.txn_records.specs.declared.layout.Order.TheVariants.{ById, ByRank}
 use Rattle.txn_records.specs.Layout.{arena_of, root_of, tree_of}
 use Rattle.txn_records.specs.Standing.{Trees, HasTrees, HasSomeTrees, entries_in}
 use Rattle.txn_records.specs.Access.{first_in, first_key_in, is_used_up, put_answer, put_by, with_entries}
-use Rattle.txn_records.proofs.Apart.{three_among}
-use Rattle.txn_records.proofs.Two.{HasTwo, IsPut, IsCut, apart, counted, put_two, cut_two}
+use Rattle.txn_records.proofs.Two.{HasTwo, apart, counted, put_two, cut_two}
 
 abbrev pub beside : Order → Order
 beside ById = ByRank

@@ -1,20 +1,16 @@
 -- Two trees over one arena: a change of one leaves the other.
 use Rattle.std.proofs.Common.{◌≡◌, ◌≢◌, ℕ, ◌+◌, ◌<◌, ◌⊎◌, inl, inr, true, false, ◌==◌, List, [], ◌∷◌, Option, Some, None}
 use Rattle.std.proofs.Common.{slice_get, refl, sym, ap, ◌∙◌, subst, arith, eq-eqb, ne_eqb}
-use mathlib.Core.Logic.{dite}
-use native.Mathlib.Decide.{ℕ_discrete}
-use Rattle.std.specs.Cmp.{nat_cmp_total}
 use Rattle.std.specs.List.{sum_by}
 use Rattle.std.specs.Ordering.{nat_cmp}
 use Rattle.std.specs.FinSet as set
 use Rattle.std.specs.FinMap as finite
-use Rattle.std.specs.FinMap.{nat_cmp-IsAntisymmetric}
 use Rattle.txn_words.specs.Frames.{KeepsOthers}
 use Rattle.txn_alloc.specs.declared.arena.Arena.{Arena}
 use Rattle.txn_alloc.specs.declared.put.Put.{Put}
 use Rattle.txn_alloc.specs.declared.put.Put.TheVariants.{New, Old, Full}
 use Rattle.txn_alloc.specs.FreeLists.{IsHead, IsInBlock, FreeListsHold}
-use Rattle.txn_alloc.specs.EntryMaps.{Entries, Blocks, Part, HoldsApart, IsOwn, InsertsNew, InsertsOld, Inserts, LacksRoom, Removes, RemovesOne}
+use Rattle.txn_alloc.specs.EntryMaps.{Entries, Blocks, HoldsApart, IsOwn, InsertsNew, InsertsOld, Inserts, LacksRoom, Removes, RemovesOne}
 use Rattle.txn_alloc.proofs.Maps.Counting.{times_of, lengths_sum, some_member}
 use Rattle.txn_alloc.proofs.Maps.Parts.{free_unused}
 use Rattle.txn_alloc.proofs.FreeLists.Lists.{free_below}
@@ -24,9 +20,9 @@ use Rattle.txn_tree_map.proofs.Maps.{tree_stands}
 use Rattle.txn_tree_map.proofs.Searches.Gets.{used_below}
 use Rattle.txn_tree_map.proofs.Inserts.InsertCalls.{is_one}
 use Rattle.txn_tree_map.proofs.Held.Numbers.{as_many_blocks}
+use Rattle.txn_stores.proofs.Maps.{remove_absent}
+use Rattle.txn_alloc.proofs.Apart.{three_among, out_other, out_above, not_own, other_out, moved_times}
 use Rattle.txn_records.specs.Access.{put_answer, put_by}
-use Rattle.txn_records.proofs.Held.{removed_here, removed_there}
-use Rattle.txn_records.proofs.Apart.{three_among, out_other, out_above, not_own, other_out, moved_times}
 
 -- a tree of the arena
 abbrev pub at_root : Arena → ℕ → TreeMap
@@ -41,24 +37,6 @@ pub record HasTwo (arena : Arena) (root other : ℕ) (words : List ℕ) (mine th
   pub other_tree : TreeHolds (at_root arena other) words theirs beside
   pub free_lists : FreeListsHold arena words free
   pub parted : (b : ℕ) → b < arena.blocks → times_of used b + times_of beside b + times_of free b ≡ 1
-
--- from state to state: what an insert did, why it found no room where it did not, and that other words stay
-pub record IsPut (part : Part) (key x : ℕ) (put : Put) (old new : List ℕ) : Type 0 where
-  pub inserts : Inserts part key x put old new
-  pub full : put ≡ Full → LacksRoom part key old
-  pub keeps : KeepsOthers (IsOwn part key old new) old new
-
--- and a removal
-pub record IsCut (part : Part) (key : ℕ) (answer : Option ℕ) (old new : List ℕ) : Type 0 where
-  pub removes : Removes part key answer old new
-  pub keeps : KeepsOthers (IsOwn part key old new) old new
-
--- a map from which an absent key is taken is the same
-pub remove_absent : {X : Type 0} (m : finite.FinMap nat_cmp X) (k : ℕ) → finite.get m k ≡ None → finite.remove m k ≡ m
-remove_absent m k none = finite.same_map nat_cmp_total nat_cmp-IsAntisymmetric (finite.remove m k) m
-    (λ q. dite (ℕ_discrete q k)
-    (λ e. subst (λ z. finite.get (finite.remove m k) z ≡ finite.get m z) (sym e) (removed_here m k ∙ sym none))
-    (λ ne. removed_there m k q ne))
 
 module _ (arena : Arena) (root other : ℕ) (old : List ℕ) (mine theirs : Entries) (two : HasTwo arena root other old mine theirs) where
   -- free blocks and those of both trees are all blocks

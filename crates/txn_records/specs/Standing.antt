@@ -1,6 +1,5 @@
 -- Which word lists stand for which records.
-use Rattle.std.specs.Prelude.{◌≡◌, ℕ, ◌<◌, ◌≤◌, List, [], ◌∷◌, Option, Some, None, count_by}
-use Rattle.std.specs.FinSet as set
+use Rattle.std.specs.Prelude.{◌≡◌, ℕ, ◌<◌, ◌≤◌, List, [], ◌∷◌, Option, Some, None}
 use Rattle.std.specs.FinMap as finite
 use Rattle.record_text.specs.declared.limits.TheConstants.{GREATEST_DATA}
 use Rattle.record_text.specs.Records.{Records}
@@ -9,15 +8,12 @@ use Rattle.record_text.specs.Laws.{data_at_rank}
 use Rattle.txn_alloc.specs.FreeLists.{FreeListsHold}
 use Rattle.txn_alloc.specs.EntryMaps.{Entries, Blocks}
 use Rattle.txn_tree_map.specs.Trees.{TreeHolds}
+use Rattle.txn_alloc.specs.Blocks.{times_among}
 use Rattle.txn_records.specs.declared.shape.RecordShape.{RecordShape}
 use Rattle.txn_records.specs.declared.layout.Order.{Order}
 use Rattle.txn_records.specs.declared.layout.Order.TheVariants as order
 use Rattle.txn_records.specs.declared.layout.TheConstants.{RANK_STEP}
 use Rattle.txn_records.specs.Layout.{arena_of, tree_of, index_key_of}
-
--- in how many of the sets block b is
-abbrev pub times_among : ℕ → List Blocks → ℕ
-times_among b sets = count_by (λ s. set.contains s b) sets
 
 -- what the two trees hold: ranks by identifier, and data by the keys of the index
 pub record Trees : Type 0 where

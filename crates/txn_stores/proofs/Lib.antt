@@ -1,7 +1,5 @@
 -- a finite map after a change at a key
 pub mod Maps
--- a block is in one of an arena's parts alone
-pub mod Apart
 -- calls one after another on words that stand for a model, first looks and then changes
 pub mod Turning
 -- the numbers of a range, each once

@@ -1,17 +1,9 @@
 -- What the laws of stores say.
-use Rattle.std.specs.Prelude.{◌≡◌, ℕ, true, false, List, [], ◌∷◌, length, map}
-use Rattle.std.specs.FinSet as set
-use Rattle.txn_alloc.specs.EntryMaps.{Blocks}
+use Rattle.std.specs.Prelude.{◌≡◌, List, length, map}
 use Rattle.txn_commit.specs.declared.lists.Ran.{Ran}
 use Rattle.txn_commit.specs.Lists.{jobs_of_first, AreOnceInOrder}
 use Rattle.script_reader.specs.Gathered.{CallerOf, count_scripts}
-use Rattle.txn_stores.specs.Blocks.{times_among}
 use Rattle.txn_stores.specs.Journals.{place_of_ran, script_count, IsJournalOf}
-
--- a block that goes from one set to another is in as many of the two as before, and so is every other
-abbrev pub MovedBlock : Type 0
-MovedBlock = (used free : Blocks) (c : ℕ) → set.contains used c ≡ false → set.contains free c ≡ true → (b : ℕ)
-    → times_among b (set.insert used c ∷ set.remove free c ∷ []) ≡ times_among b (used ∷ free ∷ [])
 
 -- jobs of which each caller's were run once and in their order are a journal of the callers' scripts
 abbrev pub JobsAreJournal : Type 0 → Type 0 → Type 0

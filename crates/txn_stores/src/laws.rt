@@ -1,11 +1,6 @@
 //! What follows for any store, each law the contract of a function that does nothing.
 
-ghost use Rattle.txn_stores.specs.Statements.{JobsAreJournal, JobsCounted, MovedBlock};
-
-/// A block that goes from one set to another is in as many of the two as before.
-pub fn moved_block()
-    ensures { MovedBlock }
-{}
+ghost use Rattle.txn_stores.specs.Statements.{JobsAreJournal, JobsCounted};
 
 /// Where each caller's jobs were run once and in their order, what was run is a journal of the callers' scripts: each
 /// stands there once, and those of a caller in rising index.

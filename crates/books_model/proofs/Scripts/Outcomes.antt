@@ -10,7 +10,8 @@ use Rattle.books_model.specs.Scripts.{operations_in}
 use Rattle.books_model.specs.declared.reply.Reply.{Reply}
 use Rattle.books_model.specs.declared.reply.Reply.TheVariants as reply
 use Rattle.books_model.specs.Books.{ClearingBooks}
-use Rattle.books_model.specs.Interpreter.{Step, Gives, Declines, FindsNoBlock, Run, Ends, Stops, step_of, run_from, run_part, run_parts, then_run, either_of, after_value, after_values, after_step, outcome_from}
+use Rattle.books_model.specs.Interpreter.{Step, Gives, Declines, FindsNoBlock, Run, Ends, Stops, step_of, run_from, run_part}
+use Rattle.books_model.specs.Interpreter.{run_parts, then_run, either_of, after_value, after_values, after_step, outcome_from}
 
 -- what holds of the value and the books of a step that is done
 pub WhereDone : (Value → ClearingBooks → Type 0) → Step → Type 0

@@ -1,5 +1,6 @@
 -- Margin calls are taken in the order in which they were queued.
-use Rattle.std.proofs.Common.{◌≡◌, ℕ, ◌+◌, cond, not, ◌&&◌, ◌==◌, nat_lt, List, [], ◌∷◌, ◌++◌, length, drop, suc, refl, sym, ap, ◌∙◌, arith, append-nil, append_assoc}
+use Rattle.std.proofs.Common.{◌≡◌, ℕ, ◌+◌, cond, not, ◌&&◌, ◌==◌, nat_lt, List, [], ◌∷◌, ◌++◌}
+use Rattle.std.proofs.Common.{length, drop, suc, refl, sym, ap, ◌∙◌, arith, append-nil, append_assoc}
 use Rattle.std.specs.List.{flat_map, zip}
 use Rattle.std.proofs.Math.Seq.{drop-append_seam}
 use Rattle.std.proofs.lemmas.Grind.{flat_map-append}
@@ -13,10 +14,12 @@ use Rattle.books_model.specs.declared.script.Part.{Part}
 use Rattle.books_model.specs.declared.script.Part.TheVariants as part
 use Rattle.books_model.specs.Scripts.{operations_in}
 use Rattle.books_model.specs.Books.{ClearingBooks, cash_of}
-use Rattle.books_model.specs.Interpreter.{holds_any, is_account, is_full, margin_of, next_of, shortfall_of, run_from, run_part, run_parts, step_of, Step, Gives, Declines, FindsNoBlock}
+use Rattle.books_model.specs.Interpreter.{holds_any, is_account, is_full, margin_of, next_of, shortfall_of}
+use Rattle.books_model.specs.Interpreter.{run_from, run_part, run_parts, step_of, Step, Gives, Declines, FindsNoBlock}
 use Rattle.books_model.specs.Laws.{queued_by, done_of, queued, taken_by}
 use Rattle.books_model.proofs.Scripts.CashLaws.{traded}
-use Rattle.books_model.proofs.Scripts.Outcomes.{WhereDone, WhereEnds, choice, gives, declines, finds_no_block, step_first, run_first, either_holds, weaker, both}
+use Rattle.books_model.proofs.Scripts.Outcomes.{WhereDone, WhereEnds, choice, gives, declines}
+use Rattle.books_model.proofs.Scripts.Outcomes.{finds_no_block, step_first, run_first, either_holds, weaker, both}
 
 -- what was queued and what an operation queues is what it takes and what is queued after it
 abbrev InOrder : Op → ClearingBooks → Value → ClearingBooks → Type 0

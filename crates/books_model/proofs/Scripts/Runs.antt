@@ -9,7 +9,8 @@ use Rattle.books_model.specs.declared.reply.Decline.{Decline}
 use Rattle.books_model.specs.declared.reply.Reply.{Reply}
 use Rattle.books_model.specs.declared.reply.Reply.TheVariants as reply
 use Rattle.books_model.specs.Books.{ClearingBooks}
-use Rattle.books_model.specs.Interpreter.{Step, Gives, Declines, FindsNoBlock, Run, Ends, Stops, step_of, run_from, run_part, run_parts, then_run, after_value, after_values, after_step}
+use Rattle.books_model.specs.Interpreter.{Step, Gives, Declines, FindsNoBlock, Run, Ends, Stops, step_of, run_from}
+use Rattle.books_model.specs.Interpreter.{run_part, run_parts, then_run, after_value, after_values, after_step}
 
 -- one more value in front
 pub after_values-push : (vs : List Value) (v : Value) (run : Run) → after_values (vs ++ v ∷ []) run ≡ after_values vs (after_value v run)

@@ -26,6 +26,7 @@ use Rattle.txn_alloc.proofs.Sets.{out_empty, contains-insert_other}
 use Rattle.txn_alloc.proofs.TwoBlocks.{only_one}
 use Rattle.txn_alloc.proofs.Maps.Cells.{value_none}
 use Rattle.txn_alloc.proofs.Maps.Counting.{times_of}
+use Rattle.txn_alloc.proofs.Apart.{three_among}
 use Rattle.history_model.proofs.ListPlaces.{zero_there}
 use Rattle.txn_tree_map.specs.Trees.{TreeHolds}
 use Rattle.txn_tree_map.specs.Trees.Tree.{Leaf, Node}
@@ -36,7 +37,6 @@ use Rattle.txn_books.specs.declared.shape.BooksShape.{BooksShape}
 use Rattle.txn_books.specs.Layout.{arena_of, tree_of, chains_of, queue_of, price_key_of, position_key_of, chained}
 use Rattle.txn_books.specs.Standing.{IsGoodFor}
 use Rattle.txn_books.proofs.OneState.Keyed.{find_none}
-use Rattle.txn_books.proofs.OneState.Apart.{three_among}
 use Rattle.txn_books.proofs.OneState.ChainedChanges.{put_here}
 use Rattle.txn_books.proofs.LaidOut.Emptied.{no_entries, all_once}
 

@@ -30,7 +30,7 @@ use Rattle.txn_books.specs.declared.shape.BooksShape.{BooksShape}
 use Rattle.txn_books.specs.Layout.{words_of, arena_of, tree_of, chains_of, queue_of, price_key_of, position_key_of, chained}
 use Rattle.txn_books.specs.Standing.{Stands}
 use Rattle.txn_alloc.specs.Laying.{IsAmong, IsWrittenByLaying}
-use Rattle.txn_books.proofs.OneState.Apart.{member_one, out_none, three_among}
+use Rattle.txn_alloc.proofs.Apart.{member_one, out_none, three_among}
 
 -- the numbers of all blocks
 abbrev pub all_blocks : BooksShape → List ℕ

@@ -11,13 +11,13 @@ use Rattle.books_model.proofs.InRange.{empty_books-in_range}
 use Rattle.txn_alloc.proofs.Maps.Counting.{times_of}
 use Rattle.txn_alloc.proofs.Sets.{out_empty}
 use Rattle.txn_alloc.proofs.TwoBlocks.{with_links, AreLinked, linked}
+use Rattle.txn_alloc.proofs.Apart.{member_one, out_none, three_among}
 use Rattle.txn_tree_map.proofs.Lists as trees
 use Rattle.txn_hash_map.proofs.Lists as chains
 use Rattle.txn_books.specs.declared.shape.BooksShape.{BooksShape}
 use Rattle.txn_books.specs.Layout.{chained}
 use Rattle.txn_books.specs.Standing.{HasParts, IsGoodFor}
 use Rattle.txn_books.proofs.LaidOut.Emptied.{none_chained}
-use Rattle.txn_books.proofs.OneState.Apart.{member_one, out_none, three_among}
 
 abbrev pub small : BooksShape
 small = record { blocks = 2; instruments = 1; ring = 1 }

@@ -30,9 +30,11 @@ use Rattle.txn_ring.proofs.Items.{queue_stands}
 use Rattle.txn_books.specs.declared.shape.BooksShape.{BooksShape}
 use Rattle.txn_books.specs.Inner.Building.{IsBuilt, AreFree}
 use Rattle.txn_books.specs.Layout.{shape_of, arena_of, tree_of, chains_of, queue_of, chained}
-use Rattle.txn_books.specs.Standing.{times_among, HasParts}
+use Rattle.txn_books.specs.Standing.{HasParts}
 use Rattle.txn_alloc.specs.Laying.{IsAmong, IsWrittenByLaying}
-use Rattle.txn_books.proofs.OneState.Apart.{member_one, bucket_apart, ring_apart, block_apart, root_apart}
+use Rattle.txn_alloc.specs.Blocks.{times_among}
+use Rattle.txn_alloc.proofs.Apart.{member_one}
+use Rattle.txn_books.proofs.OneState.Apart.{bucket_apart, ring_apart, block_apart, root_apart}
 use Rattle.txn_books.proofs.OneState.Changes.{at_once, tree_below, chain_below}
 
 -- the list goes on at a name: the blocks that were gone through, and then those, are all

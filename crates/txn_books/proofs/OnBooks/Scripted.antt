@@ -14,7 +14,8 @@ use Rattle.books_model.specs.declared.reply.Decline.{Decline}
 use Rattle.books_model.specs.declared.reply.Reply.{Reply}
 use Rattle.books_model.specs.declared.reply.Reply.TheVariants as reply
 use Rattle.books_model.specs.Books.{ClearingBooks}
-use Rattle.books_model.specs.Interpreter.{Run, Ends, Stops, Step, Gives, Declines, FindsNoBlock, either_of, step_of, after_step, after_values, run_from, run_part, run_parts, outcome_from, outcome_of}
+use Rattle.books_model.specs.Interpreter.{Run, Ends, Stops, Step, Gives, Declines, FindsNoBlock, either_of, step_of}
+use Rattle.books_model.specs.Interpreter.{after_step, after_values, run_from, run_part, run_parts, outcome_from, outcome_of}
 use Rattle.books_model.specs.Inner.Steps.{run_with}
 use Rattle.books_model.specs.Scripts.{operations_in}
 use Rattle.books_model.proofs.Scripts.Runs.{after_one, goes_on, is_declined, finds_no_block, ends, part_ends, part_stops, parts_end}

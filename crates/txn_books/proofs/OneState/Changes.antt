@@ -8,8 +8,10 @@ use Rattle.books_model.specs.Books.{ClearingBooks, position_cmp}
 use Rattle.txn_words.specs.Frames.{KeepsOthers}
 use Rattle.txn_alloc.specs.FreeLists.{IsHead, IsInBlock, FreeListsHold}
 use Rattle.txn_alloc.specs.EntryMaps.{Entries, Blocks, IsOwn}
+use Rattle.txn_alloc.specs.Blocks.{times_among}
 use Rattle.txn_alloc.proofs.Maps.Counting.{times_of}
 use Rattle.txn_alloc.proofs.FreeLists.Lists.{free_kept}
+use Rattle.txn_alloc.proofs.Apart.{other_out, two_among, three_among, not_own}
 use Rattle.txn_tree_map.specs.Trees.{TreeHolds, tree_part}
 use Rattle.txn_tree_map.proofs.Maps.{tree_stands}
 use Rattle.txn_tree_map.proofs.Searches.Gets.{used_below}
@@ -23,8 +25,8 @@ use Rattle.txn_ring.specs.Queues.{QueueHolds}
 use Rattle.txn_ring.specs.Queues as ring
 use Rattle.txn_ring.proofs.Items.{queue_stands}
 use Rattle.txn_books.specs.Layout.{shape_of, arena_of, tree_of, chains_of, queue_of, chained}
-use Rattle.txn_books.specs.Standing.{times_among, HasParts}
-use Rattle.txn_books.proofs.OneState.Apart.{other_out, two_among, three_among, bucket_apart, ring_apart, block_apart, head_apart, root_apart, not_own}
+use Rattle.txn_books.specs.Standing.{HasParts}
+use Rattle.txn_books.proofs.OneState.Apart.{bucket_apart, ring_apart, block_apart, head_apart, root_apart}
 
 -- the blocks of a part are the arena's
 pub tree_below : (words : List ℕ) (books : ClearingBooks) (in_hand : List ℕ) (parts : HasParts words books in_hand)

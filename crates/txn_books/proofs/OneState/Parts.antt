@@ -1,7 +1,5 @@
 -- What words that hold the parts of some books say of each map, and what an insert into the tree leaves.
-use Rattle.std.proofs.Common.{◌≡◌, ℕ, Bool, true, false, cond, List, [], ◌∷◌, refl, sym, ap, ◌∙◌, subst, arith}
-use mathlib.Core.Logic.{dite}
-use native.Mathlib.Decide.{ℕ_discrete}
+use Rattle.std.proofs.Common.{◌≡◌, ℕ, true, false, List, [], ◌∷◌, refl, sym, ◌∙◌, subst, arith}
 use Rattle.std.specs.Ordering.{nat_cmp}
 use Rattle.std.specs.FinSet as set
 use Rattle.std.specs.FinMap as entry_map
@@ -14,15 +12,14 @@ use Rattle.txn_words.proofs.FrameLaws.{only_keeps}
 use Rattle.txn_alloc.specs.declared.put.Put.{Put}
 use Rattle.txn_alloc.specs.declared.put.Put.TheVariants.{New, Old, Full}
 use Rattle.txn_alloc.specs.EntryMaps.{Blocks, HoldsApart, HasMapApart, IsOwn, InsertsNew, InsertsOld, Inserts, RemovesOne}
-use Rattle.txn_alloc.proofs.Maps.Counting.{times_of}
+use Rattle.txn_alloc.specs.Blocks.{times_among}
 use Rattle.txn_alloc.proofs.Maps.Parts.{free_unused}
-use Rattle.txn_alloc.proofs.Sets.{in_here, out_itself, contains-insert_other, contains-remove_other}
+use Rattle.txn_alloc.proofs.Apart.{moved_block, two_among, out_other}
 use Rattle.txn_tree_map.specs.Trees.{tree_part}
-use Rattle.txn_hash_map.specs.Chains.{ChainsHold, chain_part}
+use Rattle.txn_hash_map.specs.Chains.{chain_part}
 use Rattle.txn_books.specs.declared.shape.BooksShape.{BooksShape}
 use Rattle.txn_books.specs.Layout.{shape_of, words_of, tree_of, chains_of, chained}
-use Rattle.txn_books.specs.Standing.{times_among, HasParts, IsGoodFor}
-use Rattle.txn_books.proofs.OneState.Apart.{member_one, out_none, two_among, out_other}
+use Rattle.txn_books.specs.Standing.{HasParts, IsGoodFor}
 use Rattle.txn_books.proofs.OneState.Changes.{at_once, tree_below, chain_below, tree_change, chain_change}
 
 module _ (words : List ℕ) (books : ClearingBooks) (in_hand : List ℕ) (parts : HasParts words books in_hand) where
@@ -43,29 +40,11 @@ module _ (words : List ℕ) (books : ClearingBooks) (in_hand : List ℕ) (parts 
         out_other parts.chain_used parts.free b k (omega (arith, once));
   }
 
-abbrev times_by : Bool → ℕ
-times_by m = cond m 1 0
-
--- a block that goes from one set to another is in as many as before
-pub moved_among : (used free : Blocks) (c : ℕ) → set.contains used c ≡ false → set.contains free c ≡ true → (b : ℕ)
-    → times_among b (set.insert used c ∷ set.remove free c ∷ []) ≡ times_among b (used ∷ free ∷ [])
-moved_among used free c out member b = dite (ℕ_discrete b c)
-    (λ e. subst (λ z. times_among z (set.insert used c ∷ set.remove free c ∷ []) ≡ times_among z (used ∷ free ∷ [])) (sym e) (
-    let in_new : times_of (set.insert used c) c ≡ 1 = member_one (set.insert used c) c (in_here used c) in
-    let gone : times_of (set.remove free c) c ≡ 0 = out_none (set.remove free c) c (out_itself free c) in
-    let was_out : times_of used c ≡ 0 = out_none used c out in
-    let was_free : times_of free c ≡ 1 = member_one free c member in
-    omega (arith, in_new, gone, was_out, was_free, two_among c (set.insert used c) (set.remove free c), two_among c used free)))
-    (λ ne.
-    let here : times_of (set.insert used c) b ≡ times_of used b = ap (λ m. times_by m) (contains-insert_other used c b ne) in
-    let there : times_of (set.remove free c) b ≡ times_of free b = ap (λ m. times_by m) (contains-remove_other free c b ne) in
-    omega (arith, here, there, two_among b (set.insert used c) (set.remove free c), two_among b used free))
-
--- and one that goes back too
+-- a block that goes back is in as many sets as before
 pub back_among : (used free : Blocks) (c : ℕ) → set.contains used c ≡ true → set.contains free c ≡ false → (b : ℕ)
     → times_among b (set.remove used c ∷ set.insert free c ∷ []) ≡ times_among b (used ∷ free ∷ [])
 back_among used free c member out b =
-    let moved = moved_among free used c out member b in
+    let moved = moved_block free used c out member b in
     omega (
       arith,
       moved,
@@ -100,7 +79,7 @@ module _ (old new : List ℕ) (books : ClearingBooks) (in_hand : List ℕ) (part
       (tree_free old books in_hand parts) k.was_free in
       tree_change old new books in_hand parts (entry_map.insert books.accounts key x)
       (set.insert parts.tree_used k.block) (set.remove parts.free k.block) key k.left.map k.left.free_lists
-      (moved_among parts.tree_used parts.free k.block out k.was_free) kept
+      (moved_block parts.tree_used parts.free k.block out k.was_free) kept
 
   pub tree_old : (was : ℕ) → InsertsOld (tree_part (tree_of (shape_of books))) key x was new books.accounts
       parts.tree_used parts.free → KeepsOthers (IsOwn (tree_part (tree_of (shape_of books))) key old new) old new
@@ -145,7 +124,7 @@ module _ (old new : List ℕ) (books : ClearingBooks) (in_hand : List ℕ) (part
       let out = free_unused (chain_part (chains_of (shape_of books))) old (chained books) parts.chain_used parts.free
       k.block (chains_free old books in_hand parts) k.was_free in
       chain_change old new books in_hand parts (entry_map.insert (chained books) key x) (set.insert parts.chain_used k.block)
-      (set.remove parts.free k.block) key k.left.map (moved_among parts.chain_used parts.free k.block out k.was_free) kept
+      (set.remove parts.free k.block) key k.left.map (moved_block parts.chain_used parts.free k.block out k.was_free) kept
       positions prices e k.left.free_lists
 
   pub chain_old : (x was : ℕ) → InsertsOld (chain_part (chains_of (shape_of books))) key x was new (chained books) parts.chain_used parts.free

@@ -1,5 +1,5 @@
 -- Each account stands in the block where it stood, while the chains change.
-use Rattle.std.proofs.Common.{◌≡◌, ℕ, ◌+◌, true, List, [], ◌∷◌, slice_get, Option, Some, None, refl, sym, ap, ◌∙◌, subst, arith}
+use Rattle.std.proofs.Common.{◌≡◌, ℕ, true, List, [], ◌∷◌, Option, Some, None, refl, sym, ap, ◌∙◌, subst, arith}
 use Rattle.std.specs.FinSet as set
 use Rattle.std.specs.FinMap as entry_map
 use Rattle.books_model.specs.Books.{ClearingBooks}
@@ -8,15 +8,17 @@ use Rattle.txn_alloc.specs.declared.put.Put.{Put}
 use Rattle.txn_alloc.specs.declared.put.Put.TheVariants.{New, Old, Full}
 use Rattle.txn_alloc.specs.FreeLists.{block_at, IsInBlock}
 use Rattle.txn_alloc.specs.EntryMaps.{Entries, Blocks, IsOwn, Inserts, InsertsNew, InsertsOld, Removes, RemovesOne}
+use Rattle.txn_alloc.specs.Blocks.{times_among}
 use Rattle.txn_alloc.proofs.Maps.Parts.{free_unused}
+use Rattle.txn_alloc.proofs.Apart.{moved_block}
 use Rattle.txn_tree_map.specs.Stored.{HasKeyIn, KeepsBlocks}
 use Rattle.txn_tree_map.proofs.Maps.{one_map}
 use Rattle.txn_hash_map.specs.Chains.{ChainsHold, chain_part}
 use Rattle.txn_books.specs.declared.shape.BooksShape.{BooksShape}
 use Rattle.txn_books.specs.Layout.{shape_of, arena_of, tree_of, chains_of, chained}
-use Rattle.txn_books.specs.Standing.{times_among, HasParts, Stands}
+use Rattle.txn_books.specs.Standing.{HasParts, Stands}
 use Rattle.txn_books.proofs.OneState.Changes.{tree_block_stays, tree_stays}
-use Rattle.txn_books.proofs.OneState.Parts.{chains_free, moved_among, back_among}
+use Rattle.txn_books.proofs.OneState.Parts.{chains_free, back_among}
 
 module _ (old new : List ℕ) (books : ClearingBooks) (parts : HasParts old books []) (key : ℕ)
     (kept : KeepsOthers (IsOwn (chain_part (chains_of (shape_of books))) key old new) old new) where
@@ -39,7 +41,7 @@ module _ (old new : List ℕ) (books : ClearingBooks) (parts : HasParts old book
       let out = free_unused (chain_part (chains_of (shape_of books))) old (chained books) parts.chain_used parts.free
       k.block (chains_free old books [] parts) k.was_free in
       still (entry_map.insert (chained books) key x) (set.insert parts.chain_used k.block) (set.remove parts.free k.block) k.left.map
-      (moved_among parts.chain_used parts.free k.block out k.was_free)
+      (moved_block parts.chain_used parts.free k.block out k.was_free)
 
   still_old : (x was : ℕ) → InsertsOld (chain_part (chains_of (shape_of books))) key x was new (chained books) parts.chain_used parts.free
       → KeepsBlocks (tree_of (shape_of books)) old new

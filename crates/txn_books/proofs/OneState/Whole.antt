@@ -15,8 +15,10 @@ use Rattle.books_model.specs.Books.{ClearingBooks, used}
 use Rattle.books_model.specs.Ranges.{AreInRange}
 use Rattle.books_model.specs.Inner.Keys.{positions_total, exact_positions}
 use Rattle.txn_alloc.specs.EntryMaps.{Blocks}
+use Rattle.txn_alloc.specs.Blocks.{times_among}
 use Rattle.txn_alloc.proofs.Maps.Counting.{times_of, lengths_sum}
 use Rattle.txn_alloc.proofs.FreeLists.Lists.{free_below}
+use Rattle.txn_alloc.proofs.Apart.{out_none, three_among}
 use Rattle.txn_tree_map.specs.Trees.{TreeHolds}
 use Rattle.txn_tree_map.proofs.Maps as trees
 use Rattle.txn_tree_map.proofs.Held.Numbers as tree_numbers
@@ -27,8 +29,7 @@ use Rattle.txn_ring.specs.Queues.{QueueHolds}
 use Rattle.txn_ring.proofs.Items.{one_queue}
 use Rattle.txn_books.specs.declared.shape.BooksShape.{BooksShape}
 use Rattle.txn_books.specs.Layout.{shape_of, arena_of, tree_of, chains_of, queue_of, price_key_of, position_key_of, chained}
-use Rattle.txn_books.specs.Standing.{times_among, HasParts, Stands}
-use Rattle.txn_books.proofs.OneState.Apart.{out_none, three_among}
+use Rattle.txn_books.specs.Standing.{HasParts, Stands}
 use Rattle.txn_books.proofs.OneState.Chained.{price_in, position_in, get_price, get_position, len_chained}
 use Rattle.txn_books.proofs.OneState.Changes.{tree_below, chain_below}
 

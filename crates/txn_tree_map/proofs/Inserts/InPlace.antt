@@ -1,9 +1,9 @@
 -- Another value at a key whose block is known.
-use Rattle.std.proofs.Common.{◌≡◌, ◌≢◌, ℕ, ◌+◌, ◌^◌, ◌≤◌, true, false, List, [], ◌∷◌, ◌++◌, ◌⊎◌, slice_get, slice_set, Some, inl, inr, refl, sym, ap, ◌∙◌, subst, arith}
+use Rattle.std.proofs.Common.{◌≡◌, ℕ, ◌+◌, ◌^◌, ◌≤◌, true, false, List, [], ◌∷◌, ◌++◌, ◌⊎◌}
+use Rattle.std.proofs.Common.{slice_get, slice_set, Some, inl, inr, refl, sym, ap, ◌∙◌, subst, arith}
 use mathlib.Core.Logic.{dite}
 use native.Mathlib.Decide.{ℕ_discrete}
 use Rattle.std.proofs.lemmas.Option.{same_Some}
-use Rattle.std.specs.FinSet as set
 use Rattle.std.specs.FinMap as entry_map
 use Rattle.history_model.specs.declared.shape.Shape.{Ghosts as Shapes}
 use Rattle.history_model.specs.Traces.{after}
@@ -15,7 +15,7 @@ use Rattle.txn_words.specs.Calls.{InEachState, LeadsTo}
 use Rattle.txn_words.proofs.Steps.{after_write_end, fits_write_end}
 use Rattle.txn_words.proofs.Looks.{each_from}
 use Rattle.txn_alloc.specs.FreeLists.{block_at}
-use Rattle.txn_alloc.specs.EntryMaps.{Cell, Entries, Blocks, has_block, IsUsedIn, HoldsApart, HasMapApart}
+use Rattle.txn_alloc.specs.EntryMaps.{Cell, has_block, IsUsedIn, HasMapApart}
 use Rattle.txn_alloc.proofs.FreeLists.Traces.{laid_block}
 use Rattle.txn_alloc.proofs.Maps.Cells.{first_block, later_block}
 use Rattle.txn_tree_map.specs.declared.map.TreeMap.{TreeMap}

@@ -10,7 +10,7 @@ use Rattle.history_model.proofs.Traces.FittingLaws.{fits_begins}
 use Rattle.txn_words.specs.Frames.{KeepsOthers, AppendsOnly, AppendsReads}
 use Rattle.txn_words.proofs.FrameLaws.{only_more, only_then}
 use Rattle.txn_words.proofs.ReadLaws.{sees_more, sees_then}
-use Rattle.txn_alloc.specs.FreeLists.{block_at, IsInBlock, IsHeadOrFirst, Lacks, Gives}
+use Rattle.txn_alloc.specs.FreeLists.{block_at, IsHeadOrFirst, Lacks, Gives}
 use Rattle.txn_alloc.proofs.FreeLists.Wider.{IsAnyHeadOrIn}
 use Rattle.txn_alloc.proofs.Maps.Parts.{moved_out}
 use Rattle.txn_alloc.proofs.Maps.Founds.{given_own, given_seen}

@@ -1,4 +1,4 @@
-use Rattle.std.proofs.Common.{◌+◌, ◌∷◌, length, All, List, [], sym, ap, subst, ◌∙◌, length-append, arith}
+use Rattle.std.proofs.Common.{◌∷◌, length, All, List, [], ap, subst, length-append, arith}
 use Rattle.std.specs.Slice.Iter.{iter_rest}
 use Rattle.std.proofs.lemmas.List.Elements.{All-drop, All-take}
 use Rattle.std.proofs.lemmas.List.Sums.{sum_by-append}

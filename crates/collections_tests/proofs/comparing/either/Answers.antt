@@ -1,4 +1,4 @@
-use Rattle.std.proofs.Common.{◌+◌, ◌∷◌, ◌++◌, length, List, [], ap, ◌∙◌, length-append, arith}
+use Rattle.std.proofs.Common.{◌+◌, ◌∷◌, ◌++◌, List, [], ap, ◌∙◌, length-append, arith}
 use Rattle.std.proofs.lemmas.List.Elements.{All-nil}
 use Rattle.books_model.specs.Books.{empty_books}
 use Rattle.books_model.specs.Ranges.{IsOperationFor, IsScriptFor}

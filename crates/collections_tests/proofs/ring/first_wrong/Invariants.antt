@@ -1,4 +1,3 @@
-use Rattle.std.proofs.Common.{◌≡◌}
 use Rattle.txn_words.specs.Calls.{IsReady, InEachState}
 use Rattle.txn_ring.specs.Queues.{IsInOrder}
 use Rattle.collections_tests.proofs.ring.first_wrong.Given as goal

@@ -1,4 +1,4 @@
-use Rattle.std.proofs.Common.{◌≡◌, ℕ, refl, sym, subst, ◌∙◌, arith}
+use Rattle.std.proofs.Common.{◌≡◌, subst, ◌∙◌, arith}
 use Rattle.order_text.specs.Ranges.{IsBookOf}
 use Rattle.order_match.proofs.Lookups.{IsListed, lists_all, next_listed, none_listed}
 use Rattle.txn_stores.proofs.Turning.{unlooked, look_then, looked_less, looked_stands, tells}

@@ -1,8 +1,6 @@
-use Rattle.std.proofs.Common.{◌≡◌, map, ap, ◌∙◌}
+use Rattle.std.proofs.Common.{ap, ◌∙◌}
 use Rattle.std.proofs.lemmas.Result.{IfOk-weaker}
 use Rattle.order_text.specs.Lines.{lent}
-use Rattle.order_match.specs.declared.done.OrderDone.{OrderDone}
-use Rattle.order_match.specs.Inner.Printing.{line_of_done}
 use Rattle.order_match.proofs.Days.{closing_by_number, closing_told, places_fit, run_told, text_told}
 use Rattle.order_match.proofs.run.text_of.Goals as goal
 

@@ -1,4 +1,5 @@
-use Rattle.std.proofs.Common.{◌≡◌, false, ℕ, ◌+◌, List, length, slice_get, get_or, slice_index, slice_set, take, Some, refl, sym, ap, ◌∙◌, subst, arith, length-set, ◌==◌, Vec, Global}
+use Rattle.std.proofs.Common.{◌≡◌, false, ℕ, ◌+◌, List, length, slice_get, get_or, slice_index, slice_set}
+use Rattle.std.proofs.Common.{take, Some, refl, sym, ap, ◌∙◌, subst, arith, length-set, ◌==◌, Vec, Global}
 use mathlib.Core.Logic.{dite}
 use native.Mathlib.Decide.{ℕ_discrete}
 use Rattle.std.proofs.lemmas.List.{take_all}

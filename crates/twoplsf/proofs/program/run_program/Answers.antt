@@ -1,4 +1,5 @@
 use Rattle.script_reader.specs.Grammar.{BeginWithInput, IsValidInput}
+use Rattle.twoplsf.specs.Orders.{IsOrdersText}
 use Rattle.twoplsf.specs.Records.{IsRecordsText}
 use Rattle.twoplsf.specs.declared.status.Status.TheVariants as status
 use Rattle.twoplsf.proofs.Endings.{one_status, one_of_two, ends_in_two, ends_in_three, where_ok}
@@ -19,6 +20,17 @@ returns-in-Ok-clause-complete_records g c =
     let complete = rw c.deref.ensures.value at c.serve.ensures.complete_records in
     where_ok _ c.in-Ok.is (λ records. ends_in_two IsRecordsText _ _ c.code.result c.serve.result.status status.Done
     status.OutOfMemory _ c.code.ensures (complete records))
+
+pub returns-in-Ok-clause-headline_orders : goal.returns-in-Ok-clause-headline_orders
+returns-in-Ok-clause-headline_orders g c =
+    let headline = rw c.deref.ensures.value at c.serve.ensures.headline_orders in
+    where_ok _ c.in-Ok.is (λ orders done. headline orders (one_status c.code.result c.serve.result.status status.Done c.code.ensures done))
+
+pub returns-in-Ok-clause-complete_orders : goal.returns-in-Ok-clause-complete_orders
+returns-in-Ok-clause-complete_orders g c =
+    let complete = rw c.deref.ensures.value at c.serve.ensures.complete_orders in
+    where_ok _ c.in-Ok.is (λ orders. ends_in_two IsOrdersText _ _ c.code.result c.serve.result.status status.Done
+    status.OutOfMemory _ c.code.ensures (complete orders))
 
 pub returns-in-Ok-clause-served : goal.returns-in-Ok-clause-served
 returns-in-Ok-clause-served g c = where_ok _ c.in-Ok.is (record {

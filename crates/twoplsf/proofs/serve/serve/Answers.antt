@@ -3,7 +3,9 @@ use Rattle.std.specs.String.{string_bytes}
 use Rattle.io_ends.specs.Counts.{Rose}
 use Rattle.twoplsf.proofs.Served.{read_not_made}
 use Rattle.twoplsf.proofs.FromText.{HasEnded, headline, made, bad_words, too_large, too_many, first_fault, first_fault_in_front, bad_input, no_input, differs}
-use Rattle.twoplsf.proofs.FromText.{first_wrong, no_output, complete, complete_check, complete_making, complete_records, first_record_fault, headline_records, only_check}
+use Rattle.twoplsf.proofs.FromText.{first_wrong, no_output, complete, complete_check, complete_making}
+use Rattle.twoplsf.proofs.FromText.{complete_records, first_record_fault, headline_records, only_check}
+use Rattle.twoplsf.proofs.FromText.{complete_orders, first_order_fault, headline_orders}
 use Rattle.twoplsf.proofs.serve.serve.Given.{Over}
 use Rattle.twoplsf.proofs.serve.serve.Goals as goal
 
@@ -30,6 +32,9 @@ returns g c = record {
   headline_records = headline_records (ended g c);
   records = c.serve_words.ensures.records;
   has_records = c.serve_words.ensures.has_records;
+  headline_orders = headline_orders (ended g c);
+  orders = c.serve_words.ensures.orders;
+  has_orders = c.serve_words.ensures.has_orders;
   cells = c.serve_words.ensures.cells;
   has_cells = c.serve_words.ensures.has_cells;
   unread = λ making. c.serve_words.ensures.unread (λ reading. read_not_made (map string_bytes c.args.words.now) reading making);
@@ -46,6 +51,7 @@ returns g c = record {
   first_fault = first_fault (ended g c);
   first_fault_in_front = first_fault_in_front (ended g c);
   first_record_fault = first_record_fault (ended g c);
+  first_order_fault = first_order_fault (ended g c);
   bad_input = bad_input (ended g c);
   no_input = no_input (ended g c);
   only_check = only_check (ended g c);
@@ -55,6 +61,7 @@ returns g c = record {
   complete = complete (ended g c);
   complete_check = complete_check (ended g c);
   complete_records = complete_records (ended g c);
+  complete_orders = complete_orders (ended g c);
   complete_making = complete_making (ended g c);
   read_fault = λ is. (c.serve_words.ensures.read_fault is).1;
   write_fault = c.serve_words.ensures.write_fault;

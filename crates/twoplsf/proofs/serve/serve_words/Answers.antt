@@ -1,4 +1,4 @@
-use Rattle.std.proofs.Common.{map, rules, ◌≡◌, ◌+◌, inl, inr, IfSome, IsSome, refl, subst, arith}
+use Rattle.std.proofs.Common.{map, rules, ◌≡◌, ◌≢◌, ◌+◌, inl, inr, Option, None, IfSome, refl, arith}
 use Rattle.std.proofs.lemmas.Option.{IfSome_then}
 use Rattle.std.specs.String.{string_bytes}
 use Rattle.io_ends.specs.Taken.{count_taken}
@@ -11,9 +11,11 @@ use Rattle.twoplsf.specs.Cells.{IsCellsRunFor}
 use Rattle.twoplsf.specs.Command.{IsValidCommand}
 use Rattle.twoplsf.specs.Making.{IsMakingRun}
 use Rattle.script_reader.specs.declared.limits.TheConstants.{MOST_INPUT_BYTES}
+use Rattle.twoplsf.specs.declared.answer.Answer.{Answer}
 use Rattle.twoplsf.specs.declared.status.Status.TheVariants as status
-use Rattle.twoplsf.specs.Answer.{day_of, records_of, refused_words, refused_size}
-use Rattle.twoplsf.proofs.Served.{none_there, not_made, read_by, read_is, took_text, HasAnswered, HasPrinted, printed_text, printed_day, printed_has_day, printed_records, printed_has_records}
+use Rattle.twoplsf.specs.Answer.{day_of, refused_words, refused_size}
+use Rattle.twoplsf.proofs.Served.{none_there, not_made, read_by, read_is, took_text, HasAnswered, HasPrinted, printed_text, printed_day, printed_has_day}
+use Rattle.twoplsf.proofs.Served.{printed_records, printed_has_records, printed_orders, printed_has_orders}
 use Rattle.twoplsf.proofs.Makings.{made_by, made_is, not_read, runs_of, adds_of, day_of_making, run_of_making, took_making}
 use Rattle.twoplsf.proofs.Makings.{done_written, none_of_making, no_other_end, told_done}
 use Rattle.twoplsf.proofs.serve.serve_words.Given.{Over}
@@ -117,6 +119,13 @@ returns-in-Err-OutOfMemory-clause-unread g c none = absurd (none (read_is (map s
 pub returns-in-Err-OutOfMemory-clause-words_first : goal.returns-in-Err-OutOfMemory-clause-words_first
 returns-in-Err-OutOfMemory-clause-words_first g c none = absurd (none (inl (read_is (map string_bytes c.args.words.now) c.in-Read.is c.in-Some.ensures.some)))
 
+-- where there was no memory for the answer
+pub returns-clause-unread : goal.returns-clause-unread
+returns-clause-unread g c none = absurd (none (read_is (map string_bytes c.args.words.now) c.in-Read.is c.in-Some.ensures.some))
+
+pub returns-clause-words_first : goal.returns-clause-words_first
+returns-clause-words_first g c none = absurd (none (inl (read_is (map string_bytes c.args.words.now) c.in-Read.is c.in-Some.ensures.some)))
+
 -- the answer to the bytes that were read
 answered : (g : Over) (c : goal.After-drop-bytes g)
     → HasAnswered (map string_bytes c.args.words.now) c.in-Read.reading (g.S.Source.left c.args.source.now)
@@ -129,34 +138,39 @@ answered g c = record {
   answers = rw c.deref.ensures.value at c.in-Ok-answer_by.ensures;
 }
 
--- it was printed or not
-printed : (g : Over) (c : goal.After-drop-bytes g)
-    → HasPrinted day_of c.in-Ok-answer_by.answer c.print_answer.result.status c.print_answer.result.day
+-- it was printed or not, and what is kept of it is what it tells
+printed : (g : Over) (c : goal.After-drop-bytes g) {T : Type 0} {tells : Answer → Option T} {kept : Option T}
+    → (c.print_answer.result.status ≡ status.Done → kept ≡ tells c.in-Ok-answer_by.answer)
+    → (c.print_answer.result.status ≢ status.Done → kept ≡ None)
+    → HasPrinted tells c.in-Ok-answer_by.answer c.print_answer.result.status kept
     (g.K.Sink.taken c.args.sink.now) (g.K.Sink.taken c.print_answer.new.sink)
     (Rose (g.K.Sink.faults c.args.sink.now) (g.K.Sink.faults c.print_answer.new.sink))
-printed g c = record { wrote = c.print_answer.ensures.text; done = c.print_answer.ensures.done; other = c.print_answer.ensures.other }
+printed g c done other = record { wrote = c.print_answer.ensures.text; done = done; other = other }
 
 pub returns-in-Ok-answer_by-clause-text : goal.returns-in-Ok-answer_by-clause-text
-returns-in-Ok-answer_by-clause-text g c = printed_text _ _ _ _ _ _ _ _ _ _ _ (answered g c) (printed g c)
+returns-in-Ok-answer_by-clause-text g c = printed_text (answered g c) (printed g c {tells = day_of} c.print_answer.ensures.done c.print_answer.ensures.other)
 
 pub returns-in-Ok-answer_by-clause-day : goal.returns-in-Ok-answer_by-clause-day
-returns-in-Ok-answer_by-clause-day g c run = printed_day _ _ _ _ _ _ _ _ _ _ _ (answered g c) (printed g c)
+returns-in-Ok-answer_by-clause-day g c run = printed_day (answered g c) (printed g c c.print_answer.ensures.done c.print_answer.ensures.other)
 
 pub returns-in-Ok-answer_by-clause-has_day : goal.returns-in-Ok-answer_by-clause-has_day
-returns-in-Ok-answer_by-clause-has_day g c = printed_has_day _ _ _ _ _ _ _ _ _ _ _ (answered g c) (printed g c)
-
-printed_store : (g : Over) (c : goal.After-drop-bytes g)
-    → HasPrinted records_of c.in-Ok-answer_by.answer c.print_answer.result.status c.print_answer.result.records
-    (g.K.Sink.taken c.args.sink.now) (g.K.Sink.taken c.print_answer.new.sink)
-    (Rose (g.K.Sink.faults c.args.sink.now) (g.K.Sink.faults c.print_answer.new.sink))
-printed_store g c =
-    record { wrote = c.print_answer.ensures.text; done = c.print_answer.ensures.done_records; other = c.print_answer.ensures.other_records }
+returns-in-Ok-answer_by-clause-has_day g c = printed_has_day (answered g c) (printed g c c.print_answer.ensures.done c.print_answer.ensures.other)
 
 pub returns-in-Ok-answer_by-clause-records : goal.returns-in-Ok-answer_by-clause-records
-returns-in-Ok-answer_by-clause-records g c = printed_records _ _ _ _ _ _ _ _ _ _ _ (answered g c) (printed_store g c)
+returns-in-Ok-answer_by-clause-records g c =
+    printed_records (answered g c) (printed g c c.print_answer.ensures.done_records c.print_answer.ensures.other_records)
 
 pub returns-in-Ok-answer_by-clause-has_records : goal.returns-in-Ok-answer_by-clause-has_records
-returns-in-Ok-answer_by-clause-has_records g c = printed_has_records _ _ _ _ _ _ _ _ _ _ _ (answered g c) (printed_store g c)
+returns-in-Ok-answer_by-clause-has_records g c =
+    printed_has_records (answered g c) (printed g c c.print_answer.ensures.done_records c.print_answer.ensures.other_records)
+
+pub returns-in-Ok-answer_by-clause-orders : goal.returns-in-Ok-answer_by-clause-orders
+returns-in-Ok-answer_by-clause-orders g c =
+    printed_orders (answered g c) (printed g c c.print_answer.ensures.done_orders c.print_answer.ensures.other_orders)
+
+pub returns-in-Ok-answer_by-clause-has_orders : goal.returns-in-Ok-answer_by-clause-has_orders
+returns-in-Ok-answer_by-clause-has_orders g c =
+    printed_has_orders (answered g c) (printed g c c.print_answer.ensures.done_orders c.print_answer.ensures.other_orders)
 
 pub returns-in-Ok-answer_by-clause-unread : goal.returns-in-Ok-answer_by-clause-unread
 returns-in-Ok-answer_by-clause-unread g c none = absurd (none (read_is (map string_bytes c.args.words.now) c.in-Read.is c.in-Some.ensures.some))
@@ -174,8 +188,15 @@ returns-in-Ok-answer_by-clause-has_cells g c = (
   λ both. absurd (not_made (map string_bytes c.args.words.now) c.in-Read.is c.in-Some.ensures.some (inr (inr both.0))),
 )
 
+-- a command that reads nothing tells of no day of a store
 pub returns-in-Make-clause-has_records : goal.returns-in-Make-clause-has_records
 returns-in-Make-clause-has_records g c = (
   λ some. absurd (none_there c.serve_making.result.records c.serve_making.ensures.records some),
-  λ both. absurd (not_read (map string_bytes c.args.words.now) c.in-Make.is c.in-Some.ensures.some (inr (inr both.0))),
+  λ both. absurd (not_read (map string_bytes c.args.words.now) c.in-Make.is c.in-Some.ensures.some (inr (inr (inl both.0)))),
+)
+
+pub returns-in-Make-clause-has_orders : goal.returns-in-Make-clause-has_orders
+returns-in-Make-clause-has_orders g c = (
+  λ some. absurd (none_there c.serve_making.result.orders c.serve_making.ensures.orders some),
+  λ both. absurd (not_read (map string_bytes c.args.words.now) c.in-Make.is c.in-Some.ensures.some (inr (inr (inr both.0)))),
 )

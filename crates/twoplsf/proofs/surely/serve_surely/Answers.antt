@@ -1,10 +1,11 @@
-use Rattle.std.proofs.Common.{◌≡◌, ◌≤◌, ◌⊎◌, ◌∙◌, ℕ, List, length, map, None, sym, ap, subst, inl, inr, arith}
+use Rattle.std.proofs.Common.{◌≡◌, ◌≤◌, ◌⊎◌, ◌∙◌, ℕ, List, length, map, Option, None, Some, IfSome, sym, ap, subst, inl, inr, arith}
 use Rattle.std.proofs.lemmas.Option.{IfSome_then}
 use Rattle.std.specs.String.{string_bytes}
 use Rattle.io_ends.specs.Counts.{Rose}
 use Rattle.script_reader.specs.Grammar.{IsValidInput}
 use Rattle.script_reader.specs.declared.limits.TheConstants.{MOST_INPUT_BYTES}
-use Rattle.twoplsf.specs.Answer.{HaveInputFor, IsDayFor}
+use Rattle.twoplsf.specs.Answer.{HaveInputFor, IsDayFor, OfBytesRead}
+use Rattle.twoplsf.specs.Orders.{IsOrdersDayFor, IsOrdersText}
 use Rattle.twoplsf.specs.Records.{IsRecordsDayFor, IsRecordsText}
 use Rattle.twoplsf.proofs.surely.serve_surely.Goals as goal
 
@@ -20,10 +21,31 @@ first_or_last (inr (inl h)) b c = absurd (b h)
 first_or_last (inr (inr (inl h))) b c = absurd (c h)
 first_or_last (inr (inr (inr d))) b c = inr d
 
+-- what holds on the bytes that were left does so on those that were given
+on_given : (given left : List ℕ) (IsText : List ℕ → Type 0) (A : Type 0) → given ≡ left
+    → (length left ≤ MOST_INPUT_BYTES → IsText left → ¬ Rose 0 0 → ¬ Rose 0 0 → A) → length given ≤ MOST_INPUT_BYTES → IsText given → A
+on_given given left IsText A same holds within text =
+    holds (subst (λ (l : List ℕ). length l ≤ MOST_INPUT_BYTES) same within) (subst IsText same text) never never
+
+-- and what is told of those that were read
+told_of_given : {T : Type 0} (told : Option T) (given left : List ℕ) (P : List ℕ → T → Type 0) → given ≡ left
+    → IfSome told (λ day. OfBytesRead (Some left) (λ bytes. P bytes day)) → IfSome told (P given)
+told_of_given told given left P same holds =
+    IfSome_then told holds (λ day read. subst (λ (bytes : List ℕ). P bytes day) (sym (same ∙ read.told)) read.holds)
+
 pub returns-clause-run : goal.returns-clause-run
-returns-clause-run g c run within valid =
-    let given : c.args.bytes.items ≡ c.new-source.result.left = sym (ap (λ s. s.left) c.new-source.ensures) in
-    c.serve.ensures.complete run (subst (λ (l : List ℕ). length l ≤ MOST_INPUT_BYTES) given within) (subst IsValidInput given valid) never never
+returns-clause-run g c run = on_given c.args.bytes.items c.new-source.result.left IsValidInput _ (sym (ap (λ s. s.left) c.new-source.ensures))
+    (c.serve.ensures.complete run)
+
+pub returns-clause-run_records : goal.returns-clause-run_records
+returns-clause-run_records g c records =
+    on_given c.args.bytes.items c.new-source.result.left IsRecordsText _ (sym (ap (λ s. s.left) c.new-source.ensures))
+    (c.serve.ensures.complete_records records)
+
+pub returns-clause-run_orders : goal.returns-clause-run_orders
+returns-clause-run_orders g c orders =
+    on_given c.args.bytes.items c.new-source.result.left IsOrdersText _ (sym (ap (λ s. s.left) c.new-source.ensures))
+    (c.serve.ensures.complete_orders orders)
 
 pub returns-clause-bad_input : goal.returns-clause-bad_input
 returns-clause-bad_input g c reading within none =
@@ -35,17 +57,18 @@ returns-clause-bad_input g c reading within none =
 
 pub returns-clause-day : goal.returns-clause-day
 returns-clause-day g c run =
-    let given : c.args.bytes.items ≡ c.new-source.result.left = sym (ap (λ s. s.left) c.new-source.ensures) in
-    IfSome_then c.serve.result.day (c.serve.ensures.day run)
-    (λ day read. subst (λ (bytes : List ℕ). IsDayFor (map string_bytes c.args.words.now) bytes None None day) (sym (given ∙ read.told)) read.holds)
-
-pub returns-clause-run_records : goal.returns-clause-run_records
-returns-clause-run_records g c records within spelled =
-    let given : c.args.bytes.items ≡ c.new-source.result.left = sym (ap (λ s. s.left) c.new-source.ensures) in
-    c.serve.ensures.complete_records records (subst (λ (l : List ℕ). length l ≤ MOST_INPUT_BYTES) given within) (subst IsRecordsText given spelled) never never
+    told_of_given c.serve.result.day c.args.bytes.items c.new-source.result.left
+    (λ bytes day. IsDayFor (map string_bytes c.args.words.now) bytes None None day) (sym (ap (λ s. s.left) c.new-source.ensures))
+    (c.serve.ensures.day run)
 
 pub returns-clause-records : goal.returns-clause-records
 returns-clause-records g c =
-    let given : c.args.bytes.items ≡ c.new-source.result.left = sym (ap (λ s. s.left) c.new-source.ensures) in
-    IfSome_then c.serve.result.records c.serve.ensures.records
-    (λ day read. subst (λ (bytes : List ℕ). IsRecordsDayFor (map string_bytes c.args.words.now) bytes None None day) (sym (given ∙ read.told)) read.holds)
+    told_of_given c.serve.result.records c.args.bytes.items c.new-source.result.left
+    (λ bytes day. IsRecordsDayFor (map string_bytes c.args.words.now) bytes None None day) (sym (ap (λ s. s.left) c.new-source.ensures))
+    c.serve.ensures.records
+
+pub returns-clause-orders : goal.returns-clause-orders
+returns-clause-orders g c =
+    told_of_given c.serve.result.orders c.args.bytes.items c.new-source.result.left
+    (λ bytes day. IsOrdersDayFor (map string_bytes c.args.words.now) bytes None None day) (sym (ap (λ s. s.left) c.new-source.ensures))
+    c.serve.ensures.orders

@@ -9,7 +9,7 @@ use Rattle.txn_alloc.specs.Laying.{of_list, HasRisingList}
 use Rattle.txn_books.specs.Inner.Building.{IsBuilt, AreFree}
 use Rattle.txn_books.proofs.LaidOut.Relaid.{free_held, sorted_once, sorted_below, relaid_built}
 use Rattle.txn_books.proofs.building.sort_free.Goals as goal
-use Rattle.txn_books.proofs.building.sort_free.Goals.{In_ok-order, In_ok-sort, After-lay_free}
+use Rattle.txn_books.proofs.building.sort_free.Goals.{In_ok-order, After-lay_free}
 
 pub free_blocks-requires : goal.free_blocks-requires
 free_blocks-requires c = rw (c.deref.ensures.value, c.arena-arena.ensures) (

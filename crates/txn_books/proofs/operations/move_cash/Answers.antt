@@ -1,14 +1,12 @@
-use Rattle.std.proofs.Common.{◌+◌, IsSome, refl, sym, ap, subst, ◌∙◌, arith, rules}
-use Rattle.std.specs.FinMap as map
+use Rattle.std.proofs.Common.{◌+◌, sym, ap, ◌∙◌, arith, rules}
 use Rattle.std.proofs.lemmas.Result.{IfOk-from_err}
 use Rattle.txn_words.specs.Calls.{GoesOn}
 use Rattle.txn_words.proofs.CallLaws.{goes_then, goes_as}
 use Rattle.books_model.specs.Books.{put_cash}
-use Rattle.books_model.proofs.Drafts.{put_cash-apart}
 use Rattle.books_model.specs.declared.reply.Value.TheVariants as value
 use Rattle.books_model.specs.Interpreter.{Gives}
 use Rattle.txn_books.proofs.OnBooks.Accounts.{held_kept, held_told}
-use Rattle.txn_books.proofs.OnBooks.Turning.{unlooked, looked, look_then, answers, look_turn, turn_then, of_change, comes, each_looked, each_turned}
+use Rattle.txn_books.proofs.OnBooks.Turning.{unlooked, looked, look_then, answers, look_turn, turn_then, of_change, comes}
 use Rattle.txn_books.proofs.OnBooks.Operating.{move_same, move_payer_absent, move_payee_absent, move_cash, move_limit, move_done}
 use Rattle.txn_books.proofs.operations.move_cash.Goals as goal
 

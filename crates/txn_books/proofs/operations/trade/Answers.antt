@@ -1,4 +1,4 @@
-use Rattle.std.proofs.Common.{inl, inr, refl, ap, ◌∙◌, arith, rules}
+use Rattle.std.proofs.Common.{inl, inr, ap, ◌∙◌, arith, rules}
 use Rattle.std.specs.FinMap as map
 use Rattle.std.proofs.lemmas.Result.{IfOk-from_err}
 use Rattle.txn_words.specs.Calls.{GoesOn}

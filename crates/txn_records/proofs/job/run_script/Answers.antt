@@ -4,8 +4,8 @@ use Rattle.std.proofs.lemmas.List.{nil_from_length}
 use Rattle.std.proofs.lemmas.List.Elements.{All-drop}
 use Rattle.record_text.specs.declared.script.RecordOp.{RecordOp}
 use Rattle.record_text.specs.Ranges.{IsRecordOp}
+use Rattle.txn_stores.proofs.Turning.{Leads, Turns, turned_stands}
 use Rattle.txn_records.specs.Standing.{Stands}
-use Rattle.txn_records.proofs.Turning.{Leads, Turns, turned_stands}
 use Rattle.txn_records.proofs.Scripted.{SoFar, run_begins, run_ends, run_gives, run_declined, run_full}
 use Rattle.txn_records.proofs.job.run_script.Goals as goal
 use Rattle.txn_records.proofs.job.run_script.Goals.{In-Some}

@@ -1,8 +1,8 @@
 use Rattle.std.proofs.Common.{◌≡◌, ◌+◌, length, All, None}
 use Rattle.std.specs.Slice.Iter.{iter_rest}
 use Rattle.record_text.specs.Ranges.{IsRecordOp}
+use Rattle.txn_stores.proofs.Turning.{Leads, Turns}
 use Rattle.txn_records.specs.Standing.{Stands}
-use Rattle.txn_records.proofs.Turning.{Leads, Turns}
 use Rattle.txn_records.proofs.Scripted.{SoFar}
 use Rattle.txn_records.proofs.job.run_script.Given as goal
 

@@ -6,9 +6,10 @@ use Rattle.std.specs.FinMap as finite
 use Rattle.txn_words.specs.Frames.{KeepsOthers}
 use Rattle.txn_alloc.specs.FreeLists.{FreeListsHold}
 use Rattle.txn_alloc.specs.Laying.{IsWrittenByLaying}
+use Rattle.txn_stores.proofs.Ranges.{all_below, all_once}
 use Rattle.txn_records.specs.Layout.{words_of, arena_of}
 use Rattle.txn_records.specs.Standing.{Stands}
-use Rattle.txn_records.proofs.Emptied.{all_blocks, empty_stands, all_below, all_once}
+use Rattle.txn_records.proofs.Emptied.{all_blocks, empty_stands}
 use Rattle.txn_records.proofs.lay.empty_words.Goals as goal
 use Rattle.txn_records.proofs.lay.empty_words.Goals.{After-lay_free}
 

@@ -1,5 +1,5 @@
+use Rattle.txn_stores.proofs.Turning.{leads_less}
 use Rattle.txn_records.proofs.Scripted.{found_steps, lacks_steps}
-use Rattle.txn_records.proofs.Turning.{leads_less}
 use Rattle.txn_records.proofs.operations.find.Goals as goal
 
 pub returns-in-Some-clause-step : goal.returns-in-Some-clause-step

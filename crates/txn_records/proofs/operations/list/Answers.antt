@@ -1,5 +1,5 @@
+use Rattle.txn_stores.proofs.Turning.{leads_less}
 use Rattle.txn_records.proofs.Scripted.{list_steps}
-use Rattle.txn_records.proofs.Turning.{leads_less}
 use Rattle.txn_records.proofs.operations.list.Goals as goal
 
 pub returns-clause-step : goal.returns-clause-step

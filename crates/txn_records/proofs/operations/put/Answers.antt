@@ -1,5 +1,5 @@
+use Rattle.txn_stores.proofs.Turning.{leads_less}
 use Rattle.txn_records.proofs.Scripted.{new_steps, old_steps}
-use Rattle.txn_records.proofs.Turning.{leads_less}
 use Rattle.txn_records.proofs.operations.put.Goals as goal
 
 pub returns-in-New-clause-step : goal.returns-in-New-clause-step

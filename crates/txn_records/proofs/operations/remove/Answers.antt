@@ -1,5 +1,5 @@
+use Rattle.txn_stores.proofs.Turning.{leads_less}
 use Rattle.txn_records.proofs.Scripted.{gone_steps, absent_steps}
-use Rattle.txn_records.proofs.Turning.{leads_less}
 use Rattle.txn_records.proofs.operations.remove.Goals as goal
 
 pub returns-then-branch-clause-step : goal.returns-then-branch-clause-step

@@ -1,6 +1,6 @@
 use Rattle.std.proofs.lemmas.Result.{IfOk-weaker}
+use Rattle.txn_stores.proofs.Turning.{leads_some}
 use Rattle.txn_records.proofs.Calls.{good_trees, cut_range}
-use Rattle.txn_records.proofs.Turning.{leads_some}
 use Rattle.txn_records.proofs.records.cut_rank.Goals as goal
 
 pub cut_in-requires-clause-trees : goal.cut_in-requires-clause-trees

@@ -2,8 +2,8 @@ use Rattle.std.proofs.Common.{arith, rules}
 use Rattle.std.proofs.lemmas.Result.{IfOk-from_err}
 use Rattle.txn_words.specs.Calls.{GoesOn}
 use Rattle.txn_words.proofs.CallLaws.{goes_then, goes_as}
+use Rattle.txn_stores.proofs.Turning.{leads_less, turned, turn_then, turned_stands}
 use Rattle.txn_records.proofs.Calls.{not_dropped, is_dropped}
-use Rattle.txn_records.proofs.Turning.{leads_less, turned, turn_then, turned_stands}
 use Rattle.txn_records.proofs.records.drop_record.Goals as goal
 
 pub returns-in_default : goal.returns-in_default

@@ -1,8 +1,8 @@
 use Rattle.std.proofs.lemmas.Result.{IfOk-weaker}
 use Rattle.txn_words.proofs.CallLaws.{goes_then}
+use Rattle.txn_stores.proofs.Turning.{leads_when, turned, turn_then}
 use Rattle.txn_records.proofs.Calls.{good_trees, new_stands}
 use Rattle.txn_records.proofs.Puts.{full_at_once, new_put}
-use Rattle.txn_records.proofs.Turning.{leads_when, turned, turn_then}
 use Rattle.txn_records.proofs.records.put_new.Goals as goal
 
 pub put_in-requires-clause-trees : goal.put_in-requires-clause-trees

@@ -1,6 +1,6 @@
 use Rattle.std.proofs.lemmas.Result.{IfOk-weaker}
+use Rattle.txn_stores.proofs.Turning.{leads_some, leads_less, looked, looked_stands}
 use Rattle.txn_records.proofs.Calls.{good_trees, tells_rank, rank_told}
-use Rattle.txn_records.proofs.Turning.{leads_some, leads_less, looked, looked_stands}
 use Rattle.txn_records.proofs.records.rank_at.Goals as goal
 
 pub get_in-requires-clause-trees : goal.get_in-requires-clause-trees

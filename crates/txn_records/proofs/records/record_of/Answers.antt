@@ -2,8 +2,8 @@ use Rattle.std.proofs.Common.{ℕ, Option, Some, sym, ap, ◌∙◌, rules}
 use Rattle.std.proofs.lemmas.Result.{IfOk-from_err}
 use Rattle.txn_words.specs.Calls.{GoesOn}
 use Rattle.txn_words.proofs.CallLaws.{goes_then, goes_as}
+use Rattle.txn_stores.proofs.Turning.{looked, look_then, tells}
 use Rattle.txn_records.proofs.Held.{no_record, record_is}
-use Rattle.txn_records.proofs.Turning.{looked, look_then, tells}
 use Rattle.txn_records.proofs.records.record_of.Goals as goal
 
 abbrev stored : ℕ → ℕ → Option (ℕ × ℕ)

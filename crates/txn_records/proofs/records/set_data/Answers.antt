@@ -1,6 +1,6 @@
+use Rattle.txn_stores.proofs.Turning.{leads_when}
 use Rattle.txn_records.proofs.Calls.{good_trees, put_stands}
 use Rattle.txn_records.proofs.Puts.{data_set}
-use Rattle.txn_records.proofs.Turning.{leads_when}
 use Rattle.txn_records.proofs.records.set_data.Goals as goal
 
 pub put_in-requires-clause-trees : goal.put_in-requires-clause-trees

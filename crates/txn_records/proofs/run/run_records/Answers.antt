@@ -1,14 +1,15 @@
-use Rattle.std.proofs.Common.{◌≡◌, ◌≤◌, ℕ, List, sym, subst, arith}
+use Rattle.std.proofs.Common.{◌≤◌, ℕ, List, ap, sym, subst, arith}
 use Rattle.std.specs.FinMap as finite
 use Rattle.history_model.specs.Fitting.{IsGood}
 use Rattle.word_table.specs.Closing.{IsCoherent, IsLegalInEachOrder}
 use Rattle.word_table.specs.declared.limits.TheConstants.{LAST_CALL}
+use Rattle.txn_stores.proofs.Journals.{jobs_counted}
 use Rattle.txn_records.specs.declared.done.RecordDone.{RecordDone}
 use Rattle.txn_records.specs.declared.shape.RecordShape.{RecordShape}
 use Rattle.txn_records.specs.Days.{IsRecordDay}
 use Rattle.txn_records.specs.Layout.{words_of}
 use Rattle.txn_records.specs.Standing.{IsGoodFor, Stands}
-use Rattle.txn_records.proofs.Days.{day_made, day_dealt, jobs_counted}
+use Rattle.txn_records.proofs.Days.{day_made, day_dealt, store_of}
 use Rattle.txn_records.proofs.run.run_records.Goals as goal
 
 pub run_in_order-requires-clause-words : goal.run_in_order-requires-clause-words
@@ -25,11 +26,14 @@ pub text_of-requires-clause-day : goal.text_of-requires-clause-day
 text_of-requires-clause-day g c =
     let e = c.in_ok-closed.ensures in
     let closed = c.in_ok-closed.field-0.closed in
-    let opening : Stands (record { blocks = c.blocks-2.result }) closed.base finite.empty =
-    subst (λ (w : List ℕ). Stands (record { blocks = c.blocks-2.result }) w finite.empty) (sym e.closed.0) c.in_ok-words.ensures.stands in
+    let shape : RecordShape = store_of c.blocks-2.result in
+    let opening : Stands shape closed.base finite.empty =
+    subst (λ (w : List ℕ). Stands shape w finite.empty) (sym e.closed.0) c.in_ok-words.ensures.stands in
     subst (λ (l : List RecordDone). IsRecordDay c.args.input.now closed l) (sym c.deref.ensures.value)
-    (day_made c.args.input.now closed c.in_ok-done.done.items c.args.workers c.blocks-2.result c.blocks-2.ensures
-    c.in_ok-closed.field-0.done.items c.in_ok-done.ensures e.closed.2 e.closed.1 e.in_order e.once e.entries e.below e.seats opening)
+    (day_made c.args.input.now closed c.in_ok-done.done.items c.args.workers shape c.in_ok-closed.field-0.done.items
+    c.in_ok-done.ensures
+    (record { seats_are = e.closed.1; in_order = e.in_order; once = e.once; entries = e.entries; below = e.below; dealt = e.seats })
+    (ap store_of c.blocks-2.ensures) e.closed.2 opening)
 
 pub returns-clause-coherent : goal.returns-clause-coherent
 returns-clause-coherent g c =
@@ -45,16 +49,17 @@ pub returns-clause-day : goal.returns-clause-day
 returns-clause-day g c =
     let e = c.in_ok-closed.ensures in
     let closed = c.in_ok-closed.field-0.closed in
-    let opening : Stands (record { blocks = c.blocks-2.result }) closed.base finite.empty =
-    subst (λ (w : List ℕ). Stands (record { blocks = c.blocks-2.result }) w finite.empty) (sym e.closed.0) c.in_ok-words.ensures.stands in
-    day_made c.args.input.now closed c.in_ok-done.done.items c.args.workers c.blocks-2.result c.blocks-2.ensures
-    c.in_ok-closed.field-0.done.items c.in_ok-done.ensures e.closed.2 e.closed.1 e.in_order e.once e.entries e.below e.seats opening
+    let shape : RecordShape = store_of c.blocks-2.result in
+    let opening : Stands shape closed.base finite.empty =
+    subst (λ (w : List ℕ). Stands shape w finite.empty) (sym e.closed.0) c.in_ok-words.ensures.stands in
+    day_made c.args.input.now closed c.in_ok-done.done.items c.args.workers shape c.in_ok-closed.field-0.done.items
+    c.in_ok-done.ensures
+    (record { seats_are = e.closed.1; in_order = e.in_order; once = e.once; entries = e.entries; below = e.below; dealt = e.seats })
+    (ap store_of c.blocks-2.ensures) e.closed.2 opening
 
 pub returns-clause-dealt : goal.returns-clause-dealt
 returns-clause-dealt g c =
     let e = c.in_ok-closed.ensures in
-    let closed = c.in_ok-closed.field-0.closed in
-    let opening : Stands (record { blocks = c.blocks-2.result }) closed.base finite.empty =
-    subst (λ (w : List ℕ). Stands (record { blocks = c.blocks-2.result }) w finite.empty) (sym e.closed.0) c.in_ok-words.ensures.stands in
-    day_dealt c.args.input.now closed c.in_ok-done.done.items c.args.workers c.blocks-2.result c.blocks-2.ensures
-    c.in_ok-closed.field-0.done.items c.in_ok-done.ensures e.closed.2 e.closed.1 e.in_order e.once e.entries e.below e.seats opening
+    day_dealt c.args.input.now c.in_ok-closed.field-0.closed c.in_ok-done.done.items c.args.workers (store_of c.blocks-2.result)
+    c.in_ok-closed.field-0.done.items c.in_ok-done.ensures
+    (record { seats_are = e.closed.1; in_order = e.in_order; once = e.once; entries = e.entries; below = e.below; dealt = e.seats })

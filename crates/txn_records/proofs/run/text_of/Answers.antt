@@ -1,9 +1,7 @@
-use Rattle.std.proofs.Common.{◌≡◌, map, ap, ◌∙◌}
+use Rattle.std.proofs.Common.{ap, ◌∙◌}
 use Rattle.std.proofs.lemmas.Result.{IfOk-weaker}
 use Rattle.record_text.specs.Lines.{lent}
-use Rattle.txn_records.specs.declared.done.RecordDone.{RecordDone}
-use Rattle.txn_records.specs.Inner.Printing.{line_of_done}
-use Rattle.txn_records.proofs.Days.{closing_by_rank, closing_told, lines_places, places_fit, run_told, text_told}
+use Rattle.txn_records.proofs.Days.{closing_by_rank, closing_told, places_fit, run_told, text_told}
 use Rattle.txn_records.proofs.run.text_of.Goals as goal
 
 pub records_text-requires-clause-places : goal.records_text-requires-clause-places

@@ -1,11 +1,11 @@
 use Rattle.std.proofs.lemmas.Result.{IfOk-weaker}
 use Rattle.txn_tree_map.specs.Firsts.{FindsFirst}
 use Rattle.txn_words.specs.Access.{Tells}
+use Rattle.txn_stores.proofs.Turning.{leads_less, looked, looked_stands}
 use Rattle.txn_records.specs.Layout.{tree_of}
 use Rattle.txn_records.specs.Standing.{HasTrees, entries_in}
 use Rattle.txn_records.specs.Access.{first_in}
 use Rattle.txn_records.proofs.Sides.{tree_there, tells_first}
-use Rattle.txn_records.proofs.Turning.{leads_less, looked, looked_stands}
 use Rattle.txn_records.proofs.trees.first_in.Goals as goal
 
 pub first_from-requires-clause-order : goal.first_from-requires-clause-order

@@ -1,4 +1,5 @@
-use Rattle.std.proofs.Common.{◌≡◌, ℕ, List, length, map, slice_get, slice_index, sum, take, ◌<◌, Some, refl, sym, ap, ◌∙◌, subst, arith, length-set, Vec, Global}
+use Rattle.std.proofs.Common.{◌≡◌, ℕ, List, length, map, slice_get, slice_index, sum, take, ◌<◌}
+use Rattle.std.proofs.Common.{Some, refl, sym, ap, ◌∙◌, subst, arith, length-set, Vec, Global}
 use Rattle.std.specs.Vec.{with_items}
 use Rattle.std.proofs.lemmas.List.{with_items_is}
 use Rattle.std.proofs.lemmas.Option.{slice_get_read}

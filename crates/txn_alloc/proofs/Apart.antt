@@ -11,7 +11,8 @@ use Rattle.txn_alloc.proofs.FreeLists.Lists.{same_block}
 use Rattle.txn_alloc.proofs.Maps.Parts.{IsOne, used_of}
 use Rattle.txn_alloc.proofs.FreeLists.Wider.{head_is}
 use Rattle.txn_alloc.proofs.Sets.{in_here, out_itself, contains-insert_other, contains-remove_other}
-use Rattle.txn_records.specs.Standing.{times_among}
+use Rattle.txn_alloc.specs.Blocks.{times_among}
+use Rattle.txn_alloc.specs.Statements.{MovedBlock}
 
 -- a block of a set counts once there
 pub member_one : (s : Blocks) (b : ℕ) → set.contains s b ≡ true → times_of s b ≡ 1
@@ -19,6 +20,9 @@ member_one s b e = ap (λ m. cond m 1 0) e
 
 pub out_none : (s : Blocks) (b : ℕ) → set.contains s b ≡ false → times_of s b ≡ 0
 out_none s b e = ap (λ m. cond m 1 0) e
+
+pub two_among : (b : ℕ) (u v : Blocks) → times_among b (u ∷ v ∷ []) ≡ times_of u b + times_of v b
+two_among b u v = omega arith
 
 pub three_among : (b : ℕ) (u v w : Blocks) → times_among b (u ∷ v ∷ w ∷ []) ≡ times_of u b + times_of v b + times_of w b
 three_among b u v w = omega arith
@@ -43,7 +47,7 @@ out_above s n b below le = at (set.contains s b) refl
     at false e = out_none s b e
     at true e = let lt = below b e in absurd (omega (arith, lt, le))
 
--- a word that a map's call may not write: it is no root of the map, no head, and in no block that the map uses before or after
+-- a word that a map's call may not write: no root of the map, no head, and in no block that the map uses before or after
 pub not_own : (part : Part) → IsOne part → (key : ℕ) (old new : List ℕ) (f g : Entries) (u v : Blocks) → part.Holds old f u → part.Holds new g v → (a : ℕ)
     → ¬ part.IsRoot key a → ¬ IsHead part.arena a → ((d : ℕ) → (set.contains u d ≡ true) ⊎ (set.contains v d ≡ true)
     → ¬ IsInBlock part.arena d a) → ¬ IsOwn part key old new a
@@ -52,7 +56,8 @@ not_own part one key old new f g u v before after a root head out (inr (inl k)) 
     out k.0 (elim (k.1) [ inl w ↦ inl (used_of part one old f u k.0 before w) | inr w ↦ inr (used_of part one new g v k.0 after w) ]) k.2
 not_own part one key old new f g u v before after a root head out (inr (inr k)) = head (head_is part.arena k.0 a k.2)
 
--- a block of one set is in no block that another part used before, or uses after a change in which its blocks and the free ones stayed as many
+-- a block of one set is in no block that another part used before, or uses after a change in which its blocks and the free
+-- ones stayed as many
 pub other_out : (arena : Arena) (theirs before free after now : Blocks) (d a e : ℕ) → set.contains theirs d ≡ true
     → times_of theirs d + times_of before d + times_of free d ≤ 1
     → times_of after d + times_of now d ≡ times_of before d + times_of free d → IsInBlock arena d a
@@ -82,3 +87,7 @@ moved_times used free c out member b = dite (ℕ_discrete b c)
     let here : times_of (set.insert used c) b ≡ times_of used b = ap (λ m. times_by m) (contains-insert_other used c b ne) in
     let there : times_of (set.remove free c) b ≡ times_of free b = ap (λ m. times_by m) (contains-remove_other free c b ne) in
     omega (arith, here, there))
+
+pub moved_block : MovedBlock
+moved_block used free c out member b =
+    two_among b (set.insert used c) (set.remove free c) ∙ moved_times used free c out member b ∙ sym (two_among b used free)

@@ -1,5 +1,0 @@
-use Rattle.txn_stores.proofs.Apart.{moved_block}
-use Rattle.txn_stores.proofs.laws.moved_block.Goals as goal
-
-pub returns : goal.returns
-returns c = moved_block
