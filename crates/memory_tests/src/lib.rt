@@ -1,5 +1,5 @@
-//! Tests of the public calls of word_table, lock_or_yield and txn_commit, also on threads, in a crate of their own: they
-//! rest on what those promise, and do not prove them again.
+//! Tests of the public calls of word_table, lock_or_yield, txn_commit and order_rebuild, also on threads, in a crate of
+//! their own: they rest on what those promise, and do not prove them again.
 #![tactic(auto)]
 
 #[cfg(test)]
@@ -16,6 +16,8 @@ mod lists;
 mod locks;
 #[cfg(test)]
 mod marks;
+#[cfg(test)]
+mod order;
 #[cfg(test)]
 mod runs;
 #[cfg(test)]

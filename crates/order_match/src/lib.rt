@@ -23,8 +23,6 @@ pub mod orders;
 pub mod parts;
 pub mod run;
 pub mod shape;
-#[cfg(test)]
-mod tests;
 pub mod trading;
 
 pub use closing::{all_orders, order_of, orders_of_words};

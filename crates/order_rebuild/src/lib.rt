@@ -27,8 +27,6 @@ mod lines;
 mod placing;
 mod ranks;
 mod ready;
-#[cfg(test)]
-mod tests;
 mod turn;
 
 /// The places of the items in the order in which they may be printed: again and again, of the items that may come, the

@@ -18,8 +18,6 @@ pub mod reply;
 pub mod report;
 pub mod run;
 pub mod script;
-#[cfg(test)]
-mod tests;
 pub mod words;
 
 pub use book::Book;

@@ -15,8 +15,6 @@ pub mod report;
 pub mod run;
 pub mod script;
 pub mod store;
-#[cfg(test)]
-mod tests;
 pub mod words;
 
 pub use input::RecordInput;

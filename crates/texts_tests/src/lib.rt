@@ -15,11 +15,15 @@ mod languages;
 #[cfg(test)]
 mod model;
 #[cfg(test)]
+mod order_rows;
+#[cfg(test)]
 mod orders;
 #[cfg(test)]
 mod orders_report;
 #[cfg(test)]
 mod reader;
+#[cfg(test)]
+mod record_rows;
 #[cfg(test)]
 mod records;
 #[cfg(test)]

@@ -16,10 +16,6 @@ pub mod numbers;
 pub mod pair;
 pub(crate) mod rounds;
 pub mod run;
-#[cfg(test)]
-mod run_tests;
-#[cfg(test)]
-mod tests;
 pub mod typed;
 
 pub use array::{CellArray, CellsShape};

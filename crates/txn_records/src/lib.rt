@@ -23,8 +23,6 @@ pub mod operations;
 pub mod records;
 pub mod run;
 pub mod shape;
-#[cfg(test)]
-mod tests;
 pub mod trees;
 
 pub use closing::{all_records, records_of_words};
