@@ -1,28 +1,21 @@
-//! Tests of the public calls of txn_alloc, txn_ring, txn_hash_map, txn_tree_map and txn_books, in a crate of their own:
-//! they rest on what those promise, and do not prove them again.
+//! Tests of the public calls on plain words: those of txn_words, counter, txn_alloc, txn_ring, txn_hash_map, txn_tree_map
+//! and txn_books. They rest on what those promise, and do not prove them again. What the program runs on its own words is
+//! shown by rows.
 #![tactic(auto)]
 
 #[cfg(test)]
-mod access;
-#[cfg(test)]
 mod blocks;
 #[cfg(test)]
-mod building;
+mod built;
 #[cfg(test)]
-mod comparing;
+mod counting;
 #[cfg(test)]
-mod hash_map;
-#[cfg(test)]
-mod lists;
-#[cfg(test)]
-mod parts;
+mod maps;
 #[cfg(test)]
 mod paths;
-#[cfg(test)]
-mod reading;
 #[cfg(test)]
 mod ring;
 #[cfg(test)]
 mod scripts;
 #[cfg(test)]
-mod tree_map;
+mod tree;

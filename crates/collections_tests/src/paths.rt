@@ -1,4 +1,4 @@
-//! Sums over maps whose trees are paths, with answers computed by hand.
+//! How many words a sum reads in a map whose tree is a path, computed by hand. What it comes to on such paths rows show.
 //!
 //! The priority of a key is its product with 2^64 by the golden ratio, without what is above 64 bits.
 //! 196418 and 121393 are Fibonacci numbers, of which this product is just above 0, and just below. So
@@ -9,7 +9,7 @@
 ghost use Rattle.std.specs.Prelude.{◌≡◌, [], None, IfOk, OnOk};
 ghost use Rattle.txn_words.specs.Plainly.{IsSoundPlain};
 ghost use Rattle.txn_words.specs.Calls.{IsReady, InEachState};
-ghost use Rattle.txn_alloc.specs.EntryMaps.{HasMap, HasMapApart};
+ghost use Rattle.txn_alloc.specs.EntryMaps.{HasMapApart};
 ghost use Rattle.txn_tree_map.specs.Trees.{tree_part};
 ghost use Rattle.collections_tests.specs.declared.paths.TheConstants.{MAP};
 
@@ -76,26 +76,6 @@ fn put_all<W: Words>(w: &mut W, map: &TreeMap, spacing: u32) -> Result<bool, Sto
     Ok(true)
 }
 
-// The number of the first sum that is another. Each row has both ends, and the sum.
-fn first_wrong<W: Words>(
-    w: &mut W,
-    map: &TreeMap,
-    sums: &[(u64, u64, u128)],
-) -> Result<Option<usize>, Stop>
-    requires ready { IsReady W.Words w.old }
-    requires order { InEachState W.Words W.Shape.Shape w.old (HasMap (tree_part map.now)) }
-    ensures ready { OnOk result (IsReady W.Words w.new) }
-    ensures order { OnOk result
-        (InEachState W.Words W.Shape.Shape w.new (HasMap (tree_part map.now))) }
-{
-    for (number, &(low, high, sum)) in sums.iter().enumerate() {
-        if map.sum_range(w, low, high)? != sum {
-            return Ok(Some(number));
-        }
-    }
-    Ok(None)
-}
-
 // How often a word is read.
 fn times_read(trace: &[Event], word: u64) -> usize {
     trace
@@ -114,68 +94,29 @@ fn no_value_twice(trace: &[Event]) -> bool {
     true
 }
 
-// How many words the sum of all reads in the map of these keys, where it is right and reads no value
-// twice, and the sums of the rows are right too.
-fn reads_of_a_sum(
-    alloc: Global,
-    spacing: u32,
-    sums: &[(u64, u64, u128)],
-) -> Result<Option<usize>, Fail> {
+// How many words the sum of all reads in the map of these keys, where it is right and reads no value twice.
+fn reads_of_a_sum(alloc: Global, spacing: u32) -> Result<Option<usize>, Fail> {
     let mut plain = empty_map(alloc)?;
-    if !put_all(&mut plain, &MAP, spacing)? {
-        return Ok(None);
-    }
+    let new = put_all(&mut plain, &MAP, spacing)?;
     let before = plain.trace().len();
-    let all = first_wrong(&mut plain, &MAP, &[(0, u64::MAX, 180_300)])?;
-    let Some(later) = plain.trace().get(before..) else {
-        return Ok(None);
-    };
-    let reads = later.len();
-    let once = no_value_twice(later);
-    let wrong = first_wrong(&mut plain, &MAP, sums)?;
-    Ok(if all.is_none() && once && wrong.is_none() {
-        Some(reads)
-    } else {
-        None
-    })
+    let sum = MAP.sum_range(&mut plain, 0, u64::MAX)?;
+    let later = plain.trace().get(before..).unwrap_or(&[]);
+    let right = new && sum == 180_300 && no_value_twice(later);
+    Ok(right.then_some(later.len()))
 }
 
-/// The way down goes to the left at six hundred nodes, more than a walk keeps. Down to the least key
-/// it reads a name and a key of each, and the name at the end: 1201 words. The room was full once, and
-/// 344 nodes are left in it: their values, and behind each but the last the name at the end, 687
-/// words. Behind the last it reads one more, finds none kept, and goes down again: past 256 nodes to
-/// the left and at the next to the right, 515 words. Of those 256 the values and the names behind
-/// them, 512 words.
+// To the left: the way down goes to the left at six hundred nodes, more than a walk keeps. Down to the least key it reads a
+// name and a key of each, and the name at the end: 1201 words. The room was full once, and 344 nodes are left in it: their
+// values, and behind each but the last the name at the end, 687 words. Behind the last it reads one more, finds none kept,
+// and goes down again: past 256 nodes to the left and at the next to the right, 515 words. Of those 256 the values and the
+// names behind them, 512 words.
+//
+// To the right: the next key is right of each, with nothing left of it: of each node a name, its key, the name on its left
+// and its value are read, 2400 words, and behind the last one the end.
 #[test]
-fn sums_on_a_path_to_the_left(rt: HostRuntime) -> Result<(), Fail> {
-    let sums = &[
-        (59_121_818, u64::MAX, 135_150),
-        (58_925_400, 58_925_400, 300),
-        (58_925_401, 59_121_817, 0),
-        (59_121_818, 58_925_400, 0),
-        (0, 196_418, 1),
-        (117_850_800, u64::MAX, 600),
-        (117_850_801, u64::MAX, 0),
-        (0, 67_567_792, 59_340),
-        (0, 67_764_210, 59_685),
-    ];
-    assert_eq!(rt; reads_of_a_sum(rt.alloc(), 196_418, sums)?, Some(2916));
-    Ok(())
-}
-
-/// The next key is right of each, with nothing left of it: of each node a name, its key, the name on
-/// its left and its value are read, 2400 words, and behind the last one the end.
-#[test]
-fn sums_on_a_path_to_the_right(rt: HostRuntime) -> Result<(), Fail> {
-    let sums = &[
-        (36_539_293, u64::MAX, 135_150),
-        (36_417_900, 36_417_900, 300),
-        (36_417_901, 36_539_292, 0),
-        (36_539_293, 36_417_900, 0),
-        (0, 121_393, 1),
-        (72_835_800, u64::MAX, 600),
-        (72_835_801, u64::MAX, 0),
-    ];
-    assert_eq!(rt; reads_of_a_sum(rt.alloc(), 121_393, sums)?, Some(2401));
+fn a_sum_on_a_path_reads_no_value_twice(rt: HostRuntime) -> Result<(), Fail> {
+    for (spacing, reads) in &[(196_418, 2916), (121_393, 2401)] {
+        assert_eq!(rt; reads_of_a_sum(rt.alloc(), *spacing)?, Some(*reads));
+    }
     Ok(())
 }

@@ -1,45 +1,22 @@
-//! Each call of a ring of one place and of one of two, at words in a plain list.
+//! Calls of a ring of one place.
 
-ghost use Rattle.std.specs.Prelude.{IfOk, OnOk};
-ghost use Rattle.history_model.specs.Fitting.{IsGood};
+ghost use Rattle.std.specs.Prelude.{OnOk};
 ghost use Rattle.txn_words.specs.Calls.{IsReady, GoesOn, InEachState};
 ghost use Rattle.txn_ring.specs.Queues.{IsInOrder};
 
-use history_model::Shape;
-use std::alloc::{AllocError, Global};
+use crate::built::built;
+use std::alloc::Global;
 use std::test::Fail;
 use txn_ring::Ring;
-use txn_words::{Plain, Stop, Words};
+use txn_words::{Stop, Words};
 
-/// 285 words, which hold a ring of one place.
-#[derive(Clone, Copy)]
-struct OnePlace;
-
-impl Shape for OnePlace {
-    ghost word_count = { λ _. 285 };
-
-    ghost good = { λ _ words. IsInOrder (record { at = 273; capacity = 1 }) words };
-}
-
-/// Six words, which are a ring of two places.
-#[derive(Clone, Copy)]
-struct TwoPlaces;
-
-impl Shape for TwoPlaces {
-    ghost word_count = { λ _. 6 };
-
-    ghost good = { λ _ words. IsInOrder (record { at = 0; capacity = 2 }) words };
-}
-
-const ONE: Ring = Ring {
+const RING: Ring = Ring {
     at: 273,
     capacity: 1,
 };
 
-const TWO: Ring = Ring { at: 0, capacity: 2 };
-
 /// A call of a ring, and what it answers.
-enum Call {
+pub(crate) enum Call {
     Push((u64, u64), bool),
     Pop(Option<(u64, u64)>),
     Len(u64),
@@ -72,47 +49,8 @@ fn first_wrong<W: Words>(ring: &Ring, w: &mut W, calls: &[Call]) -> Result<Optio
     Ok(None)
 }
 
-// 285 words that are 0, but for two beside the ring.
-fn marked_words(alloc: Global) -> Result<Vec<u64>, AllocError>
-    ensures good { IfOk result
-        (λ words. IsGood 285 (IsInOrder (record { at = 273; capacity = 1 })) words.items) }
-{
-    let mut words = vec![in alloc; 0u64; 285]?;
-    words[1] = 1;
-    words[277] = 2;
-    Ok(words)
-}
-
-#[test]
-fn a_ring_of_one_place_is_full_and_empty(rt: HostRuntime) -> Result<(), Fail> {
-    let words = marked_words(rt.alloc())?;
-    let mut plain = Plain::new(rt.alloc(), OnePlace, words);
-    let calls = &[
-        Call::Push((1, 5), true),
-        Call::Push((1, 6), false),
-        Call::Len(1),
-        Call::Pop(Some((1, 5))),
-        Call::Pop(None),
-        Call::Len(0),
-    ];
-    assert_eq!(rt; first_wrong(&ONE, &mut plain, calls)?, None);
-    Ok(())
-}
-
-#[test]
-fn a_queue_goes_round(rt: HostRuntime) -> Result<(), Fail> {
-    let words = vec![in rt.alloc(); 0u64; 6]?;
-    let mut plain = Plain::new(rt.alloc(), TwoPlaces, words);
-    let calls = &[
-        Call::Push((1, 2), true),
-        Call::Push((3, 4), true),
-        Call::Pop(Some((1, 2))),
-        Call::Push((5, 6), true),
-        Call::Len(2),
-        Call::Pop(Some((3, 4))),
-        Call::Pop(Some((5, 6))),
-        Call::Pop(None),
-    ];
-    assert_eq!(rt; first_wrong(&TWO, &mut plain, calls)?, None);
-    Ok(())
+// The same of the ring of empty books.
+pub(crate) fn first_wrong_of_ring(alloc: Global, calls: &[Call]) -> Result<Option<usize>, Fail> {
+    let mut plain = built(alloc, 2)?;
+    Ok(first_wrong(&RING, &mut plain, calls)?)
 }

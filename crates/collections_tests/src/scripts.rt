@@ -1,200 +1,261 @@
-//! Scripts on words and in the plain interpreter, side by side: the same rows through both, with replies computed by
-//! hand.
+//! Scripts on plain words and in the plain interpreter, side by side: the same rows through both, with replies computed
+//! by hand.
 
-use crate::comparing::{
-    How, OK, USED, Want, add_account, agree, compare, is_wanted, opening, run_in_memory,
-    run_on_words, sizes_of,
-};
-use books_model::limits::{GREATEST_CASH, MOST_BLOCKS};
-use books_model::{Books, Decline, Op, Value};
+ghost use Rattle.std.specs.Prelude.{◌<◌, length};
+ghost use Rattle.books_model.specs.Ranges.{IsScriptFor};
+ghost use Rattle.script_reader.specs.Input.{caller_at};
+
+use books_model::laws::scripts_go_by_instruments;
+use books_model::{Books, Decline, Reply, Script, Value, Values, run_plain};
 use io_ends::OutOfMemory;
+use script_reader::{Input, read_input};
 use std::alloc::Global;
-use std::process::Abort;
 use std::test::Fail;
-use txn_books::{build, read_books};
+use txn_books::{BooksShape, build, read_books, run_on_plain};
 
-/// Accounts, where two blocks are left.
-#[test]
-fn accounts_and_cash(rt: HostRuntime) -> Result<(), Fail> {
-    const ROWS: [(&[Op], Want<'static>); 22] = [
-        // Every part of the books is changed before the operation that is declined.
-        (
-            &[
-                Op::OpenAccount(5),
-                Op::Trade(1, 2, 1, 1),
-                Op::Next,
-                Op::Margin(2, 100),
-                Op::Withdraw(9, 1),
-            ],
-            Want::Declined(5, Decline::Absent),
-        ),
-        (&[Op::OpenAccount(5)], OK),
-        (&[Op::OpenAccount(1)], Want::Declined(1, Decline::Exists)),
-        (&[Op::Close(4)], OK),
-        (&[Op::Close(1)], Want::Declined(1, Decline::Cash)),
-        (&[Op::Close(2)], Want::Declined(1, Decline::Held)),
-        (&[Op::Close(9)], Want::Declined(1, Decline::Absent)),
-        (&[Op::Deposit(1, 5)], OK),
-        (&[Op::Deposit(9, 1)], Want::Declined(1, Decline::Absent)),
-        (&[Op::Deposit(3, 1)], Want::Declined(1, Decline::Limit)),
-        (
-            &[Op::Deposit(1, 999_999_999_999_999_900), Op::Show(1)],
-            Want::Done(&[Value::Done, Value::Number(1_000_000_000_000_000_000)]),
-        ),
-        (
-            &[Op::Deposit(1, 999_999_999_999_999_901)],
-            Want::Declined(1, Decline::Limit),
-        ),
-        (&[Op::Withdraw(1, 100)], OK),
-        (&[Op::Withdraw(9, 1)], Want::Declined(1, Decline::Absent)),
-        (&[Op::Withdraw(1, 101)], Want::Declined(1, Decline::Cash)),
-        (&[Op::Move(1, 2, 50)], OK),
-        (&[Op::Move(1, 1, 1)], Want::Declined(1, Decline::Same)),
-        (&[Op::Move(1, 9, 1)], Want::Declined(1, Decline::Absent)),
-        (&[Op::Move(2, 1, 1)], Want::Declined(1, Decline::Cash)),
-        (&[Op::Move(1, 3, 1)], Want::Declined(1, Decline::Limit)),
-        (&[Op::Move(3, 1, 999_999_999_999_999_900)], OK),
-        (
-            &[Op::Move(3, 1, 999_999_999_999_999_901)],
-            Want::Declined(1, Decline::Limit),
-        ),
-    ];
-    compare(&rt, rt.alloc(), USED + 2, &ROWS)?;
-    Ok(())
+// What a script is to reply.
+#[derive(Clone, Copy)]
+enum Want<'a> {
+    Done(&'a [Value]),
+    Declined(u32, Decline),
+    Full(u32),
 }
 
-/// Prices and trades, where two blocks are left.
-#[test]
-fn prices_and_trades(rt: HostRuntime) -> Result<(), Fail> {
-    const ROWS: [(&[Op], Want<'static>); 10] = [
-        (&[Op::Price(1, 20)], OK),
-        (&[Op::Price(2, 5)], OK),
-        (&[Op::Trade(1, 2, 1, 1)], OK),
-        (&[Op::Trade(1, 1, 1, 1)], Want::Declined(1, Decline::Same)),
-        (&[Op::Trade(1, 9, 1, 1)], Want::Declined(1, Decline::Absent)),
-        (&[Op::Trade(1, 2, 2, 1)], Want::Declined(1, Decline::Price)),
-        (
-            &[Op::Trade(1, 2, 1, 4)],
-            Want::Declined(1, Decline::Quantity),
-        ),
-        (&[Op::Trade(4, 2, 1, 1)], Want::Declined(1, Decline::Cash)),
-        (&[Op::Trade(3, 2, 1, 1)], Want::Declined(1, Decline::Limit)),
-        (&[Op::Trade(1, 3, 1, 1)], Want::Declined(1, Decline::Limit)),
-    ];
-    compare(&rt, rt.alloc(), USED + 2, &ROWS)?;
-    Ok(())
-}
+// Two blocks are left. Account 3 is at both limits, and the queue is full. Instrument 2 has no price.
+const TEXT: &str = "books 2 blocks 9 instruments 2 ring 1
+account 1 100
+account 2 0
+account 3 1000000000000000000
+account 4 0
+price 1 10
+position 2 1 3
+position 3 1 1000000
+call 7 9
+scripts
+script ann
+deposit 1 5
+show 1
+end
+script ann
+end
+script ann
+move 1 2 100
+end
+script ann
+move 9 9 1
+end
+script ann
+deposit 1 5
+withdraw 1 1000
+end
+script ann
+deposit 1 999999999999999900
+deposit 1 1
+end
+script ann
+open 5
+open 6
+open 7
+end
+script ann
+open 5
+open 6
+trade 1 2 1 3
+trade 2 1 1 1
+end
+script ann
+next
+margin 2 100
+margin 2 100
+end
+script ann
+next
+next
+end
+script ann
+sum 1 4294967295
+sum 1 2
+sum 3 1
+end
+script ann
+close 4
+close 2
+end
+script ann
+price 2 5
+trade 1 2 1 1
+trade 4 2 1 1
+end
+script ann
+try
+deposit 1 5
+withdraw 1 1000
+else
+deposit 2 3
+done
+show 1
+end
+script ann
+try
+withdraw 1 1000
+else
+show 9
+done
+end
+script ann
+try
+else
+done
+end
+script ann
+try
+open 5
+open 6
+open 7
+else
+open 8
+open 9
+done
+end
+finish
+";
 
-/// Margin calls, and what is told.
-#[test]
-fn margin_calls_and_sums(rt: HostRuntime) -> Result<(), Fail> {
-    const ROWS: [(&[Op], Want<'static>); 9] = [
-        (&[Op::Margin(2, 100)], Want::Declined(1, Decline::Queue)),
-        (&[Op::Margin(9, 1)], Want::Declined(1, Decline::Absent)),
-        (&[Op::Margin(1, 100)], Want::Done(&[Value::Number(0)])),
-        (
-            &[Op::Next, Op::Margin(2, 50)],
-            Want::Done(&[Value::Call(7, 9), Value::Number(15)]),
-        ),
-        (
-            &[Op::Next, Op::Next],
-            Want::Done(&[Value::Call(7, 9), Value::Nothing]),
-        ),
-        (&[Op::Show(1)], Want::Done(&[Value::Number(100)])),
-        (&[Op::Show(9)], Want::Declined(1, Decline::Absent)),
-        (
-            &[Op::Sum(1, 3)],
-            Want::Done(&[Value::Number(1_000_000_000_000_000_100)]),
-        ),
-        (&[Op::Sum(3, 1)], Want::Done(&[Value::Number(0)])),
-    ];
-    compare(&rt, rt.alloc(), USED + 2, &ROWS)?;
-    Ok(())
-}
+// What each script replies, on the opening books anew.
+const WANTED: &[Want<'static>] = &[
+    Want::Done(&[Value::Done, Value::Number(105)]),
+    Want::Done(&[]),
+    Want::Done(&[Value::Done]),
+    Want::Declined(1, Decline::Same),
+    Want::Declined(2, Decline::Cash),
+    Want::Declined(2, Decline::Limit),
+    Want::Full(3),
+    Want::Full(4),
+    Want::Declined(3, Decline::Queue),
+    Want::Done(&[Value::Call(7, 9), Value::Nothing]),
+    Want::Done(&[
+        Value::Number(1_000_000_000_000_000_100),
+        Value::Number(100),
+        Value::Number(0),
+    ]),
+    Want::Declined(2, Decline::Held),
+    Want::Declined(3, Decline::Cash),
+    Want::Done(&[Value::Second, Value::Done, Value::Number(100)]),
+    Want::Declined(2, Decline::Absent),
+    Want::Done(&[Value::First]),
+    Want::Done(&[Value::Second, Value::Done, Value::Done]),
+];
 
-// The most accounts, numbered from 1, each with the most cash.
-fn most_accounts(rt: &impl Abort, alloc: Global) -> Result<Books, OutOfMemory> {
-    let mut books = Books::new(alloc, MOST_BLOCKS, 1, 1);
-    for account in 1..=MOST_BLOCKS {
-        add_account(rt, &mut books, account, GREATEST_CASH)?;
+// Whether these are the values.
+fn are(values: &Values, wanted: &[Value]) -> bool {
+    if values.len() != wanted.len() {
+        return false;
     }
-    Ok(books)
+    (0..wanted.len()).all(|place| values.at(place) == wanted[place])
 }
 
-/// The greatest sum that there can be, of 65,536 accounts.
-#[test]
-fn the_cash_of_the_most_accounts_is_summed(rt: HostRuntime) -> Result<(), Fail> {
-    let books = most_accounts(&rt, rt.alloc())?;
-    let all = &[Op::Sum(1, 65_536)];
-    let want = Want::Done(&[Value::Number(65_536_000_000_000_000_000_000)]);
-    let in_memory = run_in_memory(&rt, rt.alloc(), &books, all, How::Alone)?;
-    assert!(rt; is_wanted(&in_memory.reply, want, How::Alone));
-    let on_words = run_on_words(&rt, rt.alloc(), &books, all, How::Alone)?;
-    assert!(rt; is_wanted(&on_words.reply, want, How::Alone));
-    Ok(())
+// Whether the reply is this one.
+fn is_wanted(reply: &Reply, want: Want<'_>) -> bool {
+    match reply {
+        Reply::Done(values) => match want {
+            Want::Done(wanted) => are(values, wanted),
+            _ => false,
+        },
+        Reply::Declined(number, why) => match want {
+            Want::Declined(wanted, reason) => *number == wanted && *why == reason,
+            _ => false,
+        },
+        Reply::Full(number) => match want {
+            Want::Full(wanted) => *number == wanted,
+            _ => false,
+        },
+    }
 }
 
-/// Where no block is left. A seller that gives up its whole position leaves a block for the buyer's.
-#[test]
-fn no_block_is_left(rt: HostRuntime) -> Result<(), Fail> {
-    const ROWS: [(&[Op], Want<'static>); 6] = [
-        (&[Op::OpenAccount(5)], Want::Full(1)),
-        (&[Op::Price(2, 5)], Want::Full(1)),
-        (&[Op::Price(1, 20)], OK),
-        (&[Op::Trade(1, 2, 1, 1)], Want::Full(1)),
-        (&[Op::Trade(1, 2, 1, 3)], OK),
-        (&[Op::Deposit(1, 5), Op::OpenAccount(5)], Want::Full(2)),
-    ];
-    compare(&rt, rt.alloc(), USED, &ROWS)?;
-    Ok(())
+// Whether books agree, of which neither has an account above 9, a third instrument, or room for two margin calls.
+fn agree(books: &Books, others: &Books) -> bool {
+    for account in 1..10 {
+        if books.cash(account) != others.cash(account)
+            || books.position(account, 1) != others.position(account, 1)
+            || books.position(account, 2) != others.position(account, 2)
+        {
+            return false;
+        }
+    }
+    books.used() == others.used()
+        && books.price(1) == others.price(1)
+        && books.price(2) == others.price(2)
+        && books.calls() == others.calls()
+        && (books.calls() == 0 || books.call_at(0) == others.call_at(0))
 }
 
-/// Several operations, all or none.
-#[test]
-fn scripts_are_done_or_change_nothing(rt: HostRuntime) -> Result<(), Fail> {
-    const ROWS: [(&[Op], Want<'static>); 4] = [
-        (&[], Want::Done(&[])),
-        (
-            &[Op::Deposit(1, 5), Op::Show(1)],
-            Want::Done(&[Value::Done, Value::Number(105)]),
-        ),
-        (
-            &[Op::Deposit(1, 5), Op::Withdraw(1, 1000)],
-            Want::Declined(2, Decline::Cash),
-        ),
-        (
-            &[Op::Close(4), Op::OpenAccount(5), Op::Price(2, 5)],
-            Want::Full(3),
-        ),
-    ];
-    compare(&rt, rt.alloc(), USED, &ROWS)?;
-    Ok(())
+// What a script replies on words that are built of the books, and the books that it leaves there.
+fn run_on_words(
+    alloc: Global,
+    books: &Books,
+    script: &Script,
+) -> Result<(Reply, Books), OutOfMemory>
+    requires range { IsScriptFor books.now script.now }
+{
+    scripts_go_by_instruments();
+    let shape = BooksShape::of(books);
+    let mut words = build(alloc, books)?;
+    let reply = run_on_plain(alloc, &shape, script, &mut words)?;
+    let left = read_books(alloc, &shape, &words)?;
+    Ok((reply, left))
 }
 
-/// A first script, on the words of books of four blocks.
-#[test]
-fn a_first_script(rt: HostRuntime) -> Result<(), Fail> {
-    let mut books = Books::new(rt.alloc(), 4, 1, 1);
-    add_account(&rt, &mut books, 7, 100)?;
-    let operations = &[Op::Deposit(7, 5), Op::Show(7)];
-    let ran = run_on_words(&rt, rt.alloc(), &books, operations, How::Alone)?;
-    let want = Want::Done(&[Value::Done, Value::Number(105)]);
-    assert!(rt; is_wanted(&ran.reply, want, How::Alone));
-    assert_eq!(rt; ran.books.cash(7), Some(105));
-    assert_eq!(rt; ran.books.used(), 1);
-    Ok(())
+// What it replies on a copy of the books themselves, and what it leaves of that.
+fn run_in_memory(
+    alloc: Global,
+    books: &Books,
+    script: &Script,
+) -> Result<(Reply, Books), OutOfMemory>
+    requires range { IsScriptFor books.now script.now }
+{
+    let mut left = books.copy()?;
+    let reply = run_plain(alloc, script, &mut left)?;
+    Ok((reply, left))
 }
 
-/// Every kind of entry, a queue, and no block left: what is built is read back.
+// Whether a script of the first caller replies so, both ways, and leaves the same books.
+fn replies(alloc: Global, input: &Input, index: u32, want: Want<'_>) -> Result<bool, OutOfMemory>
+    requires caller { 0 < length input.now.callers }
+    requires index { index < length (caller_at input.now 0).scripts }
+{
+    let _ = input.callers();
+    let script = input.script(0, index);
+    let (on_words, left) = run_on_words(alloc, input.books(), script)?;
+    let (in_memory, books) = run_in_memory(alloc, input.books(), script)?;
+    Ok(is_wanted(&on_words, want) && is_wanted(&in_memory, want) && agree(&left, &books))
+}
+
+// The number of the first script that does otherwise.
+fn first_wrong(
+    alloc: Global,
+    input: &Input,
+    wanted: &[Want<'_>],
+) -> Result<Option<u32>, OutOfMemory> {
+    let mut index = 0;
+    for want in wanted {
+        if input.callers() == 0 || index >= input.scripts_of(0) {
+            return Ok(Some(index));
+        }
+        if !replies(alloc, input, index, *want)? {
+            return Ok(Some(index));
+        }
+        index += 1;
+    }
+    Ok(None)
+}
+
+// The same of a text.
+fn first_wrong_of(alloc: Global, text: &str, wanted: &[Want<'_>]) -> Result<Option<u32>, Fail> {
+    let input = read_input(alloc, text.as_bytes())?;
+    Ok(first_wrong(alloc, &input, wanted)?)
+}
+
 #[test]
-fn what_is_built_is_read_back(rt: HostRuntime) -> Result<(), Fail> {
-    let books = opening(&rt, rt.alloc(), USED)?;
-    let words = build(rt.alloc(), &books)?;
-    let again = read_books(rt.alloc(), &sizes_of(&books), &words)?;
-    assert!(rt; agree(&books, &again));
-    assert_eq!(rt; again.used(), USED);
-    assert_eq!(rt; words.len(), 305);
-    assert_eq!(rt; [words[1], words[273], words[274]], [0, 0, 1]);
-    assert_eq!(rt; [words[275], words[276]], [7, 9]);
+fn scripts_on_plain_words_reply_as_the_interpreter(rt: HostRuntime) -> Result<(), Fail> {
+    assert_eq!(rt; first_wrong_of(rt.alloc(), TEXT, WANTED)?, None);
     Ok(())
 }

@@ -22,22 +22,3 @@ pub fn add_to<W: Words>(w: &mut W, a: u64, by: u64) -> Result<(), Stop>
     w.write(a, v + by)?;
     Ok(())
 }
-
-#[cfg(test)]
-mod tests {
-    use super::*;
-    use crate::increment::CounterShape;
-    use std::test::Fail;
-    use txn_words::Plain;
-
-    #[test]
-    fn a_word_that_was_read_is_added_to(rt: HostRuntime) -> Result<(), Fail> {
-        let words = Vec::from_slice(rt.alloc(), &[40])?;
-        let mut plain = Plain::new(rt.alloc(), CounterShape, words);
-        let v = plain.read(0)?;
-        assert_eq!(rt; v, 40);
-        add_to(&mut plain, 0, 2)?;
-        assert_eq!(rt; plain.words(), [42].as_slice());
-        Ok(())
-    }
-}

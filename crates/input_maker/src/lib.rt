@@ -10,6 +10,3 @@ mod operations;
 mod scripts;
 
 pub use made::make_input;
-
-#[cfg(test)]
-mod tests;

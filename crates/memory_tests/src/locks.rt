@@ -1,67 +1,15 @@
-//! The worked rows of locks and values, and two threads at one desk.
+//! The worked rows of locks: a scan that meets a reader, and a reader that meets a writer.
 
-ghost use Rattle.std.specs.Prelude.{◌≡◌, ◌≢◌, ◌<◌, ℕ, [], ◌∷◌, length, IfOk};
-ghost use Rattle.history_model.specs.Sets.{has};
-ghost use Rattle.locks_rule.specs.Splits.{opening_view};
+ghost use Rattle.std.specs.Prelude.{◌≡◌, ◌≢◌, [], length};
 
-use history_model::{LOCKS, Phase, Shape};
+use crate::opening::{Wide, open_two, used};
+use history_model::{LOCKS, LockUse, Phase};
 use io_ends::OutOfMemory;
 use std::alloc::Global;
-use std::test::Fail;
-use std::thread;
-use std::thread::Threads;
 use word_table::{Claimed, Desk, Pass, Scanned, Shared};
 
-/// Any 1,030 words are good.
-#[derive(Clone, Copy)]
-struct AnyWords;
-
-impl Shape for AnyWords {
-    ghost use Rattle.std.specs.Prelude.{⊤};
-
-    ghost word_count = { λ _. 1030 };
-
-    ghost good = { λ _ _. ⊤ };
-}
-
-// A desk of 1,030 words, all 0, with one pass.
-fn open_one(alloc: Global) -> Result<(Desk<AnyWords>, Pass<AnyWords>), OutOfMemory>
-    ensures words { IfOk result (λ opened. length opened.0.base ≡ 1030) }
-    ensures pass { IfOk result
-        (λ opened. opened.1
-        ≡ record { table = opened.0.table; view = opening_view opened.0.base 1 (0 ∷ []) [] }) }
-{
-    let base = vec![in alloc; 0u64; 1030]?;
-    let (desk, mut passes) = Desk::new(alloc, AnyWords, base, 1)?;
-    let Some(pass) = passes.pop() else {
-        unreachable!()
-    };
-    Ok((desk, pass))
-}
-
-// A desk of 1,030 words, all 0, with two passes.
-fn open_two(alloc: Global) -> Result<(Desk<AnyWords>, Pass<AnyWords>, Pass<AnyWords>), OutOfMemory>
-    ensures words { IfOk result (λ opened. length opened.0.base ≡ 1030) }
-    ensures zero { IfOk result
-        (λ opened. opened.1
-        ≡ record { table = opened.0.table; view = opening_view opened.0.base 2 (0 ∷ []) [] }) }
-    ensures one { IfOk result
-        (λ opened. opened.2
-        ≡ record { table = opened.0.table; view = opening_view opened.0.base 2 (1 ∷ []) [] }) }
-{
-    let base = vec![in alloc; 0u64; 1030]?;
-    let (desk, mut passes) = Desk::new(alloc, AnyWords, base, 2)?;
-    let Some(one) = passes.pop() else {
-        unreachable!()
-    };
-    let Some(zero) = passes.pop() else {
-        unreachable!()
-    };
-    Ok((desk, zero, one))
-}
-
 // Clears all read bits.
-fn unshare_all<S: Shape>(desk: &Desk<S>, pass: &mut Pass<S>)
+fn unshare_all(desk: &Desk<Wide>, pass: &mut Pass<Wide>)
     requires desk { pass.old.table ≡ desk.now.table }
     requires undo { pass.old.view.undo ≡ [] }
     requires begun { pass.old.view.phase ≢ Phase.Idle }
@@ -79,38 +27,8 @@ fn unshare_all<S: Shape>(desk: &Desk<S>, pass: &mut Pass<S>)
     }
 }
 
-// Gives up all claims.
-fn unclaim_all<S: Shape>(desk: &Desk<S>, pass: &mut Pass<S>)
-    requires desk { pass.old.table ≡ desk.now.table }
-    requires undo { pass.old.view.undo ≡ [] }
-    requires begun { pass.old.view.phase ≢ Phase.Idle }
-    ensures begun { (pass.new.table ≡ desk.now.table) × (pass.new.view.undo ≡ [])
-        × (pass.new.view.phase ≢ Phase.Idle) }
-    ensures words { pass.new.view.base ≡ pass.old.view.base }
-{
-    let mut from = 0;
-    for _ in 0..LOCKS {
-        let Some(lock) = pass.next_claim_from(from) else {
-            return;
-        };
-        desk.unclaim(pass, lock);
-        from = lock;
-    }
-}
-
-// Begins the first call of a pass.
-fn begin(desk: &Desk<AnyWords>, pass: &mut Pass<AnyWords>) -> u32
-    requires desk { pass.old.table ≡ desk.now.table }
-    requires fresh { (pass.old.view.phase ≡ Phase.Idle) × (pass.old.view.call ≡ 0)
-        × (pass.old.view.undo ≡ []) }
-    ensures desk { pass.new.table ≡ desk.now.table }
-    ensures begun { (pass.new.view.undo ≡ []) × (pass.new.view.phase ≢ Phase.Idle) }
-    ensures words { pass.new.view.base ≡ pass.old.view.base }
-{
-    desk.begin(pass)
-}
-
-/// What a pass tells of lock 5, and of all its locks.
+// What a pass tells of lock 5, and of all its locks.
+#[derive(Clone, Copy)]
 enum Told {
     HasRead(bool),
     HasWrite(bool),
@@ -121,7 +39,7 @@ enum Told {
 }
 
 // Whether the pass tells this.
-fn is_told<S: Shape>(pass: &Pass<S>, told: &Told) -> bool {
+fn is_told(pass: &Pass<Wide>, told: &Told) -> bool {
     match *told {
         Told::HasRead(answer) => pass.has_read(5) == answer,
         Told::HasWrite(answer) => pass.has_write(5) == answer,
@@ -132,41 +50,28 @@ fn is_told<S: Shape>(pass: &Pass<S>, told: &Told) -> bool {
     }
 }
 
-/// A call of a desk for a pass, and what it answers.
+// A call of a desk for a pass, and what it answers.
+#[derive(Clone, Copy)]
 enum Call {
     Share(u64, Shared),
     Claim(u64, Claimed),
     // Scans the first seat that was not yet scanned, which is this, for the claim on lock 5.
     Scan(u32, Scanned),
     UnshareAll,
-    UnclaimAll,
+    // What is told of the use of lock 5, before and after word 5 is read, which has this value.
+    Load(Option<LockUse>, u64, Option<LockUse>),
     Tell(Told),
 }
 
-// Whether the call answers so. No more is said of it than that another may follow.
-fn is_answered(desk: &Desk<AnyWords>, pass: &mut Pass<AnyWords>, call: &Call) -> bool
+// Whether the call answers so, in an attempt. No more is said of it than that another may follow.
+fn is_taken(desk: &Desk<Wide>, pass: &mut Pass<Wide>, call: &Call) -> bool
     requires desk { pass.old.table ≡ desk.now.table }
-    requires begun { (pass.old.view.undo ≡ []) × (pass.old.view.phase ≢ Phase.Idle) }
+    requires begun { (pass.old.view.undo ≡ []) × (pass.old.view.phase ≡ Phase.Running) }
     requires words { length pass.old.view.base ≡ 1030 }
     ensures desk { pass.new.table ≡ desk.now.table }
     ensures begun { (pass.new.view.undo ≡ []) × (pass.new.view.phase ≢ Phase.Idle) }
     ensures words { length pass.new.view.base ≡ 1030 }
 {
-    match call {
-        Call::Tell(told) => return is_told(pass, told),
-        Call::UnshareAll => {
-            unshare_all(desk, pass);
-            return true;
-        }
-        Call::UnclaimAll => {
-            unclaim_all(desk, pass);
-            return true;
-        }
-        _ => {}
-    }
-    let Phase::Running = pass.phase() else {
-        return false;
-    };
     match *call {
         Call::Share(a, answer) => a < 1030 && desk.share(pass, a) == answer,
         Call::Claim(a, answer) => a < 1030 && desk.claim(pass, a) == answer,
@@ -176,12 +81,18 @@ fn is_answered(desk: &Desk<AnyWords>, pass: &mut Pass<AnyWords>, call: &Call) ->
             };
             other == seat && other != pass.who() && desk.scan(pass, 5, other) == answer
         }
+        Call::Load(before, value, after) => {
+            if !pass.has_read(5) || pass.use_of(5) != before {
+                return false;
+            }
+            desk.load(pass, 5) == value && pass.use_of(5) == after
+        }
         _ => false,
     }
 }
 
-// The number of the first call that answers otherwise, where they are made one after another.
-fn first_wrong(desk: &Desk<AnyWords>, pass: &mut Pass<AnyWords>, calls: &[Call]) -> Option<usize>
+// Whether the call answers so.
+fn is_answered(desk: &Desk<Wide>, pass: &mut Pass<Wide>, call: &Call) -> bool
     requires desk { pass.old.table ≡ desk.now.table }
     requires begun { (pass.old.view.undo ≡ []) × (pass.old.view.phase ≢ Phase.Idle) }
     requires words { length pass.old.view.base ≡ 1030 }
@@ -189,155 +100,78 @@ fn first_wrong(desk: &Desk<AnyWords>, pass: &mut Pass<AnyWords>, calls: &[Call])
     ensures begun { (pass.new.view.undo ≡ []) × (pass.new.view.phase ≢ Phase.Idle) }
     ensures words { length pass.new.view.base ≡ 1030 }
 {
-    for (number, call) in calls.iter().enumerate() {
-        if !is_answered(desk, pass, call) {
+    match call {
+        Call::Tell(told) => is_told(pass, told),
+        Call::UnshareAll => {
+            unshare_all(desk, pass);
+            true
+        }
+        _ => pass.phase() == Phase::Running && is_taken(desk, pass, call),
+    }
+}
+
+// The number of the first call that answers otherwise, where the passes make them by turns, each the one with its number.
+fn first_wrong(
+    desk: &Desk<Wide>,
+    zero: &mut Pass<Wide>,
+    one: &mut Pass<Wide>,
+    calls: &[(u32, Call)],
+) -> Option<usize>
+    requires desk { (zero.old.table ≡ desk.now.table) × (one.old.table ≡ desk.now.table) }
+    requires zero { (zero.old.view.undo ≡ []) × (zero.old.view.phase ≢ Phase.Idle) }
+    requires one { (one.old.view.undo ≡ []) × (one.old.view.phase ≢ Phase.Idle) }
+    requires words { (length zero.old.view.base ≡ 1030) × (length one.old.view.base ≡ 1030) }
+{
+    for (number, (seat, call)) in calls.iter().enumerate() {
+        let right = if *seat == 0 {
+            is_answered(desk, zero, call)
+        } else {
+            is_answered(desk, one, call)
+        };
+        if !right {
             return Some(number);
         }
     }
     None
 }
 
-#[test]
-fn a_claim_of_the_only_pass_is_an_exclusive_lock(rt: HostRuntime) -> Result<(), Fail> {
-    let (desk, mut pass) = open_one(rt.alloc())?;
-    let call = begin(&desk, &mut pass);
-    let calls = &[
-        Call::Tell(Told::HasWrite(false)),
-        Call::Claim(5, Claimed::Pending),
-        Call::Tell(Told::HasWrite(true)),
-        Call::Tell(Told::Unscanned(None)),
-        Call::Share(1029, Shared::Granted),
-        Call::Tell(Told::NextBit(None)),
-        Call::Tell(Told::NextClaim(Some(5))),
-        Call::UnclaimAll,
-        Call::Tell(Told::NextClaim(None)),
-        Call::Tell(Told::HasWrite(false)),
-        Call::Tell(Told::Phase(Phase::Releasing)),
-    ];
-    let wrong = first_wrong(&desk, &mut pass, calls);
-    assert_eq!(rt; (call, wrong), (1, None));
-    Ok(())
+// The same at a desk of 1,030 words, all 0, where both passes began a call.
+fn first_wrong_anew(alloc: Global, calls: &[(u32, Call)]) -> Result<Option<usize>, OutOfMemory> {
+    let base = vec![in alloc; 0u64; 1030]?;
+    let (desk, mut zero, mut one) = open_two(alloc, Wide, base)?;
+    let _ = desk.begin(&mut zero);
+    let _ = desk.begin(&mut one);
+    Ok(first_wrong(&desk, &mut zero, &mut one, calls))
 }
 
 #[test]
-fn scan_meets_a_reader(rt: HostRuntime) -> Result<(), Fail> {
-    let (desk, mut zero, mut one) = open_two(rt.alloc())?;
-    let _ = begin(&desk, &mut zero);
-    let _ = begin(&desk, &mut one);
-    let shares = &[
-        Call::Share(5, Shared::Granted),
-        Call::Tell(Told::HasRead(true)),
+fn scan_meets_a_reader_and_share_meets_a_writer(rt: HostRuntime) {
+    let reader = &[
+        (0, Call::Share(5, Shared::Granted)),
+        (0, Call::Tell(Told::HasRead(true))),
+        (0, Call::Load(None, 0, Some(used(5, 0, false)))),
+        (1, Call::Claim(1029, Claimed::Pending)),
+        (1, Call::Scan(0, Scanned::Met(0))),
+        (1, Call::Tell(Told::Unscanned(Some(0)))),
+        (1, Call::Tell(Told::HasWrite(false))),
+        (0, Call::UnshareAll),
+        (0, Call::Tell(Told::NextBit(None))),
+        (0, Call::Tell(Told::Phase(Phase::Releasing))),
+        (1, Call::Scan(0, Scanned::Clear)),
+        (1, Call::Tell(Told::HasWrite(true))),
+        // Who has the lock to write has it to read too.
+        (1, Call::Share(5, Shared::Granted)),
+        (1, Call::Tell(Told::NextBit(None))),
+        (1, Call::Tell(Told::NextClaim(Some(5)))),
     ];
-    let meets = &[
-        Call::Claim(1029, Claimed::Pending),
-        Call::Scan(0, Scanned::Met(0)),
-        Call::Tell(Told::Unscanned(Some(0))),
-        Call::Tell(Told::HasWrite(false)),
+    let wrong = first_wrong_anew(rt.alloc(), reader);
+    assert!(rt; matches!(wrong, Ok(None)));
+    let writer = &[
+        (1, Call::Claim(5, Claimed::Pending)),
+        (0, Call::Share(1029, Shared::Met(1))),
+        (0, Call::Tell(Told::HasRead(false))),
+        (0, Call::Tell(Told::NextBit(Some(5)))),
     ];
-    let releases = &[
-        Call::UnshareAll,
-        Call::Tell(Told::NextBit(None)),
-        Call::Tell(Told::Phase(Phase::Releasing)),
-    ];
-    let holds = &[
-        Call::Scan(0, Scanned::Clear),
-        Call::Tell(Told::HasWrite(true)),
-    ];
-    let wrong = (
-        first_wrong(&desk, &mut zero, shares),
-        first_wrong(&desk, &mut one, meets),
-        first_wrong(&desk, &mut zero, releases),
-        first_wrong(&desk, &mut one, holds),
-    );
-    assert_eq!(rt; wrong, (None, None, None, None));
-    Ok(())
-}
-
-#[test]
-fn share_meets_a_writer(rt: HostRuntime) -> Result<(), Fail> {
-    let (desk, mut zero, mut one) = open_two(rt.alloc())?;
-    let _ = begin(&desk, &mut zero);
-    let _ = begin(&desk, &mut one);
-    let claims = &[Call::Claim(5, Claimed::Pending)];
-    let meets = &[
-        Call::Share(1029, Shared::Met(1)),
-        Call::Tell(Told::HasRead(false)),
-        Call::Tell(Told::NextBit(Some(5))),
-    ];
-    let wrong = (
-        first_wrong(&desk, &mut one, claims),
-        first_wrong(&desk, &mut zero, meets),
-    );
-    assert_eq!(rt; wrong, (None, None));
-    Ok(())
-}
-
-// Shares the locks of two words, and clears the bits again.
-fn visit<S: Shape>(desk: &Desk<S>, mut pass: Pass<S>, a: u64, b: u64) -> (Shared, Shared)
-    requires desk { pass.table ≡ desk.now.table }
-    requires words { (a < length pass.view.base) × (b < length pass.view.base) }
-    requires fresh { (pass.view.phase ≡ Phase.Idle) × (pass.view.call ≡ 0) }
-{
-    let _ = desk.begin(&mut pass);
-    let first = desk.share(&mut pass, a);
-    let second = desk.share(&mut pass, b);
-    unshare_all(desk, &mut pass);
-    (first, second)
-}
-
-// Two threads, each with a pass: they share one lock, and each another.
-fn visit_together<S: Shape + Send + Sync, R: Threads + Sync>(
-    rt: &R,
-    desk: &Desk<S>,
-    zero: Pass<S>,
-    one: Pass<S>,
-) -> ((Shared, Shared), (Shared, Shared))
-    requires words { length desk.now.base ≡ 1030 }
-    requires zero { zero ≡ record {
-      table = desk.now.table;
-      view = opening_view desk.now.base 2
-          (0 ∷ []) [];
-    } }
-    requires one { one ≡ record {
-      table = desk.now.table;
-      view = opening_view desk.now.base 2
-          (1 ∷ []) [];
-    } }
-{
-    thread::join(
-        rt,
-        move || -> (Shared, Shared)
-            requires { (zero ≡ record {
-              table = desk.now.table;
-              view = opening_view desk.now.base 2
-                  (0 ∷ []) [];
-            }) × (length desk.now.base ≡ 1030) }
-        { visit(desk, zero, 5, 7) },
-        move || -> (Shared, Shared)
-            requires { (one ≡ record {
-              table = desk.now.table;
-              view = opening_view desk.now.base 2
-                  (1 ∷ []) [];
-            }) × (length desk.now.base ≡ 1030) }
-        { visit(desk, one, 1029, 9) },
-    )
-}
-
-// What two threads are answered at a desk of their own.
-fn visit_new_desk<R: Threads + Sync>(
-    rt: &R,
-    alloc: Global,
-) -> Result<((Shared, Shared), (Shared, Shared)), OutOfMemory> {
-    let (desk, zero, one) = open_two(alloc)?;
-    Ok(visit_together(rt, &desk, zero, one))
-}
-
-#[test]
-fn two_threads_share_and_release(rt: HostRuntime) -> Result<(), Fail> {
-    let granted = (Shared::Granted, Shared::Granted);
-    for _ in 0..100 {
-        let answers = visit_new_desk(&rt, rt.alloc())?;
-        assert_eq!(rt; answers, (granted, granted));
-    }
-    Ok(())
+    let wrong = first_wrong_anew(rt.alloc(), writer);
+    assert!(rt; matches!(wrong, Ok(None)));
 }

@@ -1,44 +1,51 @@
-//! The worked rows of transactions by one thread: two words of one lock, a note between two calls, a job that finds no
-//! memory, one that takes back what it wrote, and one that writes more words than the undo log has room for at first.
+//! The worked rows of transactions by one thread: two words of one lock, a job that finds no memory, one that takes back
+//! what it wrote, one that goes back to a mark, and writes for which the undo log has no room at first.
 
-ghost use Rattle.std.specs.Prelude.{◌≡◌, ◌<◌, [], ◌∷◌, None, length, IfOk, OnOk, OnErr};
+ghost use Rattle.std.specs.Prelude.{◌≡◌, ◌≤◌, None};
 ghost use Rattle.history_model.specs.declared.view.Phase.TheVariants.{Idle};
-ghost use Rattle.locks_rule.specs.Splits.{opening_view};
+ghost use Rattle.history_model.specs.Traces.{Begins};
 ghost use Rattle.txn_words.specs.Steps.{stop_after};
 
-use history_model::{LockUse, Phase, Shape};
+use crate::opening::{Wide, close_two, open_two};
+use history_model::LockUse;
 use io_ends::OutOfMemory;
 use std::alloc::Global;
 use std::sync::Wait;
-use std::test::Fail;
 use txn_commit::{Receipt, transact};
 use txn_words::{Job, Stop, Verdict, Words};
 use word_table::{Desk, Pass};
 use worker_gate::OpenGate;
 
-/// Any 1,030 words are good.
-#[derive(Clone, Copy)]
-pub(crate) struct Wide;
-
-impl Shape for Wide {
-    ghost use Rattle.std.specs.Prelude.{⊤};
-
-    ghost word_count = { λ _. 1030 };
-
-    ghost good = { λ _ _. ⊤ };
-}
-
-// What a job does: to two words that share a lock, or to the first 1,025 words.
+// What a job does, to words of which 5 and 1029 share a lock.
 enum Step {
     Write,
     Read,
     WriteAndFail,
     WriteAndRevert,
+    // Tries many writes and takes them back, between two that stand.
+    Try,
     WriteMany,
 }
 
-// Writes 1 into each of the first 1,025 words.
-fn write_many<W: Words<Shape = Wide>>(w: &mut W) -> Result<(), Stop>
+// Writes 1 into each of the words below this.
+fn write_below<W: Words<Shape = Wide>>(w: &mut W, end: u64) -> Result<(), Stop>
+    requires end { end ≤ 1030 }
+    requires going { W.stop w.old ≡ None }
+    requires sound { W.is_sound w.old }
+    ensures begins { Begins (W.trace w.old) (W.trace w.new) }
+    ensures stops { W.stop w.new ≡ stop_after result }
+    ensures shape { W.shape w.new ≡ W.shape w.old }
+    ensures origin { W.origin w.new ≡ W.origin w.old }
+    ensures sound { W.is_sound w.new }
+{
+    for a in 0..end {
+        w.write(a, 1)?;
+    }
+    Ok(())
+}
+
+// Writes a word, tries more writes than the undo log has room for at first and takes them back, and writes another word.
+fn try_many<W: Words<Shape = Wide>>(w: &mut W) -> Result<(), Stop>
     requires going { W.stop w.old ≡ None }
     requires sound { W.is_sound w.old }
     ensures stops { W.stop w.new ≡ stop_after result }
@@ -46,10 +53,12 @@ fn write_many<W: Words<Shape = Wide>>(w: &mut W) -> Result<(), Stop>
     ensures origin { W.origin w.new ≡ W.origin w.old }
     ensures sound { W.is_sound w.new }
 {
-    for a in 0..1_025 {
-        w.write(a, 1)?;
-    }
-    Ok(())
+    w.write(5, 5)?;
+    let mark = w.mark();
+    w.write(1029, 8)?;
+    write_below(w, 600)?;
+    w.back_to(mark)?;
+    w.write(1, 9)
 }
 
 impl Job for Step {
@@ -72,176 +81,148 @@ impl Job for Step {
             Step::Write => {
                 w.write(5, 5)?;
                 w.write(1029, 6)?;
-                Ok(Verdict::Keep(0))
             }
-            Step::Read => Ok(Verdict::Keep(w.read(5)?)),
+            Step::Read => return Ok(Verdict::Keep(w.read(5)?)),
             Step::WriteAndFail => {
                 w.write(5, 7)?;
-                Err(Stop::Memory)
+                return Err(Stop::Memory);
             }
             Step::WriteAndRevert => {
                 w.write(5, 7)?;
-                Ok(Verdict::Revert(0))
+                return Ok(Verdict::Revert(0));
             }
-            Step::WriteMany => {
-                write_many(w)?;
-                Ok(Verdict::Keep(0))
-            }
+            Step::Try => try_many(w)?,
+            Step::WriteMany => write_below(w, 1_025)?,
         }
+        Ok(Verdict::Keep(0))
     }
 }
 
-// A desk with 1,030 words, all 0, and two passes.
-pub(crate) fn open_wide(alloc: Global) -> Result<(Desk<Wide>, Pass<Wide>, Pass<Wide>), OutOfMemory>
-    ensures words { IfOk result (λ opened. length opened.0.base ≡ 1030) }
-    ensures seats { IfOk result (λ opened. opened.0.seats ≡ 2) }
-    ensures zero { IfOk result (λ opened. opened.1 ≡ record {
-      table = opened.0.table;
-      view = opening_view opened.0.base 2 (0 ∷ []) [];
-    }) }
-    ensures one { IfOk result (λ opened. opened.2 ≡ record {
-      table = opened.0.table;
-      view = opening_view opened.0.base 2 (1 ∷ []) [];
-    }) }
-{
-    let base = vec![in alloc; 0u64; 1030]?;
-    let (desk, mut passes) = Desk::new(alloc, Wide, base, 2)?;
-    let Some(one) = passes.pop() else {
-        unreachable!()
-    };
-    let Some(zero) = passes.pop() else {
-        unreachable!()
-    };
-    Ok((desk, zero, one))
-}
-
-// The words that a desk with these two passes leaves.
-pub(crate) fn close_two<S: Shape>(
-    alloc: Global,
-    desk: Desk<S>,
-    zero: Pass<S>,
-    one: Pass<S>,
-) -> Result<Vec<u64>, OutOfMemory>
-    requires seats { desk.seats ≡ 2 }
-    requires zero { (zero.table ≡ desk.table) × (zero.view.who ≡ 0 ∷ [])
-        × (zero.view.phase ≡ Idle) }
-    requires one { (one.table ≡ desk.table) × (one.view.who ≡ 1 ∷ []) × (one.view.phase ≡ Idle) }
-{
-    let passes = vec![in alloc; zero, one]?;
-    match desk.close(alloc, passes) {
-        Ok(closed) => Ok(closed.words().to_vec(alloc)?),
-        Err(_) => Err(OutOfMemory),
-    }
-}
-
-// One call of a pass whose next call is its first or its second.
-fn call<R: Wait>(
+// What a pass makes of these jobs, one after another: the receipt of each that found memory.
+fn make_calls<R: Wait>(
     rt: &R,
     alloc: Global,
     desk: &Desk<Wide>,
     pass: &mut Pass<Wide>,
-    job: &Step,
-) -> Result<Receipt<u64>, OutOfMemory>
+    steps: &[Step],
+) -> Result<Vec<Option<Receipt<u64>>>, OutOfMemory>
     requires desk { pass.old.table ≡ desk.now.table }
     requires idle { pass.old.view.phase ≡ Idle }
-    requires room { pass.old.view.call < 2 }
     ensures desk { pass.new.table ≡ desk.now.table }
     ensures idle { (pass.new.view.phase ≡ Idle) × (pass.new.view.who ≡ pass.old.view.who) }
-    ensures call { pass.old.view.call ≡ 0 → pass.new.view.call < 2 }
 {
-    transact(rt, alloc, desk, pass, job, &OpenGate)
-}
-
-// The use of a lock at this version.
-pub(crate) fn used(lock: u32, version: u64, wrote: bool) -> LockUse {
-    LockUse {
-        lock,
-        version,
-        wrote,
+    let mut ended = Vec::new(alloc);
+    for step in steps {
+        if pass.calls_left() > 0 {
+            ended.push(transact(rt, alloc, desk, pass, step, &OpenGate).ok())?;
+        }
     }
+    Ok(ended)
 }
 
-#[test]
-fn two_words_of_one_lock_are_written_in_one_call(rt: HostRuntime) -> Result<(), Fail> {
-    let (desk, mut zero, one) = open_wide(rt.alloc())?;
-    let receipt = call(&rt, rt.alloc(), &desk, &mut zero, &Step::Write)?;
-    let words = close_two(rt.alloc(), desk, zero, one)?;
-    assert_eq!(rt; (receipt.call, receipt.restarts), (1, 0));
-    assert_eq!(rt; receipt.uses.as_slice(), [used(5, 0, true)].as_slice());
-    let written = words.iter().filter(|word| **word != 0).count();
-    assert_eq!(rt;
-        (words.get(5), words.get(1029), written),
-        (Some(&5), Some(&6), 2)
-    );
-    Ok(())
-}
-
-#[test]
-fn a_pass_that_was_told_of_a_call_reads_what_it_wrote(rt: HostRuntime) -> Result<(), Fail> {
-    let (desk, mut zero, mut one) = open_wide(rt.alloc())?;
-    let _ = call(&rt, rt.alloc(), &desk, &mut zero, &Step::Write)?;
-    let note = desk.note(&mut zero);
-    desk.meet(&mut one, note);
-    let read = call(&rt, rt.alloc(), &desk, &mut one, &Step::Read)?;
-    assert_eq!(rt; read.answer, 5);
-    assert_eq!(rt; read.uses.as_slice(), [used(5, 1, false)].as_slice());
-    Ok(())
-}
-
-#[test]
-fn job_out_of_memory_leaves_an_idle_pass(rt: HostRuntime) -> Result<(), Fail> {
-    let (desk, mut zero, one) = open_wide(rt.alloc())?;
-    let failed = call(&rt, rt.alloc(), &desk, &mut zero, &Step::WriteAndFail).is_err();
-    let idle = zero.phase() == Phase::Idle;
-    let read = call(&rt, rt.alloc(), &desk, &mut zero, &Step::Read)?;
-    let words = close_two(rt.alloc(), desk, zero, one)?;
-    assert!(rt; failed && idle);
-    assert_eq!(rt; (read.call, read.restarts, read.answer), (2, 0, 0));
-    assert!(rt; words.iter().all(|word| *word == 0));
-    Ok(())
-}
-
-// It has its entry and its uses; and who reads the word finds it as it was, at the version as it was.
-#[test]
-fn a_call_that_reverts_has_uses_that_did_not_write(rt: HostRuntime) -> Result<(), Fail> {
-    let (desk, mut zero, _one) = open_wide(rt.alloc())?;
-    let reverted = call(&rt, rt.alloc(), &desk, &mut zero, &Step::WriteAndRevert)?;
-    let read = call(&rt, rt.alloc(), &desk, &mut zero, &Step::Read)?;
-    assert_eq!(rt; (reverted.call, read.call, read.answer), (1, 2, 0));
-    assert_eq!(rt; reverted.uses.as_slice(), [used(5, 0, false)].as_slice());
-    assert_eq!(rt; read.uses.as_slice(), [used(5, 0, false)].as_slice());
-    Ok(())
-}
-
-#[test]
-fn undo_log_grows_past_its_reserve(rt: HostRuntime) -> Result<(), Fail> {
-    let (desk, mut zero, one) = open_wide(rt.alloc())?;
-    let receipt = call(&rt, rt.alloc(), &desk, &mut zero, &Step::WriteMany)?;
-    let words = close_two(rt.alloc(), desk, zero, one)?;
-    assert_eq!(rt; (receipt.call, receipt.restarts), (1, 0));
-    for (a, word) in words.iter().enumerate() {
-        assert_eq!(rt; *word, if a < 1_025 { 1 } else { 0 }, "word {a}");
-    }
-    Ok(())
-}
-
-// Two words of one lock are written in one call, and the table is closed: whether all of it is as it must be. Where the
-// call finds no memory, it has no entry and left no word.
-fn is_written_or_not(rt: &impl Wait, alloc: Global) -> Result<bool, OutOfMemory> {
-    let (desk, mut zero, one) = open_wide(alloc)?;
-    let ended = call(rt, alloc, &desk, &mut zero, &Step::Write);
-    let idle = zero.phase() == Phase::Idle;
+// The same at a desk of 1,030 words, all 0, with the words that it leaves.
+fn run_steps<R: Wait>(
+    rt: &R,
+    alloc: Global,
+    steps: &[Step],
+) -> Result<(Vec<Option<Receipt<u64>>>, Vec<u64>), OutOfMemory> {
+    let base = vec![in alloc; 0u64; 1030]?;
+    let (desk, mut zero, one) = open_two(alloc, Wide, base)?;
+    let ended = make_calls(rt, alloc, &desk, &mut zero, steps)?;
     let words = close_two(alloc, desk, zero, one)?;
-    let written = words.iter().filter(|word| **word != 0).count();
-    Ok(
-        idle && match ended {
-            Ok(receipt) => {
-                (receipt.call, receipt.restarts) == (1, 0)
-                    && (words.get(5), words.get(1029), written) == (Some(&5), Some(&6), 2)
+    Ok((ended, words))
+}
+
+// What a call is to tell: its number, its answer, and the locks that it used, where they are few.
+#[derive(Clone, Copy)]
+struct Told<'a> {
+    call: u32,
+    answer: u64,
+    uses: Option<&'a [LockUse]>,
+}
+
+// Whether a call told this, without a restart; or found no memory, where it is to tell nothing.
+fn is_told(ended: &Option<Receipt<u64>>, wanted: &Option<Told<'_>>) -> bool {
+    match (ended, wanted) {
+        (None, None) => true,
+        (Some(receipt), Some(told)) => {
+            let same = match told.uses {
+                None => true,
+                Some(uses) => receipt.uses.as_slice() == uses,
+            };
+            same && (receipt.call, receipt.restarts, receipt.answer) == (told.call, 0, told.answer)
+        }
+        _ => false,
+    }
+}
+
+// Whether each call told what it was to tell.
+fn are_told(ended: &[Option<Receipt<u64>>], wanted: &[Option<Told<'_>>]) -> bool {
+    ended.len() == wanted.len() && ended.iter().zip(wanted).all(|(e, w)| is_told(e, w))
+}
+
+// Whether the words from the first to before the second place hold the value, of each row, and all others 0.
+fn are_left(words: &[u64], rows: &[(usize, usize, u64)]) -> bool {
+    for (a, word) in words.iter().enumerate() {
+        let mut value = 0;
+        for (from, to, left) in rows {
+            if *from <= a && a < *to {
+                value = *left;
             }
-            Err(OutOfMemory) => written == 0,
-        },
-    )
+        }
+        if *word != value {
+            return false;
+        }
+    }
+    true
+}
+
+// Whether the calls tell what they are to tell, and the words that are left are these.
+fn end_so<R: Wait>(
+    rt: &R,
+    alloc: Global,
+    steps: &[Step],
+    wanted: &[Option<Told<'_>>],
+    rows: &[(usize, usize, u64)],
+) -> Result<bool, OutOfMemory> {
+    let (ended, words) = run_steps(rt, alloc, steps)?;
+    Ok(are_told(ended.as_slice(), wanted) && are_left(words.as_slice(), rows))
+}
+
+// Lock 5 as it was at first: with a write that stands, and without one.
+const WROTE: LockUse = LockUse {
+    lock: 5,
+    version: 0,
+    wrote: true,
+};
+
+const LOOKED: LockUse = LockUse {
+    lock: 5,
+    version: 0,
+    wrote: false,
+};
+
+// What the call that writes two words of one lock tells, and what it leaves.
+const TWO: &[Option<Told<'_>>] = &[Some(Told {
+    call: 1,
+    answer: 0,
+    uses: Some(&[WROTE]),
+})];
+
+const TWO_LEFT: &[(usize, usize, u64)] = &[(5, 6, 5), (1029, 1030, 6)];
+
+#[test]
+fn two_words_of_one_lock_in_one_transaction(rt: HostRuntime) {
+    let ended = end_so(&rt, rt.alloc(), &[Step::Write], TWO, TWO_LEFT);
+    assert!(rt; matches!(ended, Ok(true)));
+}
+
+// Where the call finds no memory, it has no entry and left no word.
+fn is_written_or_not<R: Wait>(rt: &R, alloc: Global) -> Result<bool, OutOfMemory> {
+    let (ended, words) = run_steps(rt, alloc, &[Step::Write])?;
+    let written = are_told(ended.as_slice(), TWO) && are_left(words.as_slice(), TWO_LEFT);
+    let refused = are_told(ended.as_slice(), &[None]) && are_left(words.as_slice(), &[]);
+    Ok(written || refused)
 }
 
 // It is run with each allocation refused in turn, too.
@@ -249,4 +230,47 @@ fn is_written_or_not(rt: &impl Wait, alloc: Global) -> Result<bool, OutOfMemory>
 fn two_words_are_written_or_no_memory_is_found(rt: HostRuntime) {
     let ended = is_written_or_not(&rt, rt.alloc());
     assert!(rt; matches!(ended, Ok(true) | Err(OutOfMemory)));
+}
+
+// What a second call tells that reads a word as it was at first.
+const READS: Option<Told<'_>> = Some(Told {
+    call: 2,
+    answer: 0,
+    uses: Some(&[LOOKED]),
+});
+
+#[test]
+fn job_out_of_memory_leaves_an_idle_pass(rt: HostRuntime) {
+    let steps = &[Step::WriteAndFail, Step::Read];
+    let ended = end_so(&rt, rt.alloc(), steps, &[None, READS], &[]);
+    assert!(rt; matches!(ended, Ok(true)));
+}
+
+// What a first call tells that uses more locks than are looked at.
+const MANY: &[Option<Told<'_>>] = &[Some(Told {
+    call: 1,
+    answer: 0,
+    uses: None,
+})];
+
+#[test]
+fn undo_log_grows_past_its_reserve(rt: HostRuntime) {
+    let ended = end_so(&rt, rt.alloc(), &[Step::WriteMany], MANY, &[(0, 1_025, 1)]);
+    assert!(rt; matches!(ended, Ok(true)));
+}
+
+// What a job goes back from, and what it reverts whole. That has its entry and its uses, and who reads the word finds
+// it as it was, at the version as it was.
+#[test]
+fn what_was_tried_is_taken_back(rt: HostRuntime) {
+    let tried = end_so(&rt, rt.alloc(), &[Step::Try], MANY, &[(1, 2, 9), (5, 6, 5)]);
+    assert!(rt; matches!(tried, Ok(true)));
+    let steps = &[Step::WriteAndRevert, Step::Read];
+    let told = Some(Told {
+        call: 1,
+        answer: 0,
+        uses: Some(&[LOOKED]),
+    });
+    let reverted = end_so(&rt, rt.alloc(), steps, &[told, READS], &[]);
+    assert!(rt; matches!(reverted, Ok(true)));
 }

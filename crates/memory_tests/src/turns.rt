@@ -1,51 +1,18 @@
 //! The worked row of asking for locks: who is granted, who waits, and who gives way.
 
-ghost use Rattle.std.specs.Prelude.{◌≡◌, ◌<◌, ◌+◌, ℕ, [], ◌∷◌, ◌++◌, length, List, Some, IfOk, IfSome, OnSome, IsTrue};
+ghost use Rattle.std.specs.Prelude.{◌≡◌, ◌<◌, ◌+◌, ℕ, [], ◌∷◌, ◌++◌, length, List, Some, IfSome, OnSome, IsTrue};
 ghost use Rattle.history_model.specs.declared.entry.Entry.{Entry};
 ghost use Rattle.history_model.specs.Views.{HasBit, HasClaim};
 ghost use Rattle.locks_rule.specs.Splits.{opening_view};
 ghost use Rattle.stamps_rule.specs.Causes.{newest, past_causes};
 
-use history_model::{Cause, Phase, Shape};
+use crate::opening::{Pair, open_two};
+use history_model::{Cause, Phase};
 use io_ends::OutOfMemory;
-use lock_or_yield::{Tried, try_write};
+use lock_or_yield::{Got, Tried, try_read, try_write, want_read, want_write};
 use std::alloc::Global;
-use std::test::Fail;
+use std::sync::Wait;
 use word_table::{Desk, Pass};
-
-/// Any two words are good.
-#[derive(Clone, Copy)]
-pub(crate) struct Pair;
-
-impl Shape for Pair {
-    ghost use Rattle.std.specs.Prelude.{⊤};
-
-    ghost word_count = { λ _. 2 };
-
-    ghost good = { λ _ _. ⊤ };
-}
-
-// A desk of two words with two passes.
-pub(crate) fn open_pair(alloc: Global) -> Result<(Desk<Pair>, Pass<Pair>, Pass<Pair>), OutOfMemory>
-    ensures words { IfOk result (λ opened. length opened.0.base ≡ 2) }
-    ensures seats { IfOk result (λ opened. opened.0.seats ≡ 2) }
-    ensures zero { IfOk result
-        (λ opened. opened.1
-        ≡ record { table = opened.0.table; view = opening_view opened.0.base 2 (0 ∷ []) [] }) }
-    ensures one { IfOk result
-        (λ opened. opened.2
-        ≡ record { table = opened.0.table; view = opening_view opened.0.base 2 (1 ∷ []) [] }) }
-{
-    let base = vec![in alloc; 0u64, 0]?;
-    let (desk, mut passes) = Desk::new(alloc, Pair, base, 2)?;
-    let Some(one) = passes.pop() else {
-        unreachable!()
-    };
-    let Some(zero) = passes.pop() else {
-        unreachable!()
-    };
-    Ok((desk, zero, one))
-}
 
 // A turn of asking to write.
 fn ask(desk: &Desk<Pair>, pass: &mut Pass<Pair>, a: u64) -> Tried
@@ -235,11 +202,45 @@ fn cross(
     Some((other, cause, stamps))
 }
 
-#[test]
-fn the_earlier_call_waits_and_the_later_gives_way(rt: HostRuntime) -> Result<(), Fail> {
-    let (desk, mut zero, mut one) = open_pair(rt.alloc())?;
+// Whether the first waits for the second, and the second gives way to the first and keeps its timestamp.
+fn is_crossed(alloc: Global) -> Result<bool, OutOfMemory> {
+    let base = vec![in alloc; 0u64, 0]?;
+    let (desk, mut zero, mut one) = open_two(alloc, Pair, base)?;
     let crossed = cross(&desk, &mut zero, &mut one);
     let cause = Cause { seat: 0, stamp: 1 };
-    assert_eq!(rt; (crossed, one.stamp()), (Some((1, cause, (1, 2))), 2));
-    Ok(())
+    Ok(crossed == Some((1, cause, (1, 2))) && one.stamp() == 2)
+}
+
+#[test]
+fn older_waits_and_younger_gives_way(rt: HostRuntime) {
+    assert!(rt; matches!(is_crossed(rt.alloc()), Ok(true)));
+}
+
+// A call that asks for word 0 to read it, twice, and then for word 1 to write it: whether all is granted.
+fn has_free<R: Wait>(rt: &R, desk: &Desk<Pair>, pass: &mut Pass<Pair>) -> bool
+    requires desk { pass.old.table ≡ desk.now.table }
+    requires words { length pass.old.view.base ≡ 2 }
+    requires fresh { (pass.old.view.phase ≡ Phase.Idle) × (pass.old.view.met ≡ []) }
+    requires room { pass.old.view.call ≡ 0 }
+{
+    let _ = desk.begin(pass);
+    let Tried::Granted = try_read(desk, pass, 0) else {
+        return false;
+    };
+    let Got::Granted = want_read(rt, desk, pass, 0) else {
+        return false;
+    };
+    matches!(want_write(rt, desk, pass, 1), Got::Granted)
+}
+
+// Whether all is granted to the only call of a desk, and it has no timestamp then.
+fn is_granted<R: Wait>(rt: &R, alloc: Global) -> Result<bool, OutOfMemory> {
+    let base = vec![in alloc; 0u64, 0]?;
+    let (desk, mut zero, _) = open_two(alloc, Pair, base)?;
+    Ok(has_free(rt, &desk, &mut zero) && zero.stamp() == 0)
+}
+
+#[test]
+fn locks_that_nobody_has_are_granted_without_a_timestamp(rt: HostRuntime) {
+    assert!(rt; matches!(is_granted(&rt, rt.alloc()), Ok(true)));
 }

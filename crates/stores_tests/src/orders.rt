@@ -10,18 +10,15 @@ ghost use Rattle.order_match.specs.Standing.{IsGoodFor};
 
 use books_model::limits::{GREATEST_PRICE, GREATEST_QUANTITY, MOST_OPERATIONS};
 use io_ends::OutOfMemory;
-use order_match::closing::orders_of_words;
 use order_match::lay::empty_words;
 use order_match::on_plain::run_on_plain;
 use order_match::shape::OrderShape;
 use order_text::limits::GREATEST_ORDER;
 use order_text::{
-    Book, OrderOp, OrderReply, OrderScript, OrderValue, OrderValues, Resting, Trade, Trades,
-    run_plain,
+    Book, OrderOp, OrderReply, OrderScript, OrderValue, OrderValues, Trade, Trades, run_plain,
 };
 use std::alloc::Global;
 use std::process::Abort;
-use std::test::Fail;
 
 // What an operation is to tell.
 #[derive(Clone, Copy)]
@@ -155,157 +152,130 @@ fn both_reply(
     Ok(is_reply(&reply, row.1) && is_reply(&beside, row.1))
 }
 
-/// Two instruments, whose orders never meet. Orders trade by price and then by arrival, in part at both ends; one
-/// empties the other side and rests; prices are the least and the greatest; an order is taken out; and three orders fill
-/// the book, in which room is judged after the trades.
-#[test]
-fn scripts_reply_by_hand_on_words_too(rt: HostRuntime) -> Result<(), Fail> {
-    let alloc = rt.alloc();
+// Two instruments, whose orders never meet. Orders trade by price and then by arrival, in part at both ends; one
+// empties the other side and rests; prices are the least and the greatest; an order is taken out; and three orders fill
+// the book, in which room is judged after the trades.
+const ROWS: &[(&[OrderOp], WantReply<'_>)] = &[
+    (&[], WantReply::Done(&[])),
+    (
+        &[OrderOp::Best(1), OrderOp::Cancel(1)],
+        WantReply::Declined(2),
+    ),
+    // Sells at 10, 9 and 9 again: the lowest price first, and of one price the first that came.
+    (
+        &[
+            OrderOp::Sell(1, 10, 5),
+            OrderOp::Sell(1, 9, 2),
+            OrderOp::Sell(1, 9, 4),
+        ],
+        WantReply::Done(&[
+            Want::Entered(1, &[]),
+            Want::Entered(2, &[]),
+            Want::Entered(3, &[]),
+        ]),
+    ),
+    (
+        &[OrderOp::Buy(1, 10, 7), OrderOp::Best(1), OrderOp::Best(2)],
+        WantReply::Done(&[
+            Want::Entered(4, &[(2, 9, 2), (3, 9, 4), (1, 10, 1)]),
+            Want::Prices(0, 10),
+            Want::Prices(0, 0),
+        ]),
+    ),
+    // What is left of a buy that empties the other side rests; orders of another instrument do not trade with it.
+    (
+        &[
+            OrderOp::Buy(1, 12, 6),
+            OrderOp::Sell(2, GREATEST_PRICE, GREATEST_QUANTITY),
+            OrderOp::Buy(2, 1, 1),
+            OrderOp::Best(1),
+            OrderOp::Best(2),
+        ],
+        WantReply::Done(&[
+            Want::Entered(5, &[(1, 10, 4)]),
+            Want::Entered(6, &[]),
+            Want::Entered(7, &[]),
+            Want::Prices(12, 0),
+            Want::Prices(1, GREATEST_PRICE),
+        ]),
+    ),
+    // Three orders have six of seven blocks, and one is no room for an order more.
+    (
+        &[OrderOp::Sell(1, 13, 1), OrderOp::Best(1)],
+        WantReply::Full(1),
+    ),
+    // But an order that is filled needs none, and one that fills another has its room.
+    (
+        &[
+            OrderOp::Sell(1, 12, 1),
+            OrderOp::Sell(1, 11, 3),
+            OrderOp::Best(1),
+        ],
+        WantReply::Done(&[
+            Want::Entered(8, &[(5, 12, 1)]),
+            Want::Entered(9, &[(5, 12, 1)]),
+            Want::Prices(0, 11),
+        ]),
+    ),
+    // A refused script takes no number and changes nothing.
+    (
+        &[
+            OrderOp::Cancel(9),
+            OrderOp::Sell(1, 1, 1),
+            OrderOp::Cancel(9),
+        ],
+        WantReply::Declined(3),
+    ),
+    // The highest price of buys first.
+    (
+        &[
+            OrderOp::Cancel(9),
+            OrderOp::Buy(2, 3, 5),
+            OrderOp::Sell(2, 1, 6),
+            OrderOp::Best(2),
+            OrderOp::Cancel(6),
+        ],
+        WantReply::Done(&[
+            Want::Cancelled(2),
+            Want::Entered(10, &[]),
+            Want::Entered(11, &[(10, 3, 5), (7, 1, 1)]),
+            Want::Prices(0, GREATEST_PRICE),
+            Want::Cancelled(GREATEST_QUANTITY),
+        ]),
+    ),
+];
+
+// The number of the first row to which words and the plain interpreter do not both reply so.
+fn first_wrong(
+    rt: &impl Abort,
+    alloc: Global,
+    shape: &OrderShape,
+    words: &mut Vec<u64>,
+    book: &mut Book,
+) -> Result<Option<usize>, OutOfMemory>
+    requires good { IsGood (words_of shape.now) (IsGoodFor shape.now) words.old.items }
+{
+    for (number, row) in ROWS.iter().enumerate() {
+        if !both_reply(rt, alloc, shape, words, book, *row)? {
+            return Ok(Some(number));
+        }
+    }
+    Ok(None)
+}
+
+// The same, from no order on.
+fn first_wrong_anew(rt: &impl Abort, alloc: Global) -> Result<Option<usize>, OutOfMemory> {
     let shape = OrderShape {
         blocks: 7,
         instruments: 2,
     };
     let mut words = empty_words(alloc, &shape)?;
     let mut book = Book::new(alloc, 7);
-    let rows: &[(&[OrderOp], WantReply<'_>)] = &[
-        (&[], WantReply::Done(&[])),
-        (
-            &[OrderOp::Best(1), OrderOp::Cancel(1)],
-            WantReply::Declined(2),
-        ),
-        // Sells at 10, 9 and 9 again: the lowest price first, and of one price the first that came.
-        (
-            &[
-                OrderOp::Sell(1, 10, 5),
-                OrderOp::Sell(1, 9, 2),
-                OrderOp::Sell(1, 9, 4),
-            ],
-            WantReply::Done(&[
-                Want::Entered(1, &[]),
-                Want::Entered(2, &[]),
-                Want::Entered(3, &[]),
-            ]),
-        ),
-        (
-            &[OrderOp::Buy(1, 10, 7), OrderOp::Best(1), OrderOp::Best(2)],
-            WantReply::Done(&[
-                Want::Entered(4, &[(2, 9, 2), (3, 9, 4), (1, 10, 1)]),
-                Want::Prices(0, 10),
-                Want::Prices(0, 0),
-            ]),
-        ),
-        // What is left of a buy that empties the other side rests; orders of another instrument do not trade with it.
-        (
-            &[
-                OrderOp::Buy(1, 12, 6),
-                OrderOp::Sell(2, GREATEST_PRICE, GREATEST_QUANTITY),
-                OrderOp::Buy(2, 1, 1),
-                OrderOp::Best(1),
-                OrderOp::Best(2),
-            ],
-            WantReply::Done(&[
-                Want::Entered(5, &[(1, 10, 4)]),
-                Want::Entered(6, &[]),
-                Want::Entered(7, &[]),
-                Want::Prices(12, 0),
-                Want::Prices(1, GREATEST_PRICE),
-            ]),
-        ),
-        // Three orders have six of seven blocks, and one is no room for an order more.
-        (
-            &[OrderOp::Sell(1, 13, 1), OrderOp::Best(1)],
-            WantReply::Full(1),
-        ),
-        // But an order that is filled needs none, and one that fills another has its room.
-        (
-            &[
-                OrderOp::Sell(1, 12, 1),
-                OrderOp::Sell(1, 11, 3),
-                OrderOp::Best(1),
-            ],
-            WantReply::Done(&[
-                Want::Entered(8, &[(5, 12, 1)]),
-                Want::Entered(9, &[(5, 12, 1)]),
-                Want::Prices(0, 11),
-            ]),
-        ),
-        // A refused script takes no number and changes nothing.
-        (
-            &[
-                OrderOp::Cancel(9),
-                OrderOp::Sell(1, 1, 1),
-                OrderOp::Cancel(9),
-            ],
-            WantReply::Declined(3),
-        ),
-        // The highest price of buys first.
-        (
-            &[
-                OrderOp::Cancel(9),
-                OrderOp::Buy(2, 3, 5),
-                OrderOp::Sell(2, 1, 6),
-                OrderOp::Best(2),
-                OrderOp::Cancel(6),
-            ],
-            WantReply::Done(&[
-                Want::Cancelled(2),
-                Want::Entered(10, &[]),
-                Want::Entered(11, &[(10, 3, 5), (7, 1, 1)]),
-                Want::Prices(0, GREATEST_PRICE),
-                Want::Cancelled(GREATEST_QUANTITY),
-            ]),
-        ),
-    ];
-    for row in rows {
-        assert!(rt; both_reply(&rt, alloc, &shape, &mut words, &mut book, *row)?);
-    }
-    Ok(())
+    first_wrong(rt, alloc, &shape, &mut words, &mut book)
 }
 
-/// Of four orders the first was taken out, and the last traded at once. A buy rests, and what is left of a sell.
 #[test]
-fn orders_that_rest_are_told_by_number(rt: HostRuntime) -> Result<(), Fail> {
-    let alloc = rt.alloc();
-    let shape = OrderShape {
-        blocks: 6,
-        instruments: 2,
-    };
-    let mut words = empty_words(alloc, &shape)?;
-    let mut book = Book::new(alloc, 6);
-    let row: (&[OrderOp], WantReply<'_>) = (
-        &[
-            OrderOp::Sell(1, 10, 5),
-            OrderOp::Buy(2, 9, 2),
-            OrderOp::Sell(1, 11, 3),
-            OrderOp::Cancel(1),
-            OrderOp::Buy(1, 12, 1),
-        ],
-        WantReply::Done(&[
-            Want::Entered(1, &[]),
-            Want::Entered(2, &[]),
-            Want::Entered(3, &[]),
-            Want::Cancelled(5),
-            Want::Entered(4, &[(3, 11, 1)]),
-        ]),
-    );
-    assert!(rt; both_reply(&rt, alloc, &shape, &mut words, &mut book, row)?);
-    let orders = orders_of_words(alloc, &shape, &words)?;
-    let wanted = &[
-        Resting {
-            number: 2,
-            instrument: 2,
-            buys: true,
-            price: 9,
-            quantity: 2,
-        },
-        Resting {
-            number: 3,
-            instrument: 1,
-            buys: false,
-            price: 11,
-            quantity: 2,
-        },
-    ];
-    assert!(rt; orders.as_slice() == wanted.as_slice());
-    Ok(())
+fn scripts_reply_by_hand_on_words_too(rt: HostRuntime) {
+    let wrong = first_wrong_anew(&rt, rt.alloc());
+    assert!(rt; matches!(wrong, Ok(None)));
 }

@@ -17,7 +17,6 @@ use record_text::{
 };
 use std::alloc::Global;
 use std::process::Abort;
-use std::test::Fail;
 use txn_records::lay::empty_words;
 use txn_records::on_plain::run_on_plain;
 use txn_records::shape::RecordShape;
@@ -135,113 +134,134 @@ fn both_reply(
     Ok(is_reply(&reply, row.1) && is_reply(&beside, row.1))
 }
 
-/// Four records take eight of nine blocks. Ranks tie, records move in the index, stay where they are, and go;
-/// identifiers, ranks and data are the greatest; a fifth record finds one block and not two.
-#[test]
-fn scripts_reply_by_hand_on_words_too(rt: HostRuntime) -> Result<(), Fail> {
-    let alloc = rt.alloc();
+// Four records take eight of nine blocks. Ranks tie, records move in the index, stay where they are, and go;
+// identifiers, ranks and data are the greatest; a fifth record finds one block and not two.
+const ROWS: &[(&[RecordOp], WantReply<'_>)] = &[
+    (&[], WantReply::Done(&[])),
+    (&[RecordOp::Find(9)], WantReply::Declined(1)),
+    (
+        &[RecordOp::Ranked(1, 16)],
+        WantReply::Done(&[Want::Ids(&[])]),
+    ),
+    // Ties of rank go by identifier, and a rank that is asked for need not be there.
+    (
+        &[
+            RecordOp::Put(3, 5, 30),
+            RecordOp::Put(1, 5, 10),
+            RecordOp::Put(2, 4, 20),
+            RecordOp::Ranked(5, 16),
+            RecordOp::Ranked(3, 2),
+            RecordOp::Ranked(6, 1),
+        ],
+        WantReply::Done(&[
+            Want::New,
+            Want::New,
+            Want::New,
+            Want::Ids(&[1, 3]),
+            Want::Ids(&[2, 1]),
+            Want::Ids(&[]),
+        ]),
+    ),
+    // The greatest key of the index has none behind it.
+    (
+        &[
+            RecordOp::Put(GREATEST_ID, GREATEST_RANK, GREATEST_DATA),
+            RecordOp::Ranked(GREATEST_RANK, 16),
+            RecordOp::Ranked(1, 16),
+            RecordOp::Find(GREATEST_ID),
+        ],
+        WantReply::Done(&[
+            Want::New,
+            Want::Ids(&[GREATEST_ID]),
+            Want::Ids(&[2, 1, 3, GREATEST_ID]),
+            Want::Found(GREATEST_RANK, GREATEST_DATA),
+        ]),
+    ),
+    // One block is left of nine: it is no room for a record more, but for none that is there.
+    (
+        &[
+            RecordOp::Remove(1),
+            RecordOp::Put(4, 1, 0),
+            RecordOp::Put(5, 1, 0),
+        ],
+        WantReply::Full(3),
+    ),
+    (
+        &[RecordOp::Ranked(1, 3), RecordOp::Put(5, 1, 0)],
+        WantReply::Full(2),
+    ),
+    (
+        &[
+            RecordOp::Put(3, 5, 31),
+            RecordOp::Find(3),
+            RecordOp::Put(3, 9, 32),
+            RecordOp::Put(1, 1, 0),
+            RecordOp::Ranked(1, 16),
+        ],
+        WantReply::Done(&[
+            Want::Old,
+            Want::Found(5, 31),
+            Want::Old,
+            Want::Old,
+            Want::Ids(&[1, 2, 3, GREATEST_ID]),
+        ]),
+    ),
+    // What a refused script did does not count.
+    (
+        &[
+            RecordOp::Put(3, 1, 1),
+            RecordOp::Remove(2),
+            RecordOp::Find(2),
+        ],
+        WantReply::Declined(3),
+    ),
+    (
+        &[
+            RecordOp::Find(3),
+            RecordOp::Remove(3),
+            RecordOp::Ranked(4, 16),
+            RecordOp::Put(4, 4, 40),
+            RecordOp::Ranked(4, 16),
+        ],
+        WantReply::Done(&[
+            Want::Found(9, 32),
+            Want::Gone,
+            Want::Ids(&[2, GREATEST_ID]),
+            Want::New,
+            Want::Ids(&[2, 4, GREATEST_ID]),
+        ]),
+    ),
+    (&[RecordOp::Remove(3)], WantReply::Declined(1)),
+];
+
+// The number of the first row to which words and the plain interpreter do not both reply so.
+fn first_wrong(
+    rt: &impl Abort,
+    alloc: Global,
+    shape: &RecordShape,
+    words: &mut Vec<u64>,
+    store: &mut Store,
+) -> Result<Option<usize>, OutOfMemory>
+    requires good { IsGood (words_of shape.now) (IsGoodFor shape.now) words.old.items }
+{
+    for (number, row) in ROWS.iter().enumerate() {
+        if !both_reply(rt, alloc, shape, words, store, *row)? {
+            return Ok(Some(number));
+        }
+    }
+    Ok(None)
+}
+
+// The same, from no record on.
+fn first_wrong_anew(rt: &impl Abort, alloc: Global) -> Result<Option<usize>, OutOfMemory> {
     let shape = RecordShape { blocks: 9 };
     let mut words = empty_words(alloc, &shape)?;
     let mut store = Store::new(alloc, 9);
-    let rows: &[(&[RecordOp], WantReply<'_>)] = &[
-        (&[], WantReply::Done(&[])),
-        (&[RecordOp::Find(9)], WantReply::Declined(1)),
-        (
-            &[RecordOp::Ranked(1, 16)],
-            WantReply::Done(&[Want::Ids(&[])]),
-        ),
-        // Ties of rank go by identifier, and a rank that is asked for need not be there.
-        (
-            &[
-                RecordOp::Put(3, 5, 30),
-                RecordOp::Put(1, 5, 10),
-                RecordOp::Put(2, 4, 20),
-                RecordOp::Ranked(5, 16),
-                RecordOp::Ranked(3, 2),
-                RecordOp::Ranked(6, 1),
-            ],
-            WantReply::Done(&[
-                Want::New,
-                Want::New,
-                Want::New,
-                Want::Ids(&[1, 3]),
-                Want::Ids(&[2, 1]),
-                Want::Ids(&[]),
-            ]),
-        ),
-        // The greatest key of the index has none behind it.
-        (
-            &[
-                RecordOp::Put(GREATEST_ID, GREATEST_RANK, GREATEST_DATA),
-                RecordOp::Ranked(GREATEST_RANK, 16),
-                RecordOp::Ranked(1, 16),
-                RecordOp::Find(GREATEST_ID),
-            ],
-            WantReply::Done(&[
-                Want::New,
-                Want::Ids(&[GREATEST_ID]),
-                Want::Ids(&[2, 1, 3, GREATEST_ID]),
-                Want::Found(GREATEST_RANK, GREATEST_DATA),
-            ]),
-        ),
-        // One block is left of nine: it is no room for a record more, but for none that is there.
-        (
-            &[
-                RecordOp::Remove(1),
-                RecordOp::Put(4, 1, 0),
-                RecordOp::Put(5, 1, 0),
-            ],
-            WantReply::Full(3),
-        ),
-        (
-            &[RecordOp::Ranked(1, 3), RecordOp::Put(5, 1, 0)],
-            WantReply::Full(2),
-        ),
-        (
-            &[
-                RecordOp::Put(3, 5, 31),
-                RecordOp::Find(3),
-                RecordOp::Put(3, 9, 32),
-                RecordOp::Put(1, 1, 0),
-                RecordOp::Ranked(1, 16),
-            ],
-            WantReply::Done(&[
-                Want::Old,
-                Want::Found(5, 31),
-                Want::Old,
-                Want::Old,
-                Want::Ids(&[1, 2, 3, GREATEST_ID]),
-            ]),
-        ),
-        // What a refused script did does not count.
-        (
-            &[
-                RecordOp::Put(3, 1, 1),
-                RecordOp::Remove(2),
-                RecordOp::Find(2),
-            ],
-            WantReply::Declined(3),
-        ),
-        (
-            &[
-                RecordOp::Find(3),
-                RecordOp::Remove(3),
-                RecordOp::Ranked(4, 16),
-                RecordOp::Put(4, 4, 40),
-                RecordOp::Ranked(4, 16),
-            ],
-            WantReply::Done(&[
-                Want::Found(9, 32),
-                Want::Gone,
-                Want::Ids(&[2, GREATEST_ID]),
-                Want::New,
-                Want::Ids(&[2, 4, GREATEST_ID]),
-            ]),
-        ),
-        (&[RecordOp::Remove(3)], WantReply::Declined(1)),
-    ];
-    for row in rows {
-        assert!(rt; both_reply(&rt, alloc, &shape, &mut words, &mut store, *row)?);
-    }
-    Ok(())
+    first_wrong(rt, alloc, &shape, &mut words, &mut store)
+}
+
+#[test]
+fn scripts_reply_by_hand_on_words_too(rt: HostRuntime) {
+    let wrong = first_wrong_anew(&rt, rt.alloc());
+    assert!(rt; matches!(wrong, Ok(None)));
 }

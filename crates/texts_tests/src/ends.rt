@@ -1,13 +1,13 @@
-//! Reading to the end or the limit, writing all or a prefix, over memory and over std's readers and writers.
+//! Reading to the end or the limit, writing all or a prefix: over memory, over std's readers and writers, and over ends
+//! that cannot fail.
 
 use io_ends::{
     Failed, MemSink, MemSource, OutOfMemory, ReadStop, Sink, Source, StdSink, StdSource, SureSink,
     SureSource, WriteFault, read_all, write_all_of,
 };
 use std::alloc::{AllocError, Global};
-use std::io::{Read, Write};
+use std::io::{self, Read, Write};
 use std::test::Fail;
-use std::{fmt, io};
 
 // Whether "hello" is read so, within the limit, from a source that gives at most so many bytes a call and fails at this
 // call.
@@ -29,21 +29,6 @@ fn is_read(
     })
 }
 
-#[test]
-fn reads_to_the_end_or_to_the_limit(rt: HostRuntime) -> Result<(), Fail> {
-    let cases = &[
-        (5, 10, 0, Ok(())),
-        (5, 2, 0, Ok(())),
-        (4, 10, 0, Err(ReadStop::TooLarge)),
-        (5, 2, 2, Err(ReadStop::Fault)),
-    ];
-    for &(limit, most, fails, want) in cases {
-        let read = is_read(rt.alloc(), limit, most, fails, want)?;
-        assert!(rt; read, "at {limit}, {most}, {fails}");
-    }
-    Ok(())
-}
-
 // Whether "hello" is written so, and this much of it taken, by a sink with so much room that takes at most so many bytes
 // a call and fails at this call.
 fn is_written(
@@ -63,14 +48,22 @@ fn is_written(
 }
 
 #[test]
-fn writes_all_or_a_prefix(rt: HostRuntime) -> Result<(), Fail> {
-    let cases = &[
+fn ends_in_memory_fail_where_they_are_told_to(rt: HostRuntime) -> Result<(), Fail> {
+    for &(limit, most, fails, want) in &[
+        (5, 10, 0, Ok(())),
+        (5, 2, 0, Ok(())),
+        (4, 10, 0, Err(ReadStop::TooLarge)),
+        (5, 2, 2, Err(ReadStop::Fault)),
+    ] {
+        let read = is_read(rt.alloc(), limit, most, fails, want)?;
+        assert!(rt; read, "at {limit}, {most}, {fails}");
+    }
+    for &(room, most, fails, want, taken) in &[
         (9, 2, 0, Ok(()), "hello"),
         (9, 2, 3, Err(WriteFault), "hell"),
         (3, 2, 0, Err(WriteFault), "hel"),
         (0, 1, 0, Err(WriteFault), ""),
-    ];
-    for &(room, most, fails, want, taken) in cases {
+    ] {
         let written = is_written(rt.alloc(), room, most, fails, want, taken)?;
         assert!(rt; written, "at {room}, {most}, {fails}");
     }
@@ -124,22 +117,6 @@ fn is_read_of_std(
     }
 }
 
-#[test]
-fn a_reader_of_std_is_read_to_its_end_or_its_error(rt: HostRuntime) -> Result<(), Fail> {
-    let cases = &[
-        (9, false, Ok(()), ""),
-        (2, false, Ok(()), ""),
-        (1, false, Ok(()), ""),
-        (1, true, Err(ReadStop::Fault), ""),
-        (0, false, Ok(()), "hello"),
-    ];
-    for &(most, broken, want, rest) in cases {
-        let read = is_read_of_std(rt.alloc(), most, broken, want, rest);
-        assert!(rt; read, "at {most}, {broken}");
-    }
-    Ok(())
-}
-
 // A writer that takes at most so many bytes a call and has room for so many. Then it fails or takes nothing.
 #[derive(Drop)]
 struct Narrow {
@@ -184,78 +161,63 @@ fn is_written_to_std(
     written == want && writer.taken.as_slice() == taken.as_bytes()
 }
 
+// Whether a piece of no bytes is written to a writer that takes none, and one of a byte is not.
+fn is_nothing_written(alloc: Global) -> bool {
+    let mut closed = Narrow {
+        taken: Vec::new(alloc),
+        most: 0,
+        room: 0,
+        broken: false,
+    };
+    let mut sink = StdSink::new(&mut closed);
+    (sink.write(b"a"), sink.write(b"")) == (Err(Failed), Ok(0))
+}
+
 #[test]
-fn a_writer_of_std_takes_all_or_a_prefix(rt: HostRuntime) -> Result<(), Fail> {
-    let cases = &[
+fn standard_ends_read_and_write(rt: HostRuntime) {
+    for &(most, broken, want, rest) in &[
+        (9, false, Ok(()), ""),
+        (2, false, Ok(()), ""),
+        (1, false, Ok(()), ""),
+        (1, true, Err(ReadStop::Fault), ""),
+        (0, false, Ok(()), "hello"),
+    ] {
+        let read = is_read_of_std(rt.alloc(), most, broken, want, rest);
+        assert!(rt; read, "at {most}, {broken}");
+    }
+    for &(most, room, broken, want, taken) in &[
         (9, 9, false, Ok(()), "hello"),
         (1, 9, false, Ok(()), "hello"),
         (9, 3, false, Err(WriteFault), "hel"),
         (2, 3, true, Err(WriteFault), "hel"),
         (9, 0, false, Err(WriteFault), ""),
         (9, 0, true, Err(WriteFault), ""),
-    ];
-    for &(most, room, broken, want, taken) in cases {
+    ] {
         let written = is_written_to_std(rt.alloc(), most, room, broken, want, taken);
         assert!(rt; written, "at {most}, {room}, {broken}");
     }
-    Ok(())
+    assert!(rt; is_nothing_written(rt.alloc()));
 }
 
-#[test]
-fn a_piece_of_no_bytes_is_written_to_any_writer(rt: HostRuntime) -> Result<(), Fail> {
-    let mut closed = Narrow {
-        taken: Vec::new(rt.alloc()),
-        most: 0,
-        room: 0,
-        broken: false,
-    };
-    let mut sink = StdSink::new(&mut closed);
-    let answers = (sink.write(b"a"), sink.write(b""));
-    assert_eq!(rt; answers, (Err(Failed), Ok(0)));
-    Ok(())
-}
-
-#[test]
-fn a_sure_source_gives_all_of_its_bytes_and_then_the_end(rt: HostRuntime) -> Result<(), Fail> {
-    let mut source = SureSource::new(b"hello".to_vec(rt.alloc())?);
+// Whether a sure source over "hello" gives all of it, and then the end each time.
+fn gives_all_and_then_the_end(alloc: Global, source: &mut SureSource) -> bool {
+    let given = read_all(alloc, source, 5);
     let mut buf = *b"....";
-    let first = source.read(&mut buf);
-    assert_eq!(rt; (first, &buf), (Ok(4), b"hell"));
-    let second = source.read(&mut buf);
-    assert_eq!(rt; (second, &buf), (Ok(1), b"oell"));
     let ends = (source.read(&mut buf), source.read(&mut buf));
-    assert_eq!(rt; ends, (Ok(0), Ok(0)));
-    Ok(())
+    given.is_ok_and(|bytes| bytes.as_slice() == b"hello".as_slice()) && ends == (Ok(0), Ok(0))
 }
 
-#[test]
-fn a_sure_sink_takes_every_piece_whole(rt: HostRuntime) {
+// Whether a sure sink takes every piece whole.
+fn takes_all() -> bool {
     let mut sink = SureSink::new();
-    let answers = (sink.write(b"hello"), sink.write(b""), sink.write(b"a"));
-    assert_eq!(rt; answers, (Ok(5), Ok(0), Ok(1)));
-    assert_eq!(rt; write_all_of(&mut sink, b"hello"), Ok(()));
-}
-
-// Whether it is printed as this text.
-fn says<T: fmt::Display>(alloc: Global, it: &T, want: &str) -> Result<bool, AllocError> {
-    Ok(format!(in alloc; "{it}")?.as_str() == want)
+    write_all_of(&mut sink, b"hello") == Ok(())
+        && (sink.write(b""), sink.write(b"a")) == (Ok(0), Ok(1))
 }
 
 #[test]
-fn says_what_failed(rt: HostRuntime) -> Result<(), Fail> {
-    let alloc = rt.alloc();
-    let said = (
-        says(alloc, &Failed, "a read or a write failed")?,
-        says(alloc, &OutOfMemory, "out of memory")?,
-        says(alloc, &ReadStop::Fault, "a read failed")?,
-        says(
-            alloc,
-            &ReadStop::TooLarge,
-            "the source gave more bytes than the limit",
-        )?,
-        says(alloc, &ReadStop::OutOfMemory, "out of memory")?,
-        says(alloc, &WriteFault, "the text was not written whole")?,
-    );
-    assert_eq!(rt; said, (true, true, true, true, true, true));
+fn sure_ends_give_and_take_all(rt: HostRuntime) -> Result<(), Fail> {
+    let mut source = SureSource::new(b"hello".to_vec(rt.alloc())?);
+    assert!(rt; gives_all_and_then_the_end(rt.alloc(), &mut source));
+    assert!(rt; takes_all());
     Ok(())
 }

@@ -50,11 +50,6 @@ fn is_text_read(alloc: Global, text: &str) -> bool {
     }
 }
 
-#[test]
-fn scripts_are_read_by_caller(rt: HostRuntime) {
-    assert!(rt; is_text_read(rt.alloc(), TEXT));
-}
-
 // The fault of a text that is refused.
 fn fault_of(alloc: Global, text: &str) -> Option<(u32, Fault)> {
     match read_text::<Steps>(alloc, text.as_bytes()) {
@@ -64,7 +59,8 @@ fn fault_of(alloc: Global, text: &str) -> Option<(u32, Fault)> {
 }
 
 #[test]
-fn first_faults(rt: HostRuntime) {
+fn texts_of_a_language_are_read_or_refused(rt: HostRuntime) {
+    assert!(rt; is_text_read(rt.alloc(), TEXT));
     for (text, line, why) in &[
         ("", 1, Fault::End),
         ("steps 1 most 5", 1, Fault::End),

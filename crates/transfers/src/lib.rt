@@ -13,6 +13,3 @@ pub mod run;
 pub use move_lists::MoveLists;
 pub use moves::{Answer, Move};
 pub use run::run_transfers;
-
-#[cfg(test)]
-mod tests;

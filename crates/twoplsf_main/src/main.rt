@@ -34,20 +34,10 @@ fn main(rt: HostRuntime) -> ExitCode {
 }
 
 #[cfg(test)]
-mod cells_tests;
-#[cfg(test)]
-mod faults_tests;
-#[cfg(test)]
-mod hostile_tests;
-#[cfg(test)]
-mod orders_tests;
-#[cfg(test)]
-mod records_tests;
+mod ends_tests;
 #[cfg(test)]
 mod refused_tests;
 #[cfg(test)]
 mod tests;
-#[cfg(test)]
-mod text_tests;
 #[cfg(test)]
 mod thread_tests;

@@ -1,16 +1,16 @@
 //! Tests that come to their proper answer or to no memory, and so may be run with each allocation refused in turn. In
 //! the gate none is refused.
 
-use crate::tests::{FIRST, FIRST_OUTPUT, GOOD, HEADER, PRINTED_HEADER, served, text, words};
+use crate::tests::{FIRST, FIRST_OUTPUT, GOOD, HEADER, PRINTED_HEADER, served, text};
 use crate::thread_tests::{BothWrite, CROSSING, TWO_ACCOUNTS};
 use books_report::{Checked, check_text};
-use io_ends::{MemSink, MemSource, OutOfMemory};
+use io_ends::OutOfMemory;
 use script_reader::{InputFault, read_input};
 use std::alloc::Global;
 use std::sync::Wait;
 use std::thread::Threads;
-use twoplsf::serve::serve;
 use twoplsf::status::Status;
+use worker_gate::OpenGate;
 
 // Whether a command that prints this, where it is done, came to that, or to no memory and an empty sink.
 fn is_done_or_not<R: Threads + Wait + Sync>(
@@ -20,7 +20,7 @@ fn is_done_or_not<R: Threads + Wait + Sync>(
     bytes: &[&str],
     output: &[u8],
 ) -> Result<bool, OutOfMemory> {
-    let run = served(rt, alloc, command, text(alloc, bytes)?, GOOD)?;
+    let run = served(rt, alloc, command, text(alloc, bytes)?, GOOD, &OpenGate)?;
     Ok(run.is_so(Status::Done, output) || run.is_so(Status::OutOfMemory, b""))
 }
 
@@ -58,14 +58,11 @@ fn agrees(alloc: Global, bytes: &[u8], text: &[u8]) -> Result<bool, OutOfMemory>
 // gives up, since the other worker found no memory before it came there, lets its worker go on.
 fn is_crossed_or_not<R: Threads + Wait + Sync>(rt: &R, alloc: Global) -> Result<bool, OutOfMemory> {
     let input = text(alloc, &[TWO_ACCOUNTS, CROSSING])?;
-    let words = words(alloc, "run 2")?;
     let bytes = input.as_slice().to_vec(alloc)?;
-    let mut source = MemSource::new(bytes, 1_000, Vec::new(alloc));
-    let mut sink = MemSink::with_room(alloc, 1_000, 1_000, Vec::new(alloc))?;
-    let served = serve(rt, alloc, &words, &mut source, &mut sink, &BothWrite::new());
-    match served.status {
-        Status::Done => agrees(alloc, input.as_slice(), sink.taken()),
-        Status::OutOfMemory => Ok(sink.taken().is_empty()),
+    let run = served(rt, alloc, "run 2", bytes, GOOD, &BothWrite::new())?;
+    match run.status {
+        Status::Done => agrees(alloc, input.as_slice(), run.taken.as_slice()),
+        Status::OutOfMemory => Ok(run.taken.is_empty()),
         _ => Ok(false),
     }
 }

@@ -1,16 +1,14 @@
-//! Days of more workers than one: two that a gate holds until both are under way, and a day whose order is free.
+//! Days of more workers than one: two that a gate holds until both are under way, and days whose commits it counts.
 
-use crate::tests::{text, words};
+use crate::tests::{is_text, printed};
 use crossbeam_utils::atomic::AtomicCell;
-use io_ends::{MemSink, MemSource, OutOfMemory};
+use io_ends::OutOfMemory;
 use std::alloc::Global;
 use std::process::Abort;
 use std::sync::Wait;
 use std::test::Fail;
 use std::thread::Threads;
-use twoplsf::serve::serve;
-use twoplsf::status::Status;
-use worker_gate::{Gate, OpenGate, Point, Stage};
+use worker_gate::{Gate, Point, Stage};
 
 // Two accounts without cash.
 pub(crate) const TWO_ACCOUNTS: &str =
@@ -116,34 +114,6 @@ impl Gate for BothWrite {
     }
 }
 
-// What a run prints of an input, which comes in parts.
-fn printed<R: Abort + Threads + Wait + Sync, G: Gate + Sync>(
-    rt: &R,
-    alloc: Global,
-    command: &str,
-    input: &[&str],
-    gate: &G,
-) -> Result<Vec<u8>, OutOfMemory> {
-    let words = words(alloc, command)?;
-    let mut source = MemSource::new(text(alloc, input)?, 1_000_000, Vec::new(alloc));
-    let mut sink = MemSink::with_room(alloc, 1_000_000, 1_000_000, Vec::new(alloc))?;
-    let served = serve(rt, alloc, &words, &mut source, &mut sink, gate);
-    assert_eq!(rt; served.status, Status::Done, "{command}");
-    Ok(sink.taken().to_vec(alloc)?)
-}
-
-// Whether a text is these parts, one behind another.
-fn is_text(text: &[u8], parts: &[&str]) -> bool {
-    let mut rest = text;
-    for part in parts {
-        let Some(behind) = rest.strip_prefix(part.as_bytes()) else {
-            return false;
-        };
-        rest = behind;
-    }
-    rest.is_empty()
-}
-
 // Whether the second caller's script is committed while the first's is under way, and so comes first in the journal.
 fn second_comes_first<R: Abort + Threads + Wait + Sync>(
     rt: &R,
@@ -199,28 +169,6 @@ fn idle_worker_steals_a_caller(rt: HostRuntime) -> Result<(), Fail> {
     Ok(())
 }
 
-// One caller with 1,000 scripts and fifteen with one: every script deposits 1 into account 1.
-#[test]
-fn one_caller_has_nearly_all_scripts(rt: HostRuntime) -> Result<(), Fail> {
-    let alloc = rt.alloc();
-    let mut scripts = String::from_str(alloc, "scripts\n")?;
-    for _ in 0..1_000 {
-        scripts.push_str("script long\ndeposit 1 1\nend\n")?;
-    }
-    for name in &[
-        "a", "b", "c", "d", "e", "f", "g", "h", "i", "j", "k", "l", "m", "n", "o",
-    ] {
-        write!(scripts, "script {name}\ndeposit 1 1\nend\n")?;
-    }
-    scripts.push_str("finish\n")?;
-    let input = [TWO_ACCOUNTS, scripts.as_str()];
-    let taken = printed(&rt, alloc, "run 4", &input, &OpenGate)?;
-    let taken = String::from_utf8(taken).expect(&rt, "the output is ASCII");
-    let closing = "books 2 blocks 2 instruments 1 ring 1\naccount 1 1015\naccount 2 0\nfinish\n";
-    assert!(rt; taken.as_str().ends_with(closing));
-    Ok(())
-}
-
 // Each holds an account that the other wants next: one of them gives way, once, and its script comes second. The cash
 // of account 1 is word 1 of block 1, which begins at word 281, and that of account 2 word 1 of block 0, at word 277.
 #[test]
@@ -240,86 +188,6 @@ fn of_two_that_cross_one_gives_way(rt: HostRuntime) -> Result<(), Fail> {
     assert!(rt; is_text(&taken, first) || is_text(&taken, second));
     assert_eq!(rt; (gate.first.load(), gate.second.load()), (278, 282));
     assert_eq!(rt; (gate.yields.load(), gate.gave_up.load()), (1, false));
-    Ok(())
-}
-
-// The names of eight callers.
-const NAMES: [&str; 8] = ["a", "b", "c", "d", "e", "f", "g", "h"];
-
-// The scripts of these callers, 25 each: every one deposits 1 into account 1, and shows it.
-fn deposits(alloc: Global) -> Result<String, OutOfMemory> {
-    let mut scripts = String::from_str(alloc, "scripts\n")?;
-    for _ in 0..25 {
-        for name in &NAMES {
-            write!(scripts, "script {name}\ndeposit 1 1\nshow 1\nend\n")?;
-        }
-    }
-    scripts.push_str("finish\n")?;
-    Ok(scripts)
-}
-
-// Whether a line of the journal is that of the next script of one of the callers, which then has one more. Number k of
-// the journal, from 1, shows k.
-fn is_next(
-    alloc: Global,
-    line: &str,
-    serial: u32,
-    counts: &mut [u32; 8],
-) -> Result<bool, OutOfMemory> {
-    let mut found = false;
-    for (place, name) in NAMES.iter().enumerate() {
-        let index = counts[place].saturating_add(1);
-        let front = format!(in alloc; "{serial} {name} {index} ")?;
-        if line.starts_with(front.as_str()) {
-            counts[place] = index;
-            found = true;
-        }
-    }
-    let back = format!(in alloc; " done ok {serial}")?;
-    Ok(found && line.ends_with(back.as_str()))
-}
-
-// Whether a text is an output for the deposits, in whatever order: the account ends with 200.
-fn is_day_of_deposits(alloc: Global, text: &str) -> Result<bool, OutOfMemory> {
-    let mut lines = text.lines();
-    if lines.next() != Some("journal") {
-        return Ok(false);
-    }
-    let mut counts = [0u32; 8];
-    for serial in 1..=200u32 {
-        let Some(line) = lines.next() else {
-            return Ok(false);
-        };
-        if !is_next(alloc, line, serial, &mut counts)? {
-            return Ok(false);
-        }
-    }
-    for want in &[
-        "books 2 blocks 2 instruments 1 ring 1",
-        "account 1 200",
-        "account 2 0",
-        "finish",
-    ] {
-        if lines.next() != Some(*want) {
-            return Ok(false);
-        }
-    }
-    Ok(lines.next() == None)
-}
-
-#[test]
-fn each_script_of_a_day_is_run_once_in_its_callers_order(rt: HostRuntime) -> Result<(), Fail> {
-    let alloc = rt.alloc();
-    let scripts = deposits(alloc)?;
-    for command in &["run 1", "run 2", "run 4", "run 32"] {
-        let input = [TWO_ACCOUNTS, scripts.as_str()];
-        let taken = printed(&rt, alloc, *command, &input, &OpenGate)?;
-        let taken = String::from_utf8(taken).expect(&rt, "the output is ASCII");
-        assert!(rt;
-            is_day_of_deposits(alloc, taken.as_str())?,
-            "{command}: {taken}"
-        );
-    }
     Ok(())
 }
 
@@ -368,17 +236,46 @@ impl Gate for Commits {
 // its callers whole, and numbers its calls from 1 on: where seat 1 runs 5 scripts of the 20, the numbers sum to 120 + 15.
 #[test]
 fn a_drill_commits_each_script_once(rt: HostRuntime) -> Result<(), Fail> {
-    let alloc = rt.alloc();
-    let words = words(alloc, "drill 2 0 4 5")?;
-    let mut source = MemSource::new(Vec::new(alloc), 1, Vec::new(alloc));
-    let mut sink = MemSink::with_room(alloc, 1_000, 1_000, Vec::new(alloc))?;
     let gate = Commits::new();
-    let served = serve(&rt, alloc, &words, &mut source, &mut sink, &gate);
-    assert_eq!(rt; served.status, Status::Done);
-    assert!(rt; served.day.is_some());
+    let _ = printed(&rt, rt.alloc(), "drill 2 0 4 5", &[], &gate)?;
     assert_eq!(rt; (gate.before.load(), gate.after.load()), (20, 20));
     assert_eq!(rt; gate.tags.load(), 1_966_120);
     let seats_and_calls = (gate.seats.load(), gate.calls.load());
     assert!(rt; matches!(seats_and_calls, (0 | 20, 210) | (5 | 15, 135) | (10, 110)));
+    Ok(())
+}
+
+// Two workers with ten rounds each: the tags are 65536 c + r for c below 2 and r below 10.
+#[test]
+fn each_round_commits_once(rt: HostRuntime) -> Result<(), Fail> {
+    let gate = Commits::new();
+    let _ = printed(&rt, rt.alloc(), "cells 2 10", &[], &gate)?;
+    assert_eq!(rt; (gate.after.load(), gate.tags.load()), (20, 655_450));
+    Ok(())
+}
+
+// Two who read the same empty store; the first is held at its first lock until the second has committed.
+#[test]
+fn record_workers_overlap(rt: HostRuntime) -> Result<(), Fail> {
+    let gate = OtherFirst::new(65_536);
+    let input =
+        "records 1 blocks 4\nscripts\nscript ann\nget 1\nend\nscript bob\nget 1\nend\nfinish\n";
+    let taken = printed(&rt, rt.alloc(), "records 2", &[input], &gate)?;
+    let output =
+        "journal\n1 ann 1 0 declined 1 absent\n2 bob 1 0 declined 1 absent\nrecords 1 blocks 4\nfinish\n";
+    assert!(rt; taken.as_slice() == output.as_bytes() && !gate.gave_up.load());
+    Ok(())
+}
+
+// Two who ask for the best prices of two instruments; the first is held at its first lock until the second has committed.
+#[test]
+fn order_workers_overlap(rt: HostRuntime) -> Result<(), Fail> {
+    let gate = OtherFirst::new(65_536);
+    let input =
+        "orders 1 blocks 4 instruments 2\nscripts\nscript ann\nbest 1\nend\nscript bob\nbest 2\nend\nfinish\n";
+    let taken = printed(&rt, rt.alloc(), "orders 2", &[input], &gate)?;
+    let output =
+        "journal\n1 ann 1 0 done 0:0\n2 bob 1 0 done 0:0\norders 1 blocks 4 instruments 2\nfinish\n";
+    assert!(rt; taken.as_slice() == output.as_bytes() && !gate.gave_up.load());
     Ok(())
 }

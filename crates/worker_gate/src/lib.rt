@@ -5,6 +5,3 @@
 pub mod gate;
 
 pub use gate::{Gate, OpenGate, Point, Stage};
-
-#[cfg(test)]
-mod tests;

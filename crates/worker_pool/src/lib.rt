@@ -20,6 +20,3 @@ mod workshop;
 pub use done::{DayEnd, Done};
 pub use rule::ALL_PARTS;
 pub use run::run_callers;
-
-#[cfg(test)]
-mod tests;

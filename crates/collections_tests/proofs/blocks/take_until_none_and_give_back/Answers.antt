@@ -1,16 +1,9 @@
-use Rattle.std.proofs.Common.{[], ◌∷◌, ap, refl}
-use Rattle.std.specs.FinSet as set
-use Rattle.history_model.proofs.Traces.FittingLaws.{each_fresh}
-use Rattle.txn_words.specs.Plainly.{PlainView}
-use Rattle.collections_tests.specs.declared.blocks.TwoBlocks.{TwoBlocks}
-use Rattle.txn_alloc.specs.FreeLists.{IsInOrder}
-use Rattle.txn_alloc.proofs.TwoBlocks.{two, linked}
+use Rattle.txn_books.proofs.OneState.Parts.{fresh_books}
+use Rattle.txn_books.proofs.OneState.States.{tree_apart}
+use Rattle.txn_books.proofs.LaidOut.Empty.{small}
 use Rattle.collections_tests.proofs.blocks.take_until_none_and_give_back.Goals as goal
 
-pub new-plain-requires : goal.new-plain-requires
-new-plain-requires g c =
-    let words = linked 285 c.in_ok-words.words.items refl (c.in_ok-words.ensures.items_if_clones_equal (λ y e. e)) in
-    record { count = words.count; good = (set.from_list (0 ∷ 1 ∷ []), words.free_lists) }
-
 pub take_all-requires-clause-order : goal.take_all-requires-clause-order
-take_all-requires-clause-order g c = record { at = (each_fresh 285 (IsInOrder two) _ (ap (λ (v : PlainView TwoBlocks). v.trace) c.new-plain.ensures.view)).at }
+take_all-requires-clause-order g c =
+    let fresh = fresh_books c.in_ok-plain.plain.shape small _ c.in_ok-plain.ensures.shape c.in_ok-plain.ensures.trace in
+    record { at = λ s fit. let good = fresh.at s fit in (good.1.parts.free, (tree_apart small _ good.0 good.1).free_lists) }

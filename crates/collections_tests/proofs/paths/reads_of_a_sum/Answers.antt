@@ -8,5 +8,5 @@ use Rattle.collections_tests.proofs.paths.reads_of_a_sum.Goals as goal
 pub put_all-requires-clause-order : goal.put_all-requires-clause-order
 put_all-requires-clause-order c = record { at = (each_fresh 2681 (HasMapApart (tree_part MAP)) _ c.in_ok-plain.ensures.trace).at }
 
-pub first_wrong-requires-clause-order : goal.first_wrong-requires-clause-order
-first_wrong-requires-clause-order c = record { at = λ s fit. held (c.in_ok-put_all.ensures.order.at s fit) }
+pub sum_range-requires-clause-order : goal.sum_range-requires-clause-order
+sum_range-requires-clause-order c = record { at = λ s fit. held (c.in_ok-new.ensures.order.at s fit) }

@@ -5,5 +5,5 @@ use Rattle.memory_tests.proofs.locks.unshare_all.Given as goal
 
 -- nothing is left to undo, the call has begun, and the search goes on from a lock of the same words
 abbrev pub invariant-loop : goal.invariant-loop
-invariant-loop g l = (l.pass.table ≡ l.desk.table) × (l.pass.view.undo ≡ []) × (l.pass.view.phase ≢ Idle)
+invariant-loop l = (l.pass.table ≡ l.desk.table) × (l.pass.view.undo ≡ []) × (l.pass.view.phase ≢ Idle)
     × (l.from < LOCKS) × (l.pass.view.base ≡ l.initial.pass.view.base)
