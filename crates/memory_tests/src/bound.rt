@@ -3,8 +3,8 @@
 ghost use Rattle.std.specs.Prelude.{◌≡◌, ◌<◌, ◌+◌, ℕ, [], ◌∷◌, ◌++◌, length, List, Some, IfSome, OnSome, IsTrue};
 ghost use Rattle.history_model.specs.declared.entry.Entry.{Entry};
 ghost use Rattle.history_model.specs.Views.{HasBit, HasClaim};
-ghost use Rattle.locks_rule.specs.Splits.{opening_view};
 ghost use Rattle.stamps_rule.specs.Causes.{newest, past_causes};
+ghost use Rattle.word_table.specs.Copies.{fresh_pass};
 
 use crate::opening::{Triple, open_three};
 use history_model::{Cause, Phase};
@@ -44,17 +44,9 @@ fn hold_own(
 ) -> bool
     requires words { length desk.now.base ≡ 3 }
     requires zero { zero.old
-        ≡ record { table = desk.now.table; view = opening_view desk.now.base 3 (0 ∷ []) [] } }
-    requires one { one.old ≡ record {
-      table = desk.now.table;
-      view = opening_view desk.now.base 3
-          (1 ∷ []) [];
-    } }
-    requires two { two.old ≡ record {
-      table = desk.now.table;
-      view = opening_view desk.now.base 3
-          (2 ∷ []) [];
-    } }
+        ≡ fresh_pass desk.now.table desk.now.base 3 0 }
+    requires one { one.old ≡ fresh_pass desk.now.table desk.now.base 3 1 }
+    requires two { two.old ≡ fresh_pass desk.now.table desk.now.base 3 2 }
     ensures zero { (zero.new.table ≡ desk.now.table) × (length zero.new.view.base ≡ 3) }
     ensures one { (one.new.table ≡ desk.now.table) × (length one.new.view.base ≡ 3) }
     ensures two { (two.new.table ≡ desk.now.table) × (length two.new.view.base ≡ 3) }
@@ -232,17 +224,9 @@ fn ask_for_others(
 ) -> Option<((u32, u64), (u32, u64), (Cause, u64))>
     requires words { length desk.now.base ≡ 3 }
     requires zero { zero.old
-        ≡ record { table = desk.now.table; view = opening_view desk.now.base 3 (0 ∷ []) [] } }
-    requires one { one.old ≡ record {
-      table = desk.now.table;
-      view = opening_view desk.now.base 3
-          (1 ∷ []) [];
-    } }
-    requires two { two.old ≡ record {
-      table = desk.now.table;
-      view = opening_view desk.now.base 3
-          (2 ∷ []) [];
-    } }
+        ≡ fresh_pass desk.now.table desk.now.base 3 0 }
+    requires one { one.old ≡ fresh_pass desk.now.table desk.now.base 3 1 }
+    requires two { two.old ≡ fresh_pass desk.now.table desk.now.base 3 2 }
     ensures zero { OnSome result
         ((zero.new.table ≡ desk.now.table) × (length zero.new.view.base ≡ 3)
         × (zero.new.view.phase ≡ Phase.Running) × (zero.new.view.undo ≡ [])) }
@@ -311,17 +295,9 @@ fn reach_bound(
 ) -> Option<((u32, u64), (u32, u64), (Cause, u64), (Cause, u64))>
     requires words { length desk.now.base ≡ 3 }
     requires zero { zero.old
-        ≡ record { table = desk.now.table; view = opening_view desk.now.base 3 (0 ∷ []) [] } }
-    requires one { one.old ≡ record {
-      table = desk.now.table;
-      view = opening_view desk.now.base 3
-          (1 ∷ []) [];
-    } }
-    requires two { two.old ≡ record {
-      table = desk.now.table;
-      view = opening_view desk.now.base 3
-          (2 ∷ []) [];
-    } }
+        ≡ fresh_pass desk.now.table desk.now.base 3 0 }
+    requires one { one.old ≡ fresh_pass desk.now.table desk.now.base 3 1 }
+    requires two { two.old ≡ fresh_pass desk.now.table desk.now.base 3 2 }
     ensures entry { OnSome result ((earlier : List Entry) × (entry : Entry)
         × (two.new.view.seen ≡ earlier ++ entry ∷ []) × (length entry.abandoned ≡ 2)) }
 {

@@ -17,6 +17,7 @@ fn laws_hold_of_a_shape() {
     table::every_meeting::<Triple>();
     table::every_call::<Triple>();
     table::every_draw::<Triple>();
+    table::every_number::<Triple>();
     table::every_arrangement::<Triple>();
     table::every_write::<Triple>();
     table::every_deal::<Triple>();

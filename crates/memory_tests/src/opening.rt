@@ -4,8 +4,8 @@
 ghost use Rattle.std.specs.Prelude.{◌≡◌, ◌≤◌, [], ◌∷◌, length, IfOk};
 ghost use Rattle.history_model.specs.declared.view.Phase.TheVariants.{Idle};
 ghost use Rattle.history_model.specs.Fitting.{IsGood};
-ghost use Rattle.locks_rule.specs.Splits.{opening_view};
 ghost use Rattle.word_table.specs.declared.limits.TheConstants.{MOST_WORDS};
+ghost use Rattle.word_table.specs.Copies.{fresh_pass};
 
 use history_model::{LockUse, Shape};
 use io_ends::OutOfMemory;
@@ -58,14 +58,8 @@ pub(crate) fn open_two<S: Shape>(
     requires words { (1 ≤ length base.items) × (length base.items ≤ MOST_WORDS) }
     ensures words { IfOk result (λ opened. opened.0.base ≡ base.items) }
     ensures seats { IfOk result (λ opened. opened.0.seats ≡ 2) }
-    ensures zero { IfOk result (λ opened. opened.1 ≡ record {
-      table = opened.0.table;
-      view = opening_view opened.0.base 2 (0 ∷ []) [];
-    }) }
-    ensures one { IfOk result (λ opened. opened.2 ≡ record {
-      table = opened.0.table;
-      view = opening_view opened.0.base 2 (1 ∷ []) [];
-    }) }
+    ensures zero { IfOk result (λ opened. opened.1 ≡ fresh_pass opened.0.table opened.0.base 2 0) }
+    ensures one { IfOk result (λ opened. opened.2 ≡ fresh_pass opened.0.table opened.0.base 2 1) }
 {
     let (desk, mut passes) = Desk::new(alloc, shape, base, 2)?;
     let Some(one) = passes.pop() else {
@@ -84,13 +78,13 @@ pub(crate) fn open_three(
     ensures words { IfOk result (λ opened. length opened.0.base ≡ 3) }
     ensures zero { IfOk result
         (λ opened. opened.1
-        ≡ record { table = opened.0.table; view = opening_view opened.0.base 3 (0 ∷ []) [] }) }
+        ≡ fresh_pass opened.0.table opened.0.base 3 0) }
     ensures one { IfOk result
         (λ opened. opened.2
-        ≡ record { table = opened.0.table; view = opening_view opened.0.base 3 (1 ∷ []) [] }) }
+        ≡ fresh_pass opened.0.table opened.0.base 3 1) }
     ensures two { IfOk result
         (λ opened. opened.3
-        ≡ record { table = opened.0.table; view = opening_view opened.0.base 3 (2 ∷ []) [] }) }
+        ≡ fresh_pass opened.0.table opened.0.base 3 2) }
 {
     let base = vec![in alloc; 0u64, 0, 0]?;
     let (desk, mut passes) = Desk::new(alloc, Triple, base, 3)?;

@@ -3,8 +3,8 @@
 ghost use Rattle.std.specs.Prelude.{◌≡◌, ◌<◌, ◌+◌, ℕ, [], ◌∷◌, ◌++◌, length, List, Some, IfSome, OnSome, IsTrue};
 ghost use Rattle.history_model.specs.declared.entry.Entry.{Entry};
 ghost use Rattle.history_model.specs.Views.{HasBit, HasClaim};
-ghost use Rattle.locks_rule.specs.Splits.{opening_view};
 ghost use Rattle.stamps_rule.specs.Causes.{newest, past_causes};
+ghost use Rattle.word_table.specs.Copies.{fresh_pass};
 
 use crate::opening::{Pair, open_two};
 use history_model::{Cause, Phase};
@@ -45,12 +45,8 @@ fn ask_for_each_others(
 ) -> Option<(u32, Cause)>
     requires words { length desk.now.base ≡ 2 }
     requires zero { zero.old
-        ≡ record { table = desk.now.table; view = opening_view desk.now.base 2 (0 ∷ []) [] } }
-    requires one { one.old ≡ record {
-      table = desk.now.table;
-      view = opening_view desk.now.base 2
-          (1 ∷ []) [];
-    } }
+        ≡ fresh_pass desk.now.table desk.now.base 2 0 }
+    requires one { one.old ≡ fresh_pass desk.now.table desk.now.base 2 1 }
     ensures zero { (zero.new.table ≡ desk.now.table) × (length zero.new.view.base ≡ 2) }
     ensures one { (one.new.table ≡ desk.now.table) × (length one.new.view.base ≡ 2) }
     ensures waits { OnSome result
@@ -189,12 +185,8 @@ fn cross(
 ) -> Option<(u32, Cause, (u64, u64))>
     requires words { length desk.now.base ≡ 2 }
     requires zero { zero.old
-        ≡ record { table = desk.now.table; view = opening_view desk.now.base 2 (0 ∷ []) [] } }
-    requires one { one.old ≡ record {
-      table = desk.now.table;
-      view = opening_view desk.now.base 2
-          (1 ∷ []) [];
-    } }
+        ≡ fresh_pass desk.now.table desk.now.base 2 0 }
+    requires one { one.old ≡ fresh_pass desk.now.table desk.now.base 2 1 }
 {
     let (other, cause) = ask_for_each_others(desk, zero, one)?;
     let stamps = (zero.stamp(), one.stamp());

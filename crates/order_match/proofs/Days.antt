@@ -1,6 +1,6 @@
 -- A day of a limit order book, from what was run in order.
-use Rattle.std.proofs.Common.{◌≡◌, ℕ, ◌<◌, Bool, List, All, map, refl, sym, ap, ◌∙◌, subst}
-use Rattle.std.proofs.lemmas.List.Elements.{All-map}
+use Rattle.std.proofs.Common.{◌≡◌, ℕ, ◌<◌, Bool, List, All, map, take, refl, sym, ap, ◌∙◌, subst}
+use Rattle.std.proofs.lemmas.List.Elements.{All-map, All-take}
 use mathlib.Core.List.{map-map}
 use Rattle.history_model.specs.Fitting.{IsGood}
 use Rattle.word_table.specs.Closing.{ClosedView}
@@ -10,37 +10,22 @@ use Rattle.books_report.specs.declared.line.Line.{Line}
 use Rattle.books_report.specs.Lines.{place_of_line}
 use Rattle.order_text.specs.declared.order.Resting.{Resting}
 use Rattle.order_text.specs.declared.reply.OrderReply.{OrderReply}
-use Rattle.order_text.specs.Input.{BookInput, order_script_at}
+use Rattle.order_text.specs.Input.{BookInput, IsBookInput, order_script_at}
 use Rattle.order_text.specs.Interpreter.{run_from}
 use Rattle.order_text.specs.Journal.{IsOrderJournal, IsOrderPlace}
 use Rattle.order_text.specs.Lines.{ran_of_line, scripts_of}
 use Rattle.order_text.specs.Output.{book_after, closing_of, outcome_at, places_run, replies_of, text_of, AreByNumber, AreRun, OrderRan}
 use Rattle.order_text.specs.Orders.{OrderBook, empty_book}
-use Rattle.txn_stores.proofs.Days.{all_of, day_of, dealt_of, left_by, reply_by, side_by_side, AreJobs, CameTo, IsDay, RunsDown}
+use Rattle.txn_stores.proofs.Days.{all_of, day_of, dealt_of, left_by, reply_by, side_by_side, CameTo, IsDay, RunsDown}
 use Rattle.order_match.specs.declared.done.OrderDone.{OrderDone}
 use Rattle.order_match.specs.declared.shape.OrderShape.{OrderShape}
-use Rattle.order_text.proofs.Closings.{pairs_rise}
+use Rattle.order_text.proofs.Closings.{apart_after, pairs_rise}
 use Rattle.order_match.specs.Days.{place_of_done, places_of_done, ran_of_done, scripts_done, shape_of, AreDealtInTurn, IsOrderDay}
 use Rattle.order_match.specs.Inner.Printing.{line_of_done}
 use Rattle.order_match.specs.Layout.{words_of}
 use Rattle.order_match.specs.Meaning.{is_done, ScriptMeans}
 use Rattle.order_match.specs.Standing.{IsGoodFor, Stands}
 use Rattle.order_match.proofs.Scripted.{run_stays}
-
--- a job as an item
-abbrev done_of_ran : Ran OrderReply → OrderDone
-done_of_ran ran = record {
-  caller = ran.caller;
-  index = ran.index;
-  seat = ran.seat;
-  call = ran.call;
-  uses = ran.uses;
-  restarts = ran.restarts;
-  reply = ran.answer;
-}
-
-are_jobs : AreJobs ran_of_done done_of_ran
-are_jobs = record { there = λ ran. refl; back = λ item. refl }
 
 -- the words of a book that are good, and what a script of an input means on them
 abbrev good_on : OrderShape → List ℕ → Type 0
@@ -72,10 +57,11 @@ module _ (input : BookInput) where
 module _ (input : BookInput) (closed : ClosedView OrderShape) (done : List OrderDone) (workers : ℕ) (shape : OrderShape)
     (jobs : List (Ran OrderReply)) (jobs_are : map ran_of_done done ≡ jobs)
     (came : CameTo (good_on shape) (means_on input shape) input.callers workers closed jobs) where
-  pub day_made : shape ≡ shape_of input → closed.shape ≡ shape → Stands shape closed.base (empty_book input.blocks) → IsOrderDay input closed done
-  day_made sized shape_is opening =
+  pub day_made : IsBookInput input → shape ≡ shape_of input → closed.shape ≡ shape → Stands shape closed.base (empty_book input.blocks)
+      → IsOrderDay input closed done
+  day_made valid sized shape_is opening =
       let day : IsDay ran_of_done input.callers (replies_of input) (book_after input) Stands (empty_book input.blocks) closed done =
-      day_of ran_of_done done_of_ran are_jobs good_on (means_on input) input.callers (outcome_at input) (replies_of input) (book_after input)
+      day_of ran_of_done good_on (means_on input) input.callers (outcome_at input) (replies_of input) (book_after input)
       (runs_down input) Stands (shape_of input) (is_step input) (empty_book input.blocks) workers closed shape sized shape_is opening done jobs jobs_are came in
       record {
         rebuilt = day.rebuilt;
@@ -90,6 +76,9 @@ module _ (input : BookInput) (closed : ClosedView OrderShape) (done : List Order
         below = day.below;
         replies = day.replies_are;
         stands = day.stands_at;
+        prices_apart = λ k within. apart_after input valid (places_of_done (take k done))
+            (All-map (IsOrderPlace input) place_of_done (take k done)
+            (All-take (λ item. IsOrderPlace input (place_of_done item)) k done (all_of (IsOrderPlace input) place_of_done done day.journal.only)));
         left = day.left;
       }
 

@@ -14,6 +14,7 @@ use Rattle.order_text.specs.declared.reply.OrderReply.{OrderReply}
 use Rattle.order_text.specs.Orders.{empty_book}
 use Rattle.order_text.specs.Input.{BookInput}
 use Rattle.order_text.specs.Journal.{IsOrderJournal}
+use Rattle.order_text.specs.Laws.{BestPricesApart}
 use Rattle.order_text.specs.Output.{OrderRan, book_after, replies_of}
 use Rattle.order_match.specs.declared.done.OrderDone.{OrderDone}
 use Rattle.order_match.specs.declared.shape.OrderShape.{OrderShape}
@@ -58,7 +59,8 @@ AreDealtInTurn workers done = All (λ item. item.seat ≡ item.caller % workers)
 
 -- a day of the input, over a table that is closed: its items, in the order that is rebuilt from their uses, are a journal
 -- with the replies of the interpreter, run down it from an empty book; the closed records are their entries, one for
--- each; down these each trace is legal, and before and after each item the words stand for the book of the interpreter
+-- each; down these each trace is legal, and before and after each item the words stand for the book of the interpreter,
+-- in which the best prices are apart
 pub record IsOrderDay (input : BookInput) (closed : ClosedView OrderShape) (done : List OrderDone) : Type 0 where
   pub rebuilt : IsRebuilt spot_of_done done
   pub entries : List Entry
@@ -75,4 +77,6 @@ pub record IsOrderDay (input : BookInput) (closed : ClosedView OrderShape) (done
   pub replies : map (λ item. item.reply) done ≡ replies_of input (empty_book input.blocks) (places_of_done done)
   pub stands : (k : ℕ) → k ≤ length done → Stands closed.shape (replay closed.base (take k entries))
       (book_after input (empty_book input.blocks) (places_of_done (take k done)))
+  pub prices_apart : (k : ℕ) → k ≤ length done
+      → BestPricesApart (book_after input (empty_book input.blocks) (places_of_done (take k done))).orders
   pub left : Stands closed.shape closed.words (book_after input (empty_book input.blocks) (places_of_done done))

@@ -16,7 +16,8 @@ use crate::shape::OrderShape;
 use io_ends::OutOfMemory;
 use order_text::Resting;
 use std::alloc::Global;
-use txn_words::{Plain, Stop, Words};
+use txn_stores::ReadOnly;
+use txn_words::{Stop, Words};
 
 /// The last order number that was given. It is 0 where none was.
 pub fn last_given<W: Words>(w: &mut W, shape: &OrderShape) -> Result<u32, Stop>
@@ -103,9 +104,8 @@ pub fn orders_of_words(
     ensures { IfOk result (λ all. (book : OrderBook) → Stands shape.now words.now book
         → all.items ≡ book.orders) }
 {
-    let copy = Vec::from_slice(alloc, words)?;
-    let mut plain = Plain::new(alloc, *shape, copy);
-    match all_orders(alloc, &mut plain, shape) {
+    let mut reader = ReadOnly::new(*shape, words);
+    match all_orders(alloc, &mut reader, shape) {
         Ok(all) => Ok(all),
         Err(Stop::Memory) => Err(OutOfMemory),
         Err(Stop::Yield) => unreachable!(),

@@ -1,4 +1,5 @@
--- The orders that an output prints are those of a book, so their numbers rise.
+-- After scripts of an input a book is left in which best prices are apart; what an output prints is such a book's orders,
+-- so their numbers rise.
 use Rattle.std.proofs.Common.{◌≡◌, List, [], ◌∷◌, All, sym, arith}
 use Rattle.std.specs.List.Sorted.{IsStrictlySortedBy}
 use Rattle.std.specs.declared.cmp.Ordering.TheVariants.{Less}
@@ -29,15 +30,26 @@ module _ (input : BookInput) (is : IsBookInput input) where
   script_at place there = is.callers.scripts place.caller (record { name = []; scripts = [] }) there.0 place.index [] there.1
 
   kept_after : (places : List Place) (book : OrderBook) → All (IsOrderPlace input) places → IsBookOf input.instruments book → BestPricesApart book.orders
-      → IsBookOf input.instruments (book_after input book places)
-  kept_after [] book there kept apart = kept
+      → IsBookOf input.instruments (book_after input book places) × BestPricesApart (book_after input book places).orders
+  kept_after [] book there kept apart = (kept, apart)
   kept_after (place ∷ places) book there kept apart =
       let next = scripts_keep input.instruments (order_script_at input place.caller place.index) book kept
       (script_at place (there 0 place (omega arith))) apart in
       kept_after places (outcome_at input book place).1 (All-tail (IsOrderPlace input) place places there) next.0 next.1
 
+  -- what is left of the empty book
+  left_after : (places : List Place) → All (IsOrderPlace input) places
+      → IsBookOf input.instruments (book_after input (empty_book input.blocks) places)
+      × BestPricesApart (book_after input (empty_book input.blocks) places).orders
+  left_after places there =
+      let begun = empty_is input.blocks input.instruments is.blocks is.instruments in
+      kept_after places (empty_book input.blocks) there begun.0 begun.1
+
+  pub apart_after : (places : List Place) → All (IsOrderPlace input) places
+      → BestPricesApart (book_after input (empty_book input.blocks) places).orders
+  apart_after places there = (left_after places there).1
+
 pub printed_by_number : (input : BookInput) (scripts : List OrderRan) → IsBookInput input → All (IsOrderPlace input) (places_run scripts)
     → AreByNumber (closing_of input scripts)
 printed_by_number input scripts is there =
-    let begun = empty_is input.blocks input.instruments is.blocks is.instruments in
-    pairs_rise (closing_of input scripts) (kept_after input is (places_run scripts) (empty_book input.blocks) there begun.0 begun.1).room.rising
+    pairs_rise (closing_of input scripts) (left_after input is (places_run scripts) there).0.room.rising

@@ -1,12 +1,15 @@
 -- The texts of a limit order book: `orders 1 blocks B instruments S`, and the operations `buy`, `sell`, `cancel` and `best`.
-use Rattle.std.specs.Prelude.{◌≡◌, ℕ, List, [], ◌∷◌, codes, true, false, if◌then◌else◌, slice_index_or, refl}
+use Rattle.std.specs.Prelude.{◌≡◌, ℕ, ◌<◌, ◌^◌, List, [], ◌∷◌, codes, true, false, if◌then◌else◌, slice_index_or, refl}
+use Rattle.std.specs.List.{AllByRecursion}
 use Rattle.std.specs.Str.{bytes_eq}
+use Rattle.std.proofs.Common.{lit<}
 use Rattle.books_model.specs.declared.limits.TheConstants.{MOST_INSTRUMENTS, GREATEST_PRICE, GREATEST_QUANTITY}
 use Rattle.order_text.specs.declared.limits.TheConstants.{LEAST_BLOCKS, MOST_BLOCKS, GREATEST_ORDER}
 use Rattle.order_text.specs.declared.script.OrderOp.{OrderOp}
 use Rattle.order_text.specs.declared.script.OrderOp.TheVariants as op
 use Rattle.script_reader.specs.Forms.{Form, form}
-use Rattle.script_reader.specs.ListLanguage.{ListLanguage, IsListLanguage, size, is_word}
+use Rattle.script_reader.specs.ListLanguage.{ListLanguage, AreSizes, IsFormOfOperations, IsListLanguage, size, is_word}
+use Rattle.script_reader.proofs.Listed.Numbers.{one_number, three_numbers}
 
 -- the ranges of the numbers of an order: its instrument, of so many, its price and its quantity
 abbrev pub limit_ranges : ℕ → List (ℕ × ℕ)
@@ -59,7 +62,7 @@ order_language = record {
   operations = λ script. script;
 }
 
--- its words are words, and an operation is told by its line
+-- its words are words, an operation is told by its line, and each line of a form is that of an operation
 pub order_language_lawful : IsListLanguage order_language
 order_language_lawful = record {
   title = refl;
@@ -70,6 +73,9 @@ order_language_lawful = record {
   no_finish = finishes;
   one_operation = one;
   one_script = λ s t e. e;
+  size_bits = (lit< tt, (lit< tt, tt));
+  every_form = forms;
+  every_script = λ ops. (ops, refl);
 }
   where
     words : (o : OrderOp) → is_word (keyword_of o) ≡ true
@@ -101,3 +107,21 @@ order_language_lawful = record {
     one (op.Sell instrument price quantity) = refl
     one (op.Cancel number) = refl
     one (op.Best instrument) = refl
+
+    instruments : (sizes : List ℕ) → AreSizes order_language sizes → number_at sizes 1 < 2 ^ 64
+    instruments [] h = absurd h
+    instruments (blocks ∷ []) h = absurd h.3
+    instruments (blocks ∷ many ∷ sizes) h = h.3.2
+
+    forms : (sizes : List ℕ) → AreSizes order_language sizes
+        → AllByRecursion (IsFormOfOperations order_language) (order_forms (number_at sizes 1))
+    forms sizes h = (
+      record { bits = (instruments sizes h, (lit< tt, (lit< tt, tt))); keyword = λ ns k. refl; numbers = three_numbers _ _ _ },
+      (
+        record { bits = (instruments sizes h, (lit< tt, (lit< tt, tt))); keyword = λ ns k. refl; numbers = three_numbers _ _ _ },
+        (
+          record { bits = (lit< tt, tt); keyword = λ ns k. refl; numbers = one_number _ },
+          (record { bits = (instruments sizes h, tt); keyword = λ ns k. refl; numbers = one_number _ }, tt),
+        ),
+      ),
+    )

@@ -1,11 +1,13 @@
 -- The texts of a record store: `records 1 blocks B`, and the operations `put`, `drop`, `get` and `from`.
 use Rattle.std.specs.Prelude.{◌≡◌, ℕ, List, [], ◌∷◌, codes, true, false, if◌then◌else◌, slice_index_or, refl}
 use Rattle.std.specs.Str.{bytes_eq}
+use Rattle.std.proofs.Common.{lit<}
 use Rattle.record_text.specs.declared.limits.TheConstants.{LEAST_BLOCKS, MOST_BLOCKS, GREATEST_ID, GREATEST_RANK, GREATEST_DATA, MOST_LISTED}
 use Rattle.record_text.specs.declared.script.RecordOp.{RecordOp}
 use Rattle.record_text.specs.declared.script.RecordOp.TheVariants as op
 use Rattle.script_reader.specs.Forms.{Form, form}
 use Rattle.script_reader.specs.ListLanguage.{ListLanguage, IsListLanguage, size, is_word}
+use Rattle.script_reader.proofs.Listed.Numbers.{one_number, two_numbers, three_numbers}
 
 -- the kinds of operation, with the ranges of their numbers
 abbrev pub record_forms : List Form
@@ -54,7 +56,7 @@ record_language = record {
   operations = λ script. script;
 }
 
--- its words are words, and an operation is told by its line
+-- its words are words, an operation is told by its line, and each line of a form is that of an operation
 pub record_language_lawful : IsListLanguage record_language
 record_language_lawful = record {
   title = refl;
@@ -65,6 +67,18 @@ record_language_lawful = record {
   no_finish = finishes;
   one_operation = one;
   one_script = λ s t e. e;
+  size_bits = (lit< tt, tt);
+  every_form = λ sizes sized. (
+    record { bits = (lit< tt, (lit< tt, (lit< tt, tt))); keyword = λ ns h. refl; numbers = three_numbers _ _ _ },
+    (
+      record { bits = (lit< tt, tt); keyword = λ ns h. refl; numbers = one_number _ },
+      (
+        record { bits = (lit< tt, tt); keyword = λ ns h. refl; numbers = one_number _ },
+        (record { bits = (lit< tt, (lit< tt, tt)); keyword = λ ns h. refl; numbers = two_numbers _ _ }, tt),
+      ),
+    ),
+  );
+  every_script = λ ops. (ops, refl);
 }
   where
     words : (o : RecordOp) → is_word (keyword_of o) ≡ true

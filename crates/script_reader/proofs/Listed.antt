@@ -22,3 +22,5 @@ pub mod Feeds
 pub mod Behind
 -- a text that was read up to its last line, or up to its first fault
 pub mod Ending
+-- lines without fault are those of a text, as far as they go, so bytes are a text or have a first fault
+pub mod Reached

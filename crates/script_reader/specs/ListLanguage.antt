@@ -4,7 +4,7 @@
 use Rattle.std.specs.Prelude.{◌≡◌, ◌⊎◌, ℕ, ◌+◌, ◌<◌, ◌≤◌, ◌^◌, Bool, true, false, not, ◌&&◌, ◌==◌, nat_le, if◌then◌else◌, List, [], ◌∷◌, ◌++◌, Option}
 use Rattle.std.specs.Prelude.{Some, None}
 use Rattle.std.specs.Prelude.{codes, length, map, drop, fold, All}
-use Rattle.std.specs.List.{flat_map, list_all}
+use Rattle.std.specs.List.{flat_map, list_all, AllByRecursion}
 use Rattle.std.specs.Option.{is_none}
 use Rattle.std.specs.Str.{bytes_eq}
 use Rattle.books_model.specs.declared.limits.TheConstants.{MOST_OPERATIONS}
@@ -199,7 +199,14 @@ module _ {O S : Type 0} (g : ListLanguage O S) where
   abbrev pub IsFirstFaultIn : List ℕ → ℕ → Fault → Type 0
   IsFirstFaultIn text number why = IsFaultInFront judge text number why ⊎ GoesOnBehind IsText text number why
 
-  -- what the words of a language have to be, and that an operation is told by its line, and a script by its operations
+  -- numbers in the ranges of a form, which are of 64 bits, are those of an operation with its word
+  pub record IsFormOfOperations (kind : Form) : Type 0 where
+    pub bits : AllByRecursion (λ r. r.1 < 2 ^ 64) kind.ranges
+    pub keyword : (ns : List ℕ) → AreNumbersIn kind.ranges ns → g.keyword (g.operation kind.keyword ns) ≡ kind.keyword
+    pub numbers : (ns : List ℕ) → AreNumbersIn kind.ranges ns → g.numbers (g.operation kind.keyword ns) ≡ ns
+
+  -- what the words of a language have to be, that an operation is told by its line, and a script by its operations, and
+  -- that each line of a form is that of an operation, and all operations make a script
   pub record IsListLanguage : Type 0 where
     pub title : is_word g.title ≡ true
     pub names : list_all (λ s. is_word s.name) g.sizes ≡ true
@@ -209,3 +216,6 @@ module _ {O S : Type 0} (g : ListLanguage O S) where
     pub no_finish : (o : O) → bytes_eq (g.keyword o) (codes "finish") ≡ false
     pub one_operation : (o : O) → g.operation (g.keyword o) (g.numbers o) ≡ o
     pub one_script : (s t : S) → g.operations s ≡ g.operations t → s ≡ t
+    pub size_bits : AllByRecursion (λ r. r.1 < 2 ^ 64) size_ranges
+    pub every_form : (sizes : List ℕ) → AreSizes sizes → AllByRecursion IsFormOfOperations (g.forms sizes)
+    pub every_script : (ops : List O) → (s : S) × (g.operations s ≡ ops)

@@ -6,6 +6,8 @@ use Rattle.script_reader.specs.Input.{ClearingInput, IsInput}
 use Rattle.script_reader.specs.Versions.{IsInputWithin}
 use Rattle.script_reader.specs.Grammar.{Spells, IsValidInput, AreTwoTexts, BeginWithInput}
 use Rattle.script_reader.specs.Faults.{IsFirstFault, IsFrontFault}
+use Rattle.script_reader.specs.Gathered.{CallerOf}
+use Rattle.script_reader.specs.ListLanguage.{ListLanguage, IsTextOf, IsText, IsFirstFaultIn}
 
 -- the text has a first fault
 abbrev pub HasFault : List ℕ → Type 0
@@ -44,3 +46,23 @@ OneFront =
     (bytes : List ℕ) (input other : ClearingInput) (text rest : List ℕ)
     (this : AreTwoTexts bytes input text) (that : AreTwoTexts bytes other rest)
     → (this.front ≡ that.front) × (input ≡ other) × (text ≡ rest)
+
+module _ {O S : Type 0} (g : ListLanguage O S) where
+  -- a text of the language is of one list of sizes and one list of callers at most
+  abbrev pub OneTextIn : Type 0
+  OneTextIn = (text : List ℕ) (sizes others : List ℕ) (callers more : List (CallerOf S)) → IsTextOf g text sizes callers
+      → IsTextOf g text others more → (sizes ≡ others) × (callers ≡ more)
+
+  -- it has one first fault at most
+  abbrev pub OneFaultIn : Type 0
+  OneFaultIn = (text : List ℕ) (number other : ℕ) (why reason : Fault) → IsFirstFaultIn g text number why
+      → IsFirstFaultIn g text other reason → (number ≡ other) × (why ≡ reason)
+
+  -- the bytes have a first fault as a text of the language
+  abbrev pub HasFaultIn : List ℕ → Type 0
+  HasFaultIn text = (number : ℕ) × (why : Fault) × IsFirstFaultIn g text number why
+
+  -- a text of the language has no fault, and bytes that have none are a text of it
+  pub record TextOrFaultyIn : Type 0 where
+    pub either : (text : List ℕ) → IsText g text ⊎ HasFaultIn text
+    pub not_both : (text : List ℕ) → IsText g text → ¬ HasFaultIn text

@@ -1,8 +1,10 @@
 //! What follows of texts, each law the contract of a function that does nothing.
 
 ghost use Rattle.std.specs.Prelude.{◌≡◌};
-ghost use Rattle.script_reader.specs.Statements.{EachInputIsWithinTwo, FrontOrFaulty, OneFault, OneFront, OneInput, ValidOrFaulty};
+ghost use Rattle.script_reader.specs.Statements.{EachInputIsWithinTwo, FrontOrFaulty, OneFault, OneFaultIn, OneFront, OneInput};
+ghost use Rattle.script_reader.specs.Statements.{OneTextIn, TextOrFaultyIn, ValidOrFaulty};
 
+use crate::language::Language;
 use crate::limits::{
     GREATEST_AMOUNT_OF_ONE, GREATEST_CASH_OF_ONE, LONGEST_NAME, MOST_BLOCKS_OF_ONE, MOST_CALLERS,
     MOST_INPUT_BYTES, MOST_SCRIPTS, MOST_WORKERS,
@@ -53,4 +55,19 @@ pub fn one_front()
 /// A text begins with that of an input, or has a first fault up to its line `finish`, and never both.
 pub fn front_or_faulty()
     ensures { FrontOrFaulty }
+{}
+
+/// A text of a language is of one list of sizes and one list of callers at most.
+pub fn one_text_in<L: Language>()
+    ensures { OneTextIn L.language }
+{}
+
+/// A text has one first fault at most as one of a language.
+pub fn one_fault_in<L: Language>()
+    ensures { OneFaultIn L.language }
+{}
+
+/// A text is one of a language, or has a first fault as one, and never both.
+pub fn text_or_faulty_in<L: Language>()
+    ensures { TextOrFaultyIn L.language }
 {}

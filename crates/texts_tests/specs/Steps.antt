@@ -1,11 +1,14 @@
 -- A language of two operations: `add A X` and `show A`, in texts that begin with `steps 1 most M`.
-use Rattle.std.specs.Prelude.{◌≡◌, ℕ, List, [], ◌∷◌, codes, true, false, if◌then◌else◌, slice_index_or, refl}
+use Rattle.std.specs.Prelude.{◌≡◌, ℕ, ◌<◌, ◌^◌, List, [], ◌∷◌, codes, true, false, if◌then◌else◌, slice_index_or, refl}
+use Rattle.std.specs.List.{AllByRecursion}
 use Rattle.std.specs.Str.{bytes_eq}
+use Rattle.std.proofs.Common.{lit<}
 use Rattle.texts_tests.specs.declared.steps.TheConstants.{GREATEST_ACCOUNT, GREATEST_MOST}
 use Rattle.texts_tests.specs.declared.steps.Step.{Step}
 use Rattle.texts_tests.specs.declared.steps.Step.TheVariants as step
 use Rattle.script_reader.specs.Forms.{Form, form}
-use Rattle.script_reader.specs.ListLanguage.{ListLanguage, IsListLanguage, size, is_word}
+use Rattle.script_reader.specs.ListLanguage.{ListLanguage, AreSizes, IsFormOfOperations, IsListLanguage, size, is_word}
+use Rattle.script_reader.proofs.Listed.Numbers.{one_number, two_numbers}
 
 -- the kinds of operation, in a text with this most
 abbrev pub step_forms : List ℕ → List Form
@@ -38,7 +41,7 @@ steps = record {
   operations = λ s. s;
 }
 
--- its words are words, and an operation is told by its line
+-- its words are words, an operation is told by its line, and each line of a form is that of an operation
 pub steps_lawful : IsListLanguage steps
 steps_lawful = record {
   title = refl;
@@ -49,6 +52,9 @@ steps_lawful = record {
   no_finish = finishes;
   one_operation = one;
   one_script = λ s t e. e;
+  size_bits = (lit< tt, tt);
+  every_form = forms;
+  every_script = λ ops. (ops, refl);
 }
   where
     words : (o : Step) → is_word (keyword_of o) ≡ true
@@ -70,3 +76,13 @@ steps_lawful = record {
     one : (o : Step) → step_of (keyword_of o) (numbers_of o) ≡ o
     one (step.Add a x) = refl
     one (step.Show a) = refl
+
+    most : (sizes : List ℕ) → AreSizes steps sizes → slice_index_or sizes 0 0 < 2 ^ 64
+    most [] h = absurd h
+    most (m ∷ sizes) h = h.2
+
+    forms : (sizes : List ℕ) → AreSizes steps sizes → AllByRecursion (IsFormOfOperations steps) (step_forms sizes)
+    forms sizes h = (
+      record { bits = (lit< tt, (most sizes h, tt)); keyword = λ ns k. refl; numbers = two_numbers _ _ },
+      (record { bits = (lit< tt, tt); keyword = λ ns k. refl; numbers = one_number _ }, tt),
+    )

@@ -7,6 +7,10 @@ mod ends;
 #[cfg(test)]
 mod languages;
 #[cfg(test)]
+mod laws;
+#[cfg(test)]
+mod operations;
+#[cfg(test)]
 mod plain;
 #[cfg(test)]
 mod printed;

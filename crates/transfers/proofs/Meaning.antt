@@ -22,6 +22,7 @@ gets_as wanted other answer gets call restarts uses is meant = record {
   seen = gets.seen;
   made_by = gets.made_by;
   call_is = (gets.call_is.0, call ∙ gets.call_is.1);
+  knew = gets.knew;
   floor_is = gets.floor_is;
   restarts_are = restarts ∙ gets.restarts_are;
   uses_are = subst (λ u. ListsUses gets.entry.uses u.items) (sym uses) gets.uses_are;

@@ -16,7 +16,7 @@ use Rattle.txn_commit.specs.Lists.{calls_of, AreCounted, AreDealt, AreMeant, Are
 use Rattle.txn_commit.specs.Ordered.{AreRun}
 use Rattle.txn_commit.proofs.Flattened.{of_in}
 use Rattle.txn_commit.proofs.ListWork.{in_range}
-use Rattle.txn_commit.proofs.Orders.Once.{in_filter}
+use Rattle.word_table.proofs.Joined.Counting.{in_filter}
 use Rattle.transfer_jobs.specs.declared.vault.Vault.{Vault}
 use Rattle.transfer_jobs.specs.Moving.{HasSum}
 use Rattle.transfers.specs.declared.moves.Answer.{Answer}

@@ -1,5 +1,6 @@
 -- What is said of a status, said of its number.
-use Rattle.std.proofs.Common.{◌≡◌, ◌≤◌, ◌⊎◌, inl, inr, ℕ, zero, suc, List, length, Option, IfSome, Result, Ok, IfOk, refl, sym, ap, subst, ◌∙◌}
+use Rattle.std.proofs.Common.{◌≡◌, ◌≤◌, ◌⊎◌, inl, inr, ℕ, zero, suc, List, length, Option, Some}
+use Rattle.std.proofs.Common.{None, IfSome, IsSome, true≢false, Result, Ok, IfOk, refl, sym, ap, subst, ◌∙◌}
 use Rattle.std.proofs.lemmas.Option.{IfSome_then}
 use Rattle.script_reader.specs.declared.limits.TheConstants.{MOST_INPUT_BYTES}
 use Rattle.twoplsf.specs.declared.status.Status.{Status}
@@ -47,6 +48,11 @@ one_of_three n s a b c this (inr other) = inr (one_of_two n s b c this other)
 -- what holds of the value holds where the result has it
 pub where_ok : {T E : Type 0} {r : Result T E} {x : T} (P : T → Type 0) → r ≡ Ok x → P x → IfOk r P
 where_ok P is h = subst (λ r. IfOk r P) (sym is) h
+
+-- a value that is there, with what holds of it
+pub some_with : {T : Type 0} (o : Option T) (P : T → Type 0) → IsSome o → IfSome o P → (x : T) × P x
+some_with None P there h = absurd (true≢false (sym there))
+some_with (Some x) P there h = (x, h)
 
 -- what the work comes to on bytes that begin well, said of its number
 pub ends_in_two : (Begin : List ℕ → Type 0) (Read Write : Type 0) (n : ℕ) (s a b : Status) (left : Option (List ℕ)) → n ≡ exit_status s

@@ -16,18 +16,16 @@ use Rattle.twoplsf.specs.declared.status.Status.TheVariants as status
 use Rattle.record_text.specs.Grammar.{IsRecordFault}
 use Rattle.order_text.specs.Grammar.{IsOrderFault}
 use Rattle.twoplsf.specs.Command.{IsAnyRunCommand, IsCheck, IsMaking, IsOrders, IsReading, IsRecords, IsValidCommand}
+use Rattle.twoplsf.specs.Causes.{Failed, HasCauses}
 use Rattle.twoplsf.specs.Check.{differs_line}
 use Rattle.twoplsf.specs.Made.{IsMadeText, PrintsMade}
-use Rattle.twoplsf.specs.Answer.{IsDoneText, IsDifferenceFor, IsRefusalFor, IsRefusalOf, HaveInputFor, OfBytesRead, PrintsOutput, TookText, refused_line}
+use Rattle.twoplsf.specs.Answer.{IsRefusalOf, HaveInputFor, OfBytesRead, PrintsOutput, refused_line}
+use Rattle.twoplsf.proofs.ByWords.{IsDoneText, IsDifferenceFor, IsRefusalFor, TookBy}
 use Rattle.twoplsf.specs.Orders.{IsOrdersText, PrintsOrderOutput}
 use Rattle.twoplsf.specs.Records.{IsRecordsText, PrintsRecordOutput}
 use Rattle.twoplsf.proofs.Served.{of_left, run_not_check, records_not_check, orders_not_check, read_not_made, by_run, by_check, by_records, by_orders}
 use Rattle.twoplsf.proofs.Served.{IsOnly, done_input, difference_input, done_is_output, refused_none, refused_first, only_fault, only_front}
 use Rattle.twoplsf.proofs.Served.{only_record, only_order, wrong_is_none, wrong_is_first}
-
--- the status stands for trouble outside
-abbrev pub Failed : Status → Type 0
-Failed result = (result ≡ status.ReadFault) ⊎ (result ≡ status.WriteFault) ⊎ (result ≡ status.OutOfMemory)
 
 -- the ways in which a command that reads ends on the bytes that were left
 pub data EndsOn (result : Status) (words : List (List ℕ)) (bytes : List ℕ) : Type 0 where
@@ -57,7 +55,7 @@ made_text_is words text (inr (inr cells)) = inr (inr (cells.workers, cells.round
 
 -- a command that reads ends in one of these ways
 ends : (result : Status) (words : List (List ℕ)) (left now before after : Option (List ℕ))
-    → TookText result words left now before after → TakesAtMost left now (MOST_INPUT_BYTES + 1) → IsReading words
+    → TookBy result words left now before after → TakesAtMost left now (MOST_INPUT_BYTES + 1) → IsReading words
     → IfSome left (EndsOn result words)
 ends status.Done words left now before after (text, inl h, printed) taken reading = of_left left h.2 (λ bytes is. IsDone refl is.0 text is.1)
 ends status.Done words left now before after (text, inr made, printed) taken reading = absurd (read_not_made words reading (made_text_is words text made))
@@ -119,7 +117,7 @@ module _ (result : Status) (words : List (List ℕ)) (bytes : List ℕ) where
 
 -- a command that reads nothing ends so where no fault came
 makes : (result : Status) (words : List (List ℕ)) (left now before after : Option (List ℕ))
-    → TookText result words left now before after → (result ≡ status.ReadFault → IsReading words) → result ≢ status.WriteFault → IsMaking words
+    → TookBy result words left now before after → (result ≡ status.ReadFault → IsReading words) → result ≢ status.WriteFault → IsMaking words
     → (result ≡ status.Done) ⊎ (result ≡ status.OutOfMemory)
 makes status.Done words left now before after h read write making = inl refl
 makes status.Differs words left now before after (text, h, printed) read write making = absurd (read_not_made words h.0 making)
@@ -132,7 +130,7 @@ makes status.OutOfMemory words left now before after h read write making = inr r
 
 -- a command has ended: what its sink took, by what its source gave, and what two of the statuses say besides
 pub record HasEnded (result : Status) (words : List (List ℕ)) (left now before after : Option (List ℕ)) (Read Write : Type 0) : Type 0 where
-  pub text : TookText result words left now before after
+  pub text : TookBy result words left now before after
   pub taken : TakesAtMost left now (MOST_INPUT_BYTES + 1)
   pub read : result ≡ status.ReadFault → IsReading words × Read
   pub write : result ≡ status.WriteFault → Write
@@ -140,8 +138,8 @@ pub record HasEnded (result : Status) (words : List (List ℕ)) (left now before
 module _ {result : Status} {words : List (List ℕ)} {left now before after : Option (List ℕ)} {Read Write : Type 0}
     (h : HasEnded result words left now before after Read Write) where
   -- the text of the status that it is
-  text_of : (is : Status) → result ≡ is → TookText is words left now before after
-  text_of is same = subst (λ s. TookText s words left now before after) same h.text
+  text_of : (is : Status) → result ≡ is → TookBy is words left now before after
+  text_of is same = subst (λ s. TookBy s words left now before after) same h.text
 
   -- what is printed by a command that reads
   done_read : (Prints : List ℕ → Type 0) → IsReading words
@@ -149,7 +147,7 @@ module _ {result : Status} {words : List (List ℕ)} {left now before after : Op
       → result ≡ status.Done → OfBytesRead left Prints
   done_read Prints reading prints is = by (text_of status.Done is)
     where
-      by : TookText status.Done words left now before after → OfBytesRead left Prints
+      by : TookBy status.Done words left now before after → OfBytesRead left Prints
       by (text, inl t, printed) =
           let read = t.2 in
           record { bytes = read.bytes; told = read.told; holds = prints read.bytes text read.holds.1 printed }
@@ -171,7 +169,7 @@ module _ {result : Status} {words : List (List ℕ)} {left now before after : Op
   pub made : IsMaking words → result ≡ status.Done → PrintsMade words before after
   made making is = by (text_of status.Done is)
     where
-      by : TookText status.Done words left now before after → PrintsMade words before after
+      by : TookBy status.Done words left now before after → PrintsMade words before after
       by (text, inl t, printed) = absurd (read_not_made words t.0 making)
       by (text, inr made, printed) = record { text = text; made = made; printed = printed }
 
@@ -239,6 +237,24 @@ module _ {result : Status} {words : List (List ℕ)} {left now before after : Op
   -- no command but `check` finds that a text differs
   pub only_check : result ≡ status.Differs → IsCheck words
   only_check is = (text_of status.Differs is).1.2.holds.1.0
+
+  -- so each status has its cause
+  pub causes : HasCauses result words left now before after
+  causes = record {
+    bad_words = bad_words;
+    too_large = too_large;
+    too_many = too_many;
+    first_fault = first_fault;
+    first_fault_in_front = first_fault_in_front;
+    first_record_fault = first_record_fault;
+    first_order_fault = first_order_fault;
+    bad_input = bad_input;
+    no_input = no_input;
+    only_check = only_check;
+    differs = differs;
+    first_wrong = first_wrong;
+    no_output = no_output;
+  }
 
   -- where nothing is wrong, the work is done, or a text differs
   complete_reading : IsReading words

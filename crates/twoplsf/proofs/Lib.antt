@@ -8,10 +8,12 @@ pub mod Summing
 pub mod Drills
 -- the lines of cells, one after another
 pub mod CellLines
--- the answers of commands that read nothing
-pub mod Makings
--- what was printed, put together
+-- what goes with each status, said by the words and the bytes that were read
+pub mod ByWords
+-- what follows of words, of the bytes that were read, and of the text that was printed
 pub mod Served
+-- from what was read and answered to what serving came to
+pub mod Serving
 -- what follows from the text that the sink took
 pub mod FromText
 -- what is said of a status, said of its number

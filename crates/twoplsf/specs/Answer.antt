@@ -1,36 +1,41 @@
 -- What the top call prints.
-use Rattle.std.specs.Prelude.{◌≡◌, ◌⊎◌, ℕ, ◌+◌, ◌≤◌, List, [], ◌∷◌, Option, Some, None, IfSome, codes, length}
-use Rattle.std.specs.Io.KnownBytes.{Appends, IsAtEnd}
+use Rattle.std.specs.Prelude.{◌≡◌, ◌⊎◌, ℕ, ◌+◌, ◌≤◌, List, [], ◌∷◌, Option, Some, None, IfSome, codes, length, IsTrue}
+use Rattle.std.specs.Io.KnownBytes.{Appends, Consumes, IsAtEnd}
 use Rattle.io_ends.specs.Taken.{AppendsPrefix, count_taken}
 use Rattle.script_reader.specs.declared.fault.Fault.{Fault}
 use Rattle.script_reader.specs.Text.{line, number}
 use Rattle.script_reader.specs.FaultWords.{fault_word}
 use Rattle.script_reader.specs.Input.{ClearingInput}
-use Rattle.script_reader.specs.Grammar.{Spells, IsValidInput, BeginWithInput}
+use Rattle.script_reader.specs.Grammar.{Spells, IsValidInput, BeginWithInput, AreTwoTexts}
 use Rattle.script_reader.specs.Faults.{IsFirstFault, IsFrontFault}
-use Rattle.twoplsf.specs.Command.{IsRunCommand, IsCheck, IsReading, IsValidCommand, ByCommand}
+use Rattle.twoplsf.specs.Command.{IsRunCommand, IsReading, IsValidCommand, ByCommand}
 use Rattle.books_report.specs.declared.limits.TheConstants.{RESTARTS_BELOW}
 use Rattle.books_report.specs.Output.{IsOutput, output_of}
 use Rattle.books_report.specs.Checking.{IsFirstWrongLine}
+use Rattle.input_maker.specs.Made.{made_input_text}
+use Rattle.txn_cells.specs.declared.coded.Coded.{Ghosts as Codes}
+use Rattle.txn_cells.specs.Adding.{sums_of}
 use Rattle.worker_pool.specs.declared.done.DayEnd.{DayEnd}
 use Rattle.twoplsf.specs.Day.{IsDayOf, journal_of}
 use Rattle.script_reader.specs.declared.limits.TheConstants.{MOST_INPUT_BYTES}
-use Rattle.twoplsf.specs.declared.command.Reading.{Reading}
-use Rattle.twoplsf.specs.declared.command.Reading.TheVariants as reading
+use Rattle.twoplsf.specs.Commands.{IsCommand, reads_text}
+use Rattle.twoplsf.specs.declared.command.Plan.{Plan}
+use Rattle.twoplsf.specs.declared.command.Command.{Command}
+use Rattle.twoplsf.specs.declared.command.Command.TheVariants as command
 use Rattle.twoplsf.specs.declared.status.Status.{Status}
 use Rattle.twoplsf.specs.declared.status.Status.TheVariants as status
 use Rattle.twoplsf.specs.declared.answer.Answer.{Answer}
-use Rattle.twoplsf.specs.declared.answer.Answer.TheVariants.{Output, Agrees, Difference, Refusal, Records, Orders}
-use Rattle.twoplsf.specs.Check.{HoldOutput, HoldWrongLine, agrees_line, differs_line}
-use Rattle.twoplsf.specs.Made.{IsMadeText}
+use Rattle.twoplsf.specs.declared.answer.Answer.TheVariants.{Text, Day, Records, Orders, Cells}
+use Rattle.twoplsf.specs.declared.serve.Served.{Served}
+use Rattle.twoplsf.specs.Check.{agrees_line, differs_line}
+use Rattle.twoplsf.specs.Cells.{IsCellsRun, cells_text}
+use Rattle.twoplsf.specs.Made.{drill_text, planned_input}
 use Rattle.record_text.specs.Grammar.{SpellsRecords, IsRecordFault}
 use Rattle.record_text.specs.Input.{StoreInput}
-use Rattle.txn_records.specs.declared.done.RecordDay.{RecordDay}
-use Rattle.twoplsf.specs.Records.{IsRecordOutputFor, IsRecordsDayOf, IsRecordsText}
+use Rattle.twoplsf.specs.Records.{IsRecordsDayOf, IsRecordsText}
 use Rattle.order_text.specs.Grammar.{SpellsOrders, IsOrderFault}
 use Rattle.order_text.specs.Input.{BookInput}
-use Rattle.order_match.specs.declared.done.OrderDay.{OrderDay}
-use Rattle.twoplsf.specs.Orders.{IsOrderOutputFor, IsOrdersDayOf, IsOrdersText}
+use Rattle.twoplsf.specs.Orders.{IsOrdersDayOf, IsOrdersText}
 
 -- this holds of the bytes that were read, which are those that were left, where the source tells them
 pub record OfBytesRead (left : Option (List ℕ)) (P : List ℕ → Type 0) : Type 0 where
@@ -74,48 +79,92 @@ pub record IsRefusalOf (IsFirst : List ℕ → ℕ → Fault → Type 0) (bytes 
 
 -- the status that an answer is printed with
 abbrev pub status_of : Answer → Status
-status_of (Output text day) = status.Done
-status_of (Agrees text) = status.Done
-status_of (Difference text) = status.Differs
-status_of (Refusal text) = status.BadInput
-status_of (Records day) = status.Done
-status_of (Orders day) = status.Done
+status_of (Text is text) = is
+status_of _ = status.Done
 
 -- its text
 abbrev pub text_of_answer : Answer → List ℕ
-text_of_answer (Output text day) = text.items
-text_of_answer (Agrees text) = text.items
-text_of_answer (Difference text) = text.items
-text_of_answer (Refusal text) = text.items
+text_of_answer (Text is text) = text.items
+text_of_answer (Day text day) = text.items
 text_of_answer (Records day) = day.text.items
 text_of_answer (Orders day) = day.text.items
+text_of_answer (Cells text closed) = text.items
 
--- its day, which an output alone has
-abbrev pub day_of : Answer → Option DayEnd
-day_of (Output text day) = Some day
-day_of _ = None
+-- what serving comes to with nothing to tell of what was done
+abbrev pub only_status : Status → Served
+only_status is = record { status = is; day = None; cells = None; records = None; orders = None }
 
--- its day of a record store, which an output of one alone has
-abbrev pub records_of : Answer → Option RecordDay
-records_of (Records day) = Some day
-records_of _ = None
+-- and what it comes to where the text of this answer was written whole
+abbrev pub served_of : Answer → Served
+served_of (Text is text) = only_status is
+served_of (Day text day) = record { status = status.Done; day = Some day; cells = None; records = None; orders = None }
+served_of (Records day) = record { status = status.Done; day = None; cells = None; records = Some day; orders = None }
+served_of (Orders day) = record { status = status.Done; day = None; cells = None; records = None; orders = Some day }
+served_of (Cells text closed) = record { status = status.Done; day = None; cells = Some closed; records = None; orders = None }
 
--- its day of a limit order book, which an output of one alone has
-abbrev pub orders_of : Answer → Option OrderDay
-orders_of (Orders day) = Some day
-orders_of _ = None
+-- the answer is this text with this status, and tells of nothing that was done
+abbrev pub IsText : Status → List ℕ → Answer → Type 0
+IsText is said (Text found text) = (found ≡ is) × (text.items ≡ said)
+IsText is said _ = ⊥
 
--- a day of the input by so many workers, and the output for its items
-pub record TellsOfDay (input : ClearingInput) (workers : ℕ) (text : List ℕ) (day : DayEnd) : Type 0 where
-  pub of_input : IsDayOf input workers day
-  pub text_is : text ≡ output_of input (journal_of day)
+-- the answer refuses the faulty line of the bytes that is the first by this relation, with the first reason for it
+abbrev pub Refuses : (List ℕ → ℕ → Fault → Type 0) → List ℕ → Answer → Type 0
+Refuses IsFirst bytes (Text is text) = (is ≡ status.BadInput) × IsRefusalOf IsFirst bytes text.items
+Refuses IsFirst bytes _ = ⊥
 
--- the answer to bytes: a day of the input that they spell and its output, or the refusal of their first fault
-abbrev pub IsAnswerTo : ℕ → List ℕ → Answer → Type 0
-IsAnswerTo workers bytes (Output text day) =
-    (input : ClearingInput) × Spells bytes input × TellsOfDay input workers text.items day
-IsAnswerTo workers bytes (Refusal text) = IsRefusalOf IsFirstFault bytes text.items
-IsAnswerTo workers bytes _ = ⊥
+-- bytes that are to be the text of an input: they spell one, and this is the answer to it; or they spell none, and the
+-- answer refuses their first fault
+abbrev pub Answers : {Input : Type 0} → (List ℕ → Input → Type 0) → (List ℕ → ℕ → Fault → Type 0)
+    → (Input → Answer → Type 0) → List ℕ → Answer → Type 0
+Answers {Input = Input} Spells IsFirst IsTo bytes answer =
+    ((input : Input) × Spells bytes input × IsTo input answer)
+    ⊎ (((input : Input) → ¬ Spells bytes input) × Refuses IsFirst bytes answer)
+
+-- an input was run by so many workers: the text is an output of it, for the items of a day of it
+abbrev pub IsRunOf : ℕ → ClearingInput → Answer → Type 0
+IsRunOf workers input (Day text day) =
+    IsOutput input workers text.items × IsDayOf input workers day × (text.items ≡ output_of input (journal_of day))
+IsRunOf workers input _ = ⊥
+
+-- a text was compared with the input that it stands behind: it is an output of it, or this is its first wrong line
+abbrev pub IsComparisonOf : ClearingInput × List ℕ → Answer → Type 0
+IsComparisonOf two answer =
+    (IsOutput two.0 RESTARTS_BELOW two.1 × IsText status.Done agrees_line answer)
+    ⊎ ((n : ℕ) × IsFirstWrongLine two.0 RESTARTS_BELOW two.1 n × IsText status.Differs (differs_line n) answer)
+
+-- the input of a record store was run by so many workers: its text is an output of it, for the items of the day
+abbrev pub IsRecordsRunOf : ℕ → StoreInput → Answer → Type 0
+IsRecordsRunOf workers input (Records day) = IsRecordsDayOf input workers day
+IsRecordsRunOf workers input _ = ⊥
+
+-- so was the input of a limit order book
+abbrev pub IsOrdersRunOf : ℕ → BookInput → Answer → Type 0
+IsOrdersRunOf workers input (Orders day) = IsOrdersDayOf input workers day
+IsOrdersRunOf workers input _ = ⊥
+
+-- a made input was run by so many workers: the text sums up what the day of it left
+abbrev pub IsDrillOf : ℕ → Plan → Answer → Type 0
+IsDrillOf workers plan (Day text day) =
+    (text.items ≡ drill_text plan.seed plan.callers plan.scripts)
+    × IsDayOf (planned_input plan) workers day
+IsDrillOf workers plan _ = ⊥
+
+module _ (code : Codes ℕ) where
+  -- workers added to cells, so many rounds each: the text has the sums of what they added
+  abbrev pub IsCellsOf : ℕ → ℕ → Answer → Type 0
+  IsCellsOf workers rounds (Cells text closed) =
+      (text.items ≡ cells_text (sums_of workers rounds)) × IsCellsRun code workers rounds closed
+  IsCellsOf workers rounds _ = ⊥
+
+  -- the answer of each command to bytes, of which those that read nothing take no notice
+  abbrev pub IsAnswer : Command → List ℕ → Answer → Type 0
+  IsAnswer (command.Run workers) = Answers Spells IsFirstFault (IsRunOf workers)
+  IsAnswer command.Check = Answers (λ bytes two. AreTwoTexts bytes two.0 two.1) IsFrontFault IsComparisonOf
+  IsAnswer (command.Records workers) = Answers SpellsRecords IsRecordFault (IsRecordsRunOf workers)
+  IsAnswer (command.Orders workers) = Answers SpellsOrders IsOrderFault (IsOrdersRunOf workers)
+  IsAnswer (command.Make plan) = λ bytes. IsText status.Done (made_input_text plan.seed plan.callers plan.scripts)
+  IsAnswer (command.Drill workers plan) = λ bytes. IsDrillOf workers plan
+  IsAnswer (command.Cells workers rounds) = λ bytes. IsCellsOf workers rounds
 
 -- the day of a run: that of the input that the bytes spell, by as many workers as the words say; and what was printed
 -- is the output for its items, in their order and with their restarts
@@ -128,93 +177,40 @@ pub record IsDayFor (words : List (List ℕ)) (bytes : List ℕ) (before now : O
   pub day_is : IsDayOf input workers day
   pub printed : Appends before now (output_of input (journal_of day))
 
--- the answer to a text that is to be an output of an input
-abbrev pub IsComparison : ClearingInput → List ℕ → Answer → Type 0
-IsComparison input read (Agrees text) = IsOutput input RESTARTS_BELOW read × (text.items ≡ agrees_line)
-IsComparison input read (Difference text) =
-    (n : ℕ) × IsFirstWrongLine input RESTARTS_BELOW read n × (text.items ≡ differs_line n)
-IsComparison input read _ = ⊥
-
--- the answer to bytes that are to be an input and an output of it
-abbrev pub IsCheckOf : List ℕ → Answer → Type 0
-IsCheckOf bytes (Agrees text) = HoldOutput bytes × (text.items ≡ agrees_line)
-IsCheckOf bytes (Difference text) = (n : ℕ) × HoldWrongLine bytes n × (text.items ≡ differs_line n)
-IsCheckOf bytes (Refusal text) = IsRefusalOf IsFrontFault bytes text.items
-IsCheckOf bytes _ = ⊥
-
--- the answer to the bytes of a record store: a day of the input that they spell, or the refusal of their first fault
-abbrev pub IsRecordsAnswer : ℕ → List ℕ → Answer → Type 0
-IsRecordsAnswer workers bytes (Records day) =
-    (input : StoreInput) × SpellsRecords bytes input × IsRecordsDayOf input workers day
-IsRecordsAnswer workers bytes (Refusal text) = IsRefusalOf IsRecordFault bytes text.items
-IsRecordsAnswer workers bytes _ = ⊥
-
--- the answer to those of a limit order book: a day of the input that they spell, or the refusal of their first fault
-abbrev pub IsOrdersAnswer : ℕ → List ℕ → Answer → Type 0
-IsOrdersAnswer workers bytes (Orders day) =
-    (input : BookInput) × SpellsOrders bytes input × IsOrdersDayOf input workers day
-IsOrdersAnswer workers bytes (Refusal text) = IsRefusalOf IsOrderFault bytes text.items
-IsOrdersAnswer workers bytes _ = ⊥
-
--- the answer of a command to bytes
-abbrev pub IsAnswerBy : Reading → List ℕ → Answer → Type 0
-IsAnswerBy (reading.Run workers) bytes answer = IsAnswerTo workers bytes answer
-IsAnswerBy reading.Check bytes answer = IsCheckOf bytes answer
-IsAnswerBy (reading.Records workers) bytes answer = IsRecordsAnswer workers bytes answer
-IsAnswerBy (reading.Orders workers) bytes answer = IsOrdersAnswer workers bytes answer
-
--- what a command that did its work prints: an output, or that the text behind the input is one, or an output of a record
--- store or of a limit order book
-abbrev pub IsDoneText : List (List ℕ) → List ℕ → List ℕ → Type 0
-IsDoneText words bytes text = ByCommand words (IsOutputFor words bytes text)
-    (HoldOutput bytes × (text ≡ agrees_line)) (IsRecordOutputFor words bytes text) (IsOrderOutputFor words bytes text)
-
--- what is printed for a text behind an input that is no output of it
-abbrev pub IsDifferenceFor : List (List ℕ) → List ℕ → List ℕ → Type 0
-IsDifferenceFor words bytes text = IsCheck words × ((n : ℕ) × HoldWrongLine bytes n × (text ≡ differs_line n))
-
--- what refuses bytes that do not have the input that the command reads
-abbrev pub IsRefusalFor : List (List ℕ) → List ℕ → List ℕ → Type 0
-IsRefusalFor words bytes text = ByCommand words (IsRefusalOf IsFirstFault bytes text)
-    (IsRefusalOf IsFrontFault bytes text) (IsRefusalOf IsRecordFault bytes text) (IsRefusalOf IsOrderFault bytes text)
+-- what was given to a command that reads: all that was left, up to the end, within the size
+abbrev pub WasGiven : Command → Option (List ℕ) → Option (List ℕ) → List ℕ → Type 0
+WasGiven command left now bytes =
+    IsTrue (reads_text command) → Consumes left now bytes × IsAtEnd now × (length bytes ≤ MOST_INPUT_BYTES)
 
 -- the bytes have the input that the command reads: all of them are one, or they begin with one
 abbrev pub HaveInputFor : List (List ℕ) → List ℕ → Type 0
 HaveInputFor words bytes =
     ByCommand words (IsValidInput bytes) (BeginWithInput bytes) (IsRecordsText bytes) (IsOrdersText bytes)
 
--- a text goes with a status, by the words and by what the source had left and has left now
-abbrev pub IsTextFor : Status → List (List ℕ) → Option (List ℕ) → Option (List ℕ) → List ℕ → Type 0
-IsTextFor status.Done words left now text =
-    (IsReading words × IsAtEnd now
-    × OfBytesRead left (λ bytes. (length bytes ≤ MOST_INPUT_BYTES) × IsDoneText words bytes text))
-    ⊎ IsMadeText words text
-IsTextFor status.Differs words left now text = IsReading words × IsAtEnd now
-    × OfBytesRead left (λ bytes. (length bytes ≤ MOST_INPUT_BYTES) × IsDifferenceFor words bytes text)
-IsTextFor status.BadWords words left now text = (¬ IsValidCommand words) × (text ≡ refused_words)
-IsTextFor status.BadInput words left now text = IsReading words × IsAtEnd now
-    × OfBytesRead left (λ bytes. (length bytes ≤ MOST_INPUT_BYTES) × IsRefusalFor words bytes text)
-IsTextFor status.TooLarge words left now text =
-    IsReading words × IfSome (count_taken left now) (λ n. n ≡ MOST_INPUT_BYTES + 1) × (text ≡ refused_size)
-IsTextFor status.ReadFault words left now text = ⊥
-IsTextFor status.WriteFault words left now text = ⊥
-IsTextFor status.OutOfMemory words left now text = ⊥
+module _ (code : Codes ℕ) where
+  -- the words are a command's, and this is an answer of that to the bytes that were read
+  pub record IsAnswerTo (words : List (List ℕ)) (left now : Option (List ℕ)) (answer : Answer) : Type 0 where
+    pub command : Command
+    pub words_are : IsCommand words command
+    pub bytes : List ℕ
+    pub given : WasGiven command left now bytes
+    pub answer_is : IsAnswer code command bytes answer
 
--- the sink took a whole text that goes with the status; after a write fault a prefix of one that goes with another; and
--- nothing is said of it after a read fault and out of memory
-abbrev pub TookText : Status → List (List ℕ) → Option (List ℕ) → Option (List ℕ) → Option (List ℕ) → Option (List ℕ)
-    → Type 0
-TookText status.Done words left now before after =
-    (text : List ℕ) × IsTextFor status.Done words left now text × Appends before after text
-TookText status.Differs words left now before after =
-    (text : List ℕ) × IsTextFor status.Differs words left now text × Appends before after text
-TookText status.BadWords words left now before after =
-    (text : List ℕ) × IsTextFor status.BadWords words left now text × Appends before after text
-TookText status.BadInput words left now before after =
-    (text : List ℕ) × IsTextFor status.BadInput words left now text × Appends before after text
-TookText status.TooLarge words left now before after =
-    (text : List ℕ) × IsTextFor status.TooLarge words left now text × Appends before after text
-TookText status.WriteFault words left now before after =
-    (is : Status) × (text : List ℕ) × IsTextFor is words left now text × AppendsPrefix before after text
-TookText status.ReadFault words left now before after = Unit {0}
-TookText status.OutOfMemory words left now before after = Unit {0}
+  -- the text goes with the status: the refusal of words that are no command, or of bytes that are too many, or an answer's
+  abbrev pub IsTextFor : Status → List (List ℕ) → Option (List ℕ) → Option (List ℕ) → List ℕ → Type 0
+  IsTextFor is words left now text =
+      ((is ≡ status.BadWords) × (¬ IsValidCommand words) × (text ≡ refused_words))
+      ⊎ ((is ≡ status.TooLarge) × IsReading words × IfSome (count_taken left now) (λ n. n ≡ MOST_INPUT_BYTES + 1)
+      × (text ≡ refused_size))
+      ⊎ ((answer : Answer) × IsAnswerTo words left now answer × (is ≡ status_of answer) × (text ≡ text_of_answer answer))
+
+  -- the sink took a whole text that goes with the status; after a write fault a prefix of one that goes with another; and
+  -- nothing is said of it after a read fault and out of memory
+  abbrev pub TookText : Status → List (List ℕ) → Option (List ℕ) → Option (List ℕ) → Option (List ℕ) → Option (List ℕ)
+      → Type 0
+  TookText status.ReadFault words left now before after = Unit {0}
+  TookText status.OutOfMemory words left now before after = Unit {0}
+  TookText status.WriteFault words left now before after =
+      (is : Status) × (text : List ℕ) × IsTextFor is words left now text × AppendsPrefix before after text
+  TookText is words left now before after =
+      (text : List ℕ) × IsTextFor is words left now text × Appends before after text

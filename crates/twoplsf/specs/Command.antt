@@ -1,10 +1,16 @@
 -- The words of the command line.
-use Rattle.std.specs.Prelude.{◌≡◌, ◌⊎◌, ℕ, List, [], ◌∷◌, codes}
+use Rattle.std.specs.Prelude.{◌≡◌, ◌⊎◌, ℕ, List, [], ◌∷◌, codes, map}
+use Rattle.std.specs.declared.string.String.{String}
+use Rattle.std.specs.String.{string_bytes}
 use Rattle.books_model.specs.Ranges.{IsWithin}
 use Rattle.script_reader.specs.declared.limits.TheConstants.{MOST_WORKERS}
 use Rattle.script_reader.specs.Text.{number}
 use Rattle.input_maker.specs.Statements.{AreForMake}
 use Rattle.txn_cells.specs.declared.limits.TheConstants.{MOST_ROUNDS}
+
+-- the texts of words, which are what a command is told by
+abbrev pub texts_of : {Z : Type 0} → List (String Z) → List (List ℕ)
+texts_of words = map string_bytes words
 
 -- `run W`, with a number of workers
 pub record IsRunCommand (words : List (List ℕ)) (workers : ℕ) : Type 0 where

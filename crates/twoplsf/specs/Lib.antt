@@ -7,6 +7,7 @@ pub mod Stores
 pub mod Records
 pub mod Orders
 pub mod Made
-pub mod Making
 pub mod Answer
+pub mod Serving
+pub mod Causes
 pub mod Ending

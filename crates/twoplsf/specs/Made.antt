@@ -2,6 +2,8 @@
 use Rattle.std.specs.Prelude.{◌≡◌, ◌⊎◌, ℕ, ◌+◌, ◌*◌, List, [], ◌∷◌, ◌++◌, Option, codes}
 use Rattle.std.specs.Io.KnownBytes.{Appends}
 use Rattle.script_reader.specs.Text.{line, number}
+use Rattle.script_reader.specs.Input.{ClearingInput}
+use Rattle.twoplsf.specs.declared.command.Plan.{Plan}
 use Rattle.input_maker.specs.Made.{made_input, made_input_text}
 use Rattle.input_maker.specs.Days.{all_deposits}
 use Rattle.worker_pool.specs.declared.done.DayEnd.{DayEnd}
@@ -10,6 +12,10 @@ use Rattle.twoplsf.specs.Command.{IsMakeCommand, IsDrillCommand, IsCellsCommand}
 use Rattle.twoplsf.specs.Cells.{cells_text}
 use Rattle.twoplsf.specs.Check.{agrees_line}
 use Rattle.twoplsf.specs.Day.{IsDayOf}
+
+-- the input of a plan
+abbrev pub planned_input : Plan → ClearingInput
+planned_input plan = made_input plan.seed plan.callers plan.scripts
 
 -- what a line with a number says
 abbrev pub sum_line : List ℕ → ℕ → List ℕ

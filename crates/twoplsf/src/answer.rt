@@ -5,7 +5,9 @@ ghost use Rattle.books_model.specs.Ranges.{IsWithin};
 ghost use Rattle.books_report.specs.Lines.{lent};
 ghost use Rattle.books_report.specs.Output.{output_of};
 ghost use Rattle.script_reader.specs.declared.limits.TheConstants.{MOST_WORKERS};
-ghost use Rattle.twoplsf.specs.Answer.{IsAnswerTo, day_of, orders_of, records_of, refused_line, status_of, text_of_answer};
+ghost use Rattle.script_reader.specs.Faults.{IsFirstFault};
+ghost use Rattle.script_reader.specs.Grammar.{Spells};
+ghost use Rattle.twoplsf.specs.Answer.{Answers, IsRunOf, IsText, refused_line, status_of, text_of_answer};
 ghost use Rattle.twoplsf.specs.Day.{IsDayOf, closing_books, journal_of, line_of};
 
 use crate::day::run_day;
@@ -20,77 +22,71 @@ use std::sync::Wait;
 use std::thread::Threads;
 use txn_books::laws::one_books;
 use txn_books::{BooksShape, read_books};
+use txn_cells::CellsShape;
 use txn_records::RecordDay;
+use word_table::Closed;
 use worker_gate::Gate;
 use worker_pool::{DayEnd, Done};
 
-/// A text to be printed.
+/// What a command has to say, and what was done for it.
 #[derive(Drop)]
 pub enum Answer {
-    /// A journal and closing books, and the day that they tell of.
-    Output { text: Vec<u8>, day: DayEnd },
-    /// That the text behind an input is an output of it.
-    Agrees(Vec<u8>),
-    /// The first wrong line of a text that is no output.
-    Difference(Vec<u8>),
-    /// A faulty line and its fault.
-    Refusal(Vec<u8>),
+    /// A text and its status, with nothing to tell beside it.
+    Text {
+        status: Status,
+        text: Vec<u8>,
+    },
+    /// The text of a day, and the day.
+    Day {
+        text: Vec<u8>,
+        day: DayEnd,
+    },
     /// A day of a record store, with the text that tells of it.
     Records(RecordDay),
     /// A day of a limit order book, with the text that tells of it.
     Orders(OrderDay),
+    /// The values of cells, and the closed table that they are in.
+    Cells {
+        text: Vec<u8>,
+        closed: Closed<CellsShape<u128>>,
+    },
 }
 
 impl Answer {
-    // The status that it is printed with.
-    pub(crate) fn status(&self) -> Status
+    /// The status that it is printed with.
+    pub fn status(&self) -> Status
         ensures { result ≡ status_of self.now }
     {
         match self {
-            Answer::Output { .. } | Answer::Agrees(_) | Answer::Records(_) | Answer::Orders(_) =>
-                Status::Done,
-            Answer::Difference(_) => Status::Differs,
-            Answer::Refusal(_) => Status::BadInput,
+            Answer::Text { status, .. } => *status,
+            _ => Status::Done,
         }
     }
 
-    // Its text.
-    pub(crate) fn text(&self) -> &[u8]
+    /// Its text.
+    pub fn text(&self) -> &[u8]
         ensures { result.now ≡ text_of_answer self.now }
     {
         match self {
-            Answer::Output { text, .. }
-            | Answer::Agrees(text)
-            | Answer::Difference(text)
-            | Answer::Refusal(text) => text,
+            Answer::Text { text, .. } | Answer::Day { text, .. } | Answer::Cells { text, .. } =>
+                text,
             Answer::Records(day) => &day.text,
             Answer::Orders(day) => &day.text,
         }
     }
-
-    // Its day, which an output alone has, its day of a record store, and that of a limit order book.
-    pub(crate) fn into_days(self) -> (Option<DayEnd>, Option<RecordDay>, Option<OrderDay>)
-        ensures day { result.0 ≡ day_of self }
-        ensures records { result.1 ≡ records_of self }
-        ensures orders { result.2 ≡ orders_of self }
-    {
-        match self {
-            Answer::Output { day, .. } => (Some(day), None, None),
-            Answer::Records(day) => (None, Some(day), None),
-            Answer::Orders(day) => (None, None, Some(day)),
-            Answer::Agrees(_) | Answer::Difference(_) | Answer::Refusal(_) => (None, None, None),
-        }
-    }
 }
 
-// The line that refuses bytes, by their first faulty line.
-pub(crate) fn refusal_of(alloc: Global, line: u32, why: Fault) -> Result<Vec<u8>, OutOfMemory>
-    ensures { IfOk result (λ text. text.items ≡ refused_line line why) }
+// The answer that refuses bytes, by their first faulty line.
+pub(crate) fn refusal(alloc: Global, line: u32, why: Fault) -> Result<Answer, OutOfMemory>
+    ensures { IfOk result (IsText Status.BadInput (refused_line line why)) }
 {
     let mut text = String::from_str(alloc, "refused line ")?;
     write!(text, "{line} {why}")?;
     text.push_str("\n")?;
-    Ok(text.into_bytes())
+    Ok(Answer::Text {
+        status: Status::BadInput,
+        text: text.into_bytes(),
+    })
 }
 
 // The lines of a journal.
@@ -169,9 +165,8 @@ fn day_and_text<R: Threads + Wait + Sync, G: Gate + Sync>(
     Ok((day, text))
 }
 
-/// Reads an input, runs its scripts by so many workers and makes the text of the journal; or makes the text of a
-/// refusal.
-pub fn answer_to<R: Threads + Wait + Sync, G: Gate + Sync>(
+/// Reads an input, runs its scripts by so many workers and makes the text of the journal; or refuses the bytes.
+pub fn run_answer<R: Threads + Wait + Sync, G: Gate + Sync>(
     rt: &R,
     alloc: Global,
     bytes: &[u8],
@@ -179,14 +174,14 @@ pub fn answer_to<R: Threads + Wait + Sync, G: Gate + Sync>(
     gate: &G,
 ) -> Result<Answer, OutOfMemory>
     requires workers { IsWithin 1 MOST_WORKERS workers }
-    ensures { IfOk result (IsAnswerTo workers bytes.now) }
+    ensures { IfOk result (Answers Spells IsFirstFault (IsRunOf workers) bytes.now) }
 {
     match read_input(alloc, bytes) {
         Ok(input) => {
             let (day, text) = day_and_text(rt, alloc, &input, workers, gate)?;
-            Ok(Answer::Output { text, day })
+            Ok(Answer::Day { text, day })
         }
-        Err(InputFault::Line { line, why }) => Ok(Answer::Refusal(refusal_of(alloc, line, why)?)),
+        Err(InputFault::Line { line, why }) => refusal(alloc, line, why),
         Err(InputFault::OutOfMemory) => Err(OutOfMemory),
     }
 }

@@ -1,6 +1,6 @@
-//! The answer of a command that reads nothing.
+//! A drill: an input that the program makes, runs and checks.
 
-ghost use Rattle.std.specs.Prelude.{◌≡◌, ◌++◌, ℕ, List, IfOk, OnOk, codes, length};
+ghost use Rattle.std.specs.Prelude.{◌≡◌, ◌++◌, IfOk, OnOk, codes, length};
 ghost use Rattle.std.specs.String.{string_bytes};
 ghost use Rattle.books_model.specs.Laws.{all_cash};
 ghost use Rattle.books_model.specs.Ranges.{IsWithin};
@@ -8,15 +8,12 @@ ghost use Rattle.input_maker.specs.Days.{all_quantities};
 ghost use Rattle.input_maker.specs.Statements.{AreForMake};
 ghost use Rattle.script_reader.specs.declared.limits.TheConstants.{MOST_WORKERS};
 ghost use Rattle.twoplsf.specs.Check.{agrees_line};
-ghost use Rattle.twoplsf.specs.Commands.{IsMakingBy};
 ghost use Rattle.twoplsf.specs.Day.{IsDayOf, closing_books};
-ghost use Rattle.twoplsf.specs.Made.{drill_text, sum_line};
-ghost use Rattle.twoplsf.specs.Making.{LeavesDay, LeavesRun, making_text, planned_input};
+ghost use Rattle.twoplsf.specs.Made.{drill_text, planned_input, sum_line};
 
 use crate::agreement::{Agreement, agree};
 use crate::answer::closing_of;
-use crate::cells::add_to_cells;
-use crate::command::{Making, Plan};
+use crate::command::Plan;
 use crate::day::run_day;
 use crate::sums::{cash_of_all, quantity_of_all};
 use books_model::Books;
@@ -27,20 +24,8 @@ use script_reader::{Input, InputFault, read_input};
 use std::alloc::{AllocError, Global};
 use std::sync::Wait;
 use std::thread::Threads;
-use txn_cells::{CellsShape, Coded};
-use word_table::Closed;
 use worker_gate::Gate;
 use worker_pool::DayEnd;
-
-/// What a command that reads nothing has to say.
-#[derive(Drop)]
-pub struct Made {
-    pub text: Vec<u8>,
-    /// The day of a drill.
-    pub day: Option<DayEnd>,
-    /// The closed table of a run over cells.
-    pub cells: Option<Closed<CellsShape<u128>>>,
-}
 
 // The input of a plan, read from its text.
 fn input_of(alloc: Global, plan: Plan) -> Result<Input, OutOfMemory>
@@ -124,44 +109,4 @@ pub fn drill<R: Threads + Wait + Sync, G: Gate + Sync>(
     let day = run_day(rt, alloc, &input, workers, gate)?;
     let text = summary_of_day(alloc, &input, workers, &day)?;
     Ok((text, day))
-}
-
-/// The text of a command that reads nothing, with the day of a drill, or the closed table of a run over cells.
-pub fn made_answer<R: Threads + Wait + Sync, G: Gate + Sync>(
-    rt: &R,
-    alloc: Global,
-    making: Making,
-    gate: &G,
-) -> Result<Made, OutOfMemory>
-    requires { (words : List (List ℕ)) × IsMakingBy words making }
-    ensures text { IfOk result (λ made. made.text.items ≡ making_text making) }
-    ensures day { IfOk result (λ made. LeavesDay making made.day) }
-    ensures cells { IfOk result (λ made. LeavesRun ⟦<u128 as Coded>⟧ making made.cells) }
-{
-    match making {
-        Making::Input(plan) => {
-            let text = make_input(alloc, plan.seed, plan.callers, plan.scripts)?;
-            Ok(Made {
-                text,
-                day: None,
-                cells: None,
-            })
-        }
-        Making::Drill { workers, plan } => {
-            let (text, day) = drill(rt, alloc, workers, plan, gate)?;
-            Ok(Made {
-                text,
-                day: Some(day),
-                cells: None,
-            })
-        }
-        Making::Cells { workers, rounds } => {
-            let (text, closed) = add_to_cells(rt, alloc, workers, rounds, gate)?;
-            Ok(Made {
-                text,
-                day: None,
-                cells: Some(closed),
-            })
-        }
-    }
 }

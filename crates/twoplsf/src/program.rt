@@ -1,12 +1,11 @@
 //! The program, over any words and streams.
 
-ghost use Rattle.std.specs.Prelude.{◌≡◌, ◌+◌, ◌≤◌, ◌⊎◌, map, length, IfOk, IfErr, IfSome};
-ghost use Rattle.std.specs.String.{string_bytes};
+ghost use Rattle.std.specs.Prelude.{◌≡◌, ◌≤◌, ◌⊎◌, length, IfErr, IfOk, IfSome};
 ghost use Rattle.io_ends.specs.Counts.{Rose};
-ghost use Rattle.io_ends.specs.Taken.{TakesAtMost};
 ghost use Rattle.script_reader.specs.Grammar.{BeginWithInput, IsValidInput};
-ghost use Rattle.twoplsf.specs.Answer.{OfBytesRead, PrintsOutput};
-ghost use Rattle.twoplsf.specs.Command.{IsCheck, IsMaking, IsAnyRunCommand, IsOrders, IsRecords, IsValidCommand};
+ghost use Rattle.worker_pool.specs.declared.done.DayEnd.{DayEnd};
+ghost use Rattle.twoplsf.specs.Answer.{IsDayFor, OfBytesRead, PrintsOutput};
+ghost use Rattle.twoplsf.specs.Command.{IsAnyRunCommand, IsCheck, IsMaking, IsOrders, IsRecords, texts_of};
 ghost use Rattle.twoplsf.specs.Orders.{IsOrdersText, PrintsOrderOutput};
 ghost use Rattle.twoplsf.specs.Records.{IsRecordsText, PrintsRecordOutput};
 ghost use Rattle.twoplsf.specs.Ending.{EndsWith, exit_status};
@@ -19,6 +18,7 @@ use script_reader::limits::MOST_INPUT_BYTES;
 use std::alloc::Global;
 use std::sync::Wait;
 use std::thread::Threads;
+use txn_cells::Coded;
 use worker_gate::Gate;
 
 /// Serves the words, and gives the number of the status that this came to, from 0 to 7. Where there was no memory for the
@@ -32,65 +32,58 @@ pub fn run_program<R: Threads + Wait + Sync, S: Source, K: Sink, G: Gate + Sync>
     gate: &G,
 ) -> u8
     // The serial journal theorem, as `serve` has it.
-    ensures headline { IfOk words (λ list. IsAnyRunCommand (map string_bytes list.items)
+    ensures headline { IfOk words (λ list. IsAnyRunCommand (texts_of list.items)
         → result ≡ exit_status Status.Done → OfBytesRead (S.left source.old)
-        (λ bytes. PrintsOutput (map string_bytes list.items) bytes
+        (λ bytes. PrintsOutput (texts_of list.items) bytes
         (K.taken sink.old) (K.taken sink.new))) }
-
+    // Of those bytes there was a day, whose items are those that were printed.
+    ensures day { IfOk words (λ list. IsAnyRunCommand (texts_of list.items)
+        → result ≡ exit_status Status.Done → (day : DayEnd) × OfBytesRead (S.left source.old)
+        (λ bytes. IsDayFor (texts_of list.items) bytes
+        (K.taken sink.old) (K.taken sink.new) day)) }
     // The same of a record store.
-    ensures headline_records { IfOk words (λ list. IsRecords (map string_bytes list.items)
+    ensures headline_records { IfOk words (λ list. IsRecords (texts_of list.items)
         → result ≡ exit_status Status.Done → OfBytesRead (S.left source.old)
-        (λ bytes. PrintsRecordOutput (map string_bytes list.items) bytes
+        (λ bytes. PrintsRecordOutput (texts_of list.items) bytes
         (K.taken sink.old) (K.taken sink.new))) }
-
     // And of a limit order book.
-    ensures headline_orders { IfOk words (λ list. IsOrders (map string_bytes list.items)
+    ensures headline_orders { IfOk words (λ list. IsOrders (texts_of list.items)
         → result ≡ exit_status Status.Done → OfBytesRead (S.left source.old)
-        (λ bytes. PrintsOrderOutput (map string_bytes list.items) bytes
+        (λ bytes. PrintsOrderOutput (texts_of list.items) bytes
         (K.taken sink.old) (K.taken sink.new))) }
 
-    // The number is that of a status, which goes with what was printed, and comes where it may.
-    ensures served { IfOk words (λ list. EndsWith result (map string_bytes list.items)
-        (S.left source.old) (S.left source.new) (K.taken sink.old) (K.taken sink.new)
-        (Rose (S.faults source.old) (S.faults source.new))
-        (Rose (K.faults sink.old) (K.faults sink.new))) }
-    ensures unwritten { (result ≡ exit_status Status.ReadFault)
-        ⊎ (result ≡ exit_status Status.OutOfMemory) → sink.new ≡ sink.old }
-    ensures unread { IfOk words (λ list. IsMaking (map string_bytes list.items)
-        → source.new ≡ source.old) }
-    ensures words_source { IfOk words (λ list. (¬ IsValidCommand (map string_bytes list.items))
-        → source.new ≡ source.old) }
-    ensures taken { TakesAtMost (S.left source.old) (S.left source.new) (MOST_INPUT_BYTES + 1) }
-    ensures reads { S.reads source.new ≤ S.reads source.old + MOST_INPUT_BYTES + 2 }
+    // The number is that of the status of what serving the words came to, of which all is so that is so of `serve`.
+    ensures served { IfOk words (λ list. EndsWith S.Source K.Sink ⟦<u128 as Coded>⟧ result
+        (texts_of list.items) source.old source.new sink.old sink.new) }
 
     // Where nothing is wrong and no fault comes, the work is done, or memory is out; and `check` may find that the text
     // differs.
-    ensures complete { IfOk words (λ list. IsAnyRunCommand (map string_bytes list.items)
+    ensures complete { IfOk words (λ list. IsAnyRunCommand (texts_of list.items)
         → IfSome (S.left source.old) (λ bytes. length bytes ≤ MOST_INPUT_BYTES
         → IsValidInput bytes
         → (¬ Rose (S.faults source.old) (S.faults source.new))
         → (¬ Rose (K.faults sink.old) (K.faults sink.new))
         → (result ≡ exit_status Status.Done) ⊎ (result ≡ exit_status Status.OutOfMemory))) }
-    ensures complete_records { IfOk words (λ list. IsRecords (map string_bytes list.items)
+    ensures complete_records { IfOk words (λ list. IsRecords (texts_of list.items)
         → IfSome (S.left source.old) (λ bytes. length bytes ≤ MOST_INPUT_BYTES
         → IsRecordsText bytes
         → (¬ Rose (S.faults source.old) (S.faults source.new))
         → (¬ Rose (K.faults sink.old) (K.faults sink.new))
         → (result ≡ exit_status Status.Done) ⊎ (result ≡ exit_status Status.OutOfMemory))) }
-    ensures complete_orders { IfOk words (λ list. IsOrders (map string_bytes list.items)
+    ensures complete_orders { IfOk words (λ list. IsOrders (texts_of list.items)
         → IfSome (S.left source.old) (λ bytes. length bytes ≤ MOST_INPUT_BYTES
         → IsOrdersText bytes
         → (¬ Rose (S.faults source.old) (S.faults source.new))
         → (¬ Rose (K.faults sink.old) (K.faults sink.new))
         → (result ≡ exit_status Status.Done) ⊎ (result ≡ exit_status Status.OutOfMemory))) }
-    ensures complete_check { IfOk words (λ list. IsCheck (map string_bytes list.items)
+    ensures complete_check { IfOk words (λ list. IsCheck (texts_of list.items)
         → IfSome (S.left source.old) (λ bytes. length bytes ≤ MOST_INPUT_BYTES
         → BeginWithInput bytes
         → (¬ Rose (S.faults source.old) (S.faults source.new))
         → (¬ Rose (K.faults sink.old) (K.faults sink.new))
         → (result ≡ exit_status Status.Done) ⊎ (result ≡ exit_status Status.Differs)
         ⊎ (result ≡ exit_status Status.OutOfMemory))) }
-    ensures complete_making { IfOk words (λ list. IsMaking (map string_bytes list.items)
+    ensures complete_making { IfOk words (λ list. IsMaking (texts_of list.items)
         → (¬ Rose (K.faults sink.old) (K.faults sink.new))
         → (result ≡ exit_status Status.Done) ⊎ (result ≡ exit_status Status.OutOfMemory)) }
 

@@ -43,7 +43,7 @@ const TRADED_OUTPUT: &str =
     "journal\n1 ann 1 0 done 1 2 3\n2 bob 1 0 done 4,2@9*2,3@9*4,1@10*1 0:10\norders 1 blocks 8 instruments 1\norder 1 1 sell 10 4\nfinish\n";
 
 // The cells after the first round of two workers.
-const CARRIED: &str =
+pub(crate) const CARRIED: &str =
     "cell 0 18446744073709551615\ncell 1 18446744073709551616\ncell 2 1\ncell 3 0\ncell 4 0\ncell 5 0\ncell 6 0\ncell 7 0\n";
 
 // What a run came to, and what its sink took.

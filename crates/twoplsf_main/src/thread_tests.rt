@@ -36,9 +36,9 @@ fn await_mark(mark: &AtomicCell<u64>, gave_up: &AtomicCell<bool>) {
 pub(crate) struct OtherFirst {
     other: u64,
     // The seat that committed the other script.
-    seat: AtomicCell<u32>,
+    pub(crate) seat: AtomicCell<u32>,
     // Which of the seat's calls that was, once it is committed.
-    call: AtomicCell<u64>,
+    pub(crate) call: AtomicCell<u64>,
     pub(crate) gave_up: AtomicCell<bool>,
 }
 
@@ -254,7 +254,8 @@ fn each_round_commits_once(rt: HostRuntime) -> Result<(), Fail> {
     Ok(())
 }
 
-// Two who read the same empty store; the first is held at its first lock until the second has committed.
+// Two who read the same empty store; the first is held at its first lock until the second has committed. The journal is
+// the same in either order, so what the gate saw tells that it was told.
 #[test]
 fn record_workers_overlap(rt: HostRuntime) -> Result<(), Fail> {
     let gate = OtherFirst::new(65_536);
@@ -264,6 +265,7 @@ fn record_workers_overlap(rt: HostRuntime) -> Result<(), Fail> {
     let output =
         "journal\n1 ann 1 0 declined 1 absent\n2 bob 1 0 declined 1 absent\nrecords 1 blocks 4\nfinish\n";
     assert!(rt; taken.as_slice() == output.as_bytes() && !gate.gave_up.load());
+    assert_eq!(rt; (gate.seat.load(), gate.call.load()), (1, 1));
     Ok(())
 }
 
@@ -277,5 +279,6 @@ fn order_workers_overlap(rt: HostRuntime) -> Result<(), Fail> {
     let output =
         "journal\n1 ann 1 0 done 0:0\n2 bob 1 0 done 0:0\norders 1 blocks 4 instruments 2\nfinish\n";
     assert!(rt; taken.as_slice() == output.as_bytes() && !gate.gave_up.load());
+    assert_eq!(rt; (gate.seat.load(), gate.call.load()), (1, 1));
     Ok(())
 }

@@ -18,3 +18,5 @@ pub mod Scripted
 pub mod TradeSides
 -- what one call on words in a plain list leaves of books that the words stood for
 pub mod Built
+-- a key that was absent, put into a block that was taken out of its list before
+pub mod Taken

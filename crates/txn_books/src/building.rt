@@ -1,8 +1,8 @@
-//! Building words that stand for books: one entry after another, by the calls of the collections, beginning with the
-//! words of empty books.
+//! Building words that stand for books: one entry after another, beginning with the words of empty books.
 //!
-//! Each entry is put in over a `Plain` of its own, so no trace grows. It is new, and there is room for it, as the
-//! contract of its call asks; so the answer is known, and the words stop only where no memory is left for the trace.
+//! Accounts come by rising number, so the tree is laid by its right spine. A price or a position is new, so it goes in front
+//! of its chain. Neither is looked for, so the time is in proportion to the entries, whatever their keys are. Each block is
+//! taken over a `Plain` of its own, so no trace grows.
 
 ghost use Rattle.std.specs.Prelude.{◌≡◌, ℕ, ◌+◌, ◌<◌, ◌≤◌, None, IsSome, IfOk, length};
 ghost use Rattle.std.specs.FinMap as map;
@@ -14,47 +14,75 @@ ghost use Rattle.txn_alloc.specs.declared.arena.TheConstants.{HEADS};
 ghost use Rattle.txn_alloc.specs.EntryMaps.{Blocks};
 ghost use Rattle.txn_alloc.specs.FreeLists.{HasList, FreeListsHold, IsInOrder};
 ghost use Rattle.txn_books.specs.declared.layout.TheConstants.{MOST_BOOK_WORDS};
-ghost use Rattle.txn_books.specs.Layout.{shape_of, words_of, arena_of};
+ghost use Rattle.txn_tree_map.specs.Spines.{HasSpine};
+ghost use Rattle.txn_books.specs.Layout.{shape_of, words_of, arena_of, tree_of};
 ghost use Rattle.txn_books.specs.Standing.{Stands};
 ghost use Rattle.txn_alloc.specs.Laying.{HasRisingList};
-ghost use Rattle.txn_books.specs.Inner.Building.{IsBuilt, AreFree};
+ghost use Rattle.txn_books.specs.Inner.Building.{IsBuilt, IsTaken, AreFree};
 ghost use Rattle.txn_books.specs.Inner.Reading.{nothing_yet, with_accounts, with_prices, with_positions};
 
 use crate::lay::empty_words;
-use crate::layout::position_key;
-use crate::price::put_price;
+use crate::layout::{position_key, price_key};
 use crate::queue::queue_call;
 use crate::shape::BooksShape;
 use books_model::Books;
 use io_ends::OutOfMemory;
 use std::alloc::Global;
 use txn_alloc::arena::HEADS;
-use txn_alloc::{Arena, lay_free};
+use txn_alloc::{Arena, lay_free, take_near};
+use txn_tree_map::Spine;
 use txn_words::Plain;
 
-/// Puts in an account that is new, with its cash.
+/// Takes a free block out of its list. There is one.
+fn take_block(
+    alloc: Global,
+    shape: &BooksShape,
+    words: Vec<u64>,
+    near: u64,
+) -> Result<(Vec<u64>, u32), OutOfMemory>
+    requires { (books : ClearingBooks) × IsBuilt shape.now words.items books
+        × (used books < books.blocks) }
+    ensures { IfOk result (λ left.
+        IsTaken (arena_of shape.now) left.1 words.items left.0.items) }
+{
+    let mut plain = Plain::new(alloc, *shape, words);
+    let Ok(taken) = take_near(&mut plain, &shape.arena(), near) else {
+        return Err(OutOfMemory);
+    };
+    let Some(block) = taken else {
+        unreachable!();
+    };
+    Ok((plain.into_words(), block.number()))
+}
+
+/// Puts in an account whose number is above all others, with its cash.
 fn add_account(
     alloc: Global,
     shape: &BooksShape,
     words: Vec<u64>,
+    spine: &mut Spine,
     account: u32,
     cash: u64,
 ) -> Result<Vec<u64>, OutOfMemory>
     requires books { (books : ClearingBooks) × IsBuilt shape.now words.items books
         × (map.get books.accounts account ≡ None) × (used books < books.blocks) }
+    requires spine { HasSpine (tree_of shape.now) account words.items spine.old }
     requires account { IsAccountNumber account }
     requires cash { cash ≤ GREATEST_CASH }
-    ensures { IfOk result (λ left. (books : ClearingBooks) → IsBuilt shape.now words.items books
+    ensures built { IfOk result (λ left. (books : ClearingBooks) → IsBuilt shape.now words.items books
         → IsBuilt shape.now left.items (put_cash books account cash)) }
+    ensures spine { IfOk result (λ left.
+        HasSpine (tree_of shape.now) (account + 1) left.items spine.new) }
 {
-    let mut plain = Plain::new(alloc, *shape, words);
-    match shape.tree().insert(&mut plain, u64::from(account), cash) {
-        Ok(_) => Ok(plain.into_words()),
-        Err(_) => Err(OutOfMemory),
-    }
+    let (mut words, block) = take_block(alloc, shape, words, u64::from(account))?;
+    let key = u64::from(account);
+    shape
+        .tree()
+        .insert_greatest(&mut words, spine, key, cash, block)?;
+    Ok(words)
 }
 
-/// Puts in a price.
+/// Puts in a price that is new.
 fn add_price(
     alloc: Global,
     shape: &BooksShape,
@@ -63,20 +91,19 @@ fn add_price(
     price: u64,
 ) -> Result<Vec<u64>, OutOfMemory>
     requires books { (books : ClearingBooks) × IsBuilt shape.now words.items books
-        × (used books < books.blocks) }
+        × (map.get books.prices instrument ≡ None) × (used books < books.blocks) }
     requires instrument { IsWithin 1 shape.now.instruments instrument }
     requires price { IsWithin 1 GREATEST_PRICE price }
     ensures { IfOk result (λ left. (books : ClearingBooks) → IsBuilt shape.now words.items books
         → IsBuilt shape.now left.items (put_price books instrument price)) }
 {
-    let mut plain = Plain::new(alloc, *shape, words);
-    match put_price(&mut plain, shape, instrument, price) {
-        Ok(_) => Ok(plain.into_words()),
-        Err(_) => Err(OutOfMemory),
-    }
+    let key = price_key(instrument);
+    let (mut words, block) = take_block(alloc, shape, words, key)?;
+    shape.chains().insert_absent(&mut words, key, price, block);
+    Ok(words)
 }
 
-/// Puts in a position of an account and an instrument that are there.
+/// Puts in a position that is new, of an account and an instrument that are there.
 fn add_position(
     alloc: Global,
     shape: &BooksShape,
@@ -87,17 +114,17 @@ fn add_position(
 ) -> Result<Vec<u64>, OutOfMemory>
     requires books { (books : ClearingBooks) × IsBuilt shape.now words.items books
         × IsSome (map.get books.accounts account) × IsSome (map.get books.prices instrument)
-        × (used books < books.blocks) }
+        × (map.get books.positions (account, instrument) ≡ None) × (used books < books.blocks) }
     requires quantity { IsWithin 1 GREATEST_QUANTITY quantity }
     ensures { IfOk result (λ left. (books : ClearingBooks) → IsBuilt shape.now words.items books
         → IsBuilt shape.now left.items (put_quantity books account instrument quantity)) }
 {
-    let mut plain = Plain::new(alloc, *shape, words);
     let key = position_key(account, instrument);
-    match shape.chains().insert(&mut plain, key, quantity) {
-        Ok(_) => Ok(plain.into_words()),
-        Err(_) => Err(OutOfMemory),
-    }
+    let (mut words, block) = take_block(alloc, shape, words, key)?;
+    shape
+        .chains()
+        .insert_absent(&mut words, key, quantity, block);
+    Ok(words)
 }
 
 /// Puts in a margin call behind the others.
@@ -134,9 +161,10 @@ fn add_accounts(
 {
     books.ranges();
     let mut words = words;
+    let mut spine = shape.tree().empty_spine(alloc, &words);
     let mut last = 0;
     while let Some((account, cash)) = books.account_after(last) {
-        words = add_account(alloc, shape, words, account, cash)?;
+        words = add_account(alloc, shape, words, &mut spine, account, cash)?;
         last = account;
     }
     Ok(words)

@@ -1,5 +1,5 @@
 -- What additions come to, one after another.
-use Rattle.std.proofs.Common.{◌≡◌, ◌≢◌, ◌⊎◌, inl, inr, ⊎_elim, ℕ, zero, suc, ◌+◌, ◌-◌, ◌%◌, ◌^◌, ◌<◌, ◌≤◌, Bool, true, false, ◌==◌, if◌then◌else◌}
+use Rattle.std.proofs.Common.{◌≡◌, ◌≢◌, ◌⊎◌, inl, inr, ⊎_elim, ℕ, zero, suc, ◌+◌, ◌-◌, ◌*◌, ◌%◌, ◌^◌, ◌<◌, ◌≤◌, Bool, true, false, ◌==◌, if◌then◌else◌}
 use Rattle.std.proofs.Common.{List, [], ◌∷◌, ◌++◌, Some, length, replicate, take, slice_get, slice_index, slice_set, sum_by}
 use Rattle.std.proofs.Common.{refl, sym, ap, ◌∙◌, subst, arith, add-zero, mul-one}
 use Rattle.std.proofs.lemmas.Bool.Decides.{eqb_tells}
@@ -18,14 +18,15 @@ use Rattle.history_model.proofs.Items.ItemOrders.{next_words, replay_items-appen
 use Rattle.values_rule.specs.Closing.{IsPlaced}
 use Rattle.values_rule.specs.History.{item_of_entry, items_of_entry}
 use Rattle.values_rule.proofs.Told.ItemsIn.{entry_from, entry_into, flat_map_in, in_flat_map}
+use Rattle.word_table.specs.declared.limits.TheConstants.{MOST_PASSES}
 use Rattle.word_table.specs.Closing.{ClosedView, AreRecords, IsCoherent, IsLegalInEachOrder}
 use Rattle.txn_cells.specs.declared.coded.Coded.{Ghosts as Codes}
-use Rattle.txn_cells.specs.declared.limits.TheConstants.{CELLS}
+use Rattle.txn_cells.specs.declared.limits.TheConstants.{CELLS, MOST_ROUNDS}
 use Rattle.txn_cells.specs.Adding.{Adds, AreAllCells, added_by, added_to, amount_by, first_cell, second_cell, sums_of, sum_below}
 use Rattle.txn_cells.specs.Cells.{AreCellValues}
 use Rattle.txn_cells.specs.Rounds.{AreSoMany, IsRound}
 use Rattle.txn_cells.proofs.Keyed.{HasOneEach, sum_of_each}
-use Rattle.txn_cells.proofs.SumsBelow.{sum_of_all, alike_below, none_below, one_below, ones}
+use Rattle.txn_cells.proofs.SumsBelow.{sum_of_all, alike_below, none_below, one_below, ones, small_below}
 
 set_here : (s : List ℕ) (i j v : ℕ) → i ≡ j → i < length s → slice_index (slice_set s i v) j ≡ v
 set_here s i j v e lt = ap (λ k. slice_index (slice_set s i v) k) (sym e) ∙ get_or-set_same s i v 0 lt
@@ -35,6 +36,9 @@ set_off s i j v differ = get_or-set_other s i j v 0 (λ e. differ (sym e))
 
 mod_small : (x : ℕ) → x < 2 ^ 128 → x ≡ (x + (0 + 0)) % 2 ^ 128
 mod_small x lt = omega (arith, lt)
+
+mod_none : (x : ℕ) → x < 2 ^ 128 → x % 2 ^ 128 ≡ x
+mod_none x lt = omega (arith, lt)
 
 mod_more : (x a : ℕ) → (x % 2 ^ 128 + a) % 2 ^ 128 ≡ (x + a) % 2 ^ 128
 mod_more x a = omega arith
@@ -93,6 +97,23 @@ added_at caller round values long i small =
     let first : first_cell caller round < length values = omega (arith, long) in
     let second : second_cell caller round < length values = omega (arith, long) in
     added_twice values (first_cell caller round) (second_cell caller round) (2 ^ 64 - 1) i (cells_differ caller round) first second small
+
+-- what a caller adds to a cell in a round
+amount_small : (caller round i : ℕ) → amount_by caller round i ≤ 2 ^ 64
+amount_small caller round i = by (first_cell caller round == i) (second_cell caller round == i)
+  where
+    by : (b c : Bool) → (if b then 2 ^ 64 - 1 else 0) + (if c then 1 else 0) ≤ 2 ^ 64
+    by true true = omega arith
+    by true false = omega arith
+    by false true = omega arith
+    by false false = omega arith
+
+-- all that callers add to a cell is a number of 128 bits
+sum_small : (callers rounds i : ℕ) → callers ≤ MOST_PASSES → rounds ≤ MOST_ROUNDS → sum_of_all callers rounds (λ c r. amount_by c r i) < 2 ^ 128
+sum_small callers rounds i few short =
+    let one : (c : ℕ) → sum_below rounds (λ r. amount_by c r i) ≤ 10000 * 2 ^ 64 =
+    λ c. omega (arith, short, small_below rounds (2 ^ 64) (λ r. amount_by c r i) (λ r _. amount_small c r i)) in
+    omega (arith, few, small_below callers (10000 * 2 ^ 64) (λ c. sum_below rounds (λ r. amount_by c r i)) (λ c _. one c))
 
 module _ {S : Type 0} (code : Codes ℕ) (callers rounds : ℕ) (closed : ClosedView S)
     (coherent : IsCoherent (AreAllCells code) closed) (legal : IsLegalInEachOrder (AreAllCells code) closed) (records : AreRecords closed)
@@ -252,15 +273,16 @@ module _ {S : Type 0} (code : Codes ℕ) (callers rounds : ℕ) (closed : Closed
         one_more p x.0 x.1 (summed p (omega (arith, lt)))
 
     -- in the end the cells have the sums
-    pub are_sums : AreCellValues code 0 CELLS closed.words (sums_of callers rounds)
-    are_sums =
+    pub are_sums : callers ≤ MOST_PASSES → rounds ≤ MOST_ROUNDS → AreCellValues code 0 CELLS closed.words (sums_of callers rounds)
+    are_sums few short =
         let end : Summed (length coherent.order) = summed (length coherent.order) (omega arith) in
         let whole : take (length coherent.order) coherent.order ≡ coherent.order = take_all (length coherent.order) coherent.order (omega arith) in
         let words : before (length coherent.order) ≡ closed.words =
         ap (replay_items closed.base) whole ∙ sym (legal.words coherent.order coherent.arranged) in
         let values : end.values ≡ sums_of callers rounds =
-        fill_by_all (λ i. sum_of_all callers rounds (λ c r. amount_by c r i) % 2 ^ 128) end.values CELLS 0 end.are.count
-        (λ k lt. end.sums k lt ∙ ap (λ n. n % 2 ^ 128)
-        (ap (sum_by (adds_to k)) whole ∙ sum_of_each callers rounds _ _ _ coherent.order items_each (λ c r. amount_by c r k))) in
+        fill_by_all (λ i. sum_of_all callers rounds (λ c r. amount_by c r i)) end.values CELLS 0 end.are.count
+        (λ k lt. end.sums k lt ∙ (ap (λ n. n % 2 ^ 128)
+        (ap (sum_by (adds_to k)) whole ∙ sum_of_each callers rounds _ _ _ coherent.order items_each (λ c r. amount_by c r k))
+        ∙ mod_none (sum_of_all callers rounds (λ c r. amount_by c r k)) (sum_small callers rounds k few short))) in
         subst (λ s. AreCellValues code 0 CELLS s (sums_of callers rounds)) words
         (subst (AreCellValues code 0 CELLS (before (length coherent.order))) values end.are)

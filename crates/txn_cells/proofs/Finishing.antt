@@ -2,11 +2,12 @@
 use Rattle.std.proofs.Common.{◌≡◌, ℕ, ◌*◌, ◌<◌, ◌≤◌, List, replicate, sym, subst}
 use Rattle.history_model.specs.declared.entry.Entry.{Entry}
 use Rattle.history_model.specs.Legal.{IsIn}
+use Rattle.word_table.specs.declared.limits.TheConstants.{MOST_PASSES}
 use Rattle.word_table.specs.Closing.{ClosedView, AreRecords, AreSeenBy, IsCoherent, IsLegalInEachOrder}
 use Rattle.word_table.specs.Copies.{PassView}
 use Rattle.word_table.specs.Desks.{DeskView}
 use Rattle.txn_cells.specs.contracts.numbers.U128Coded.TheImpl.{ghosts as numbers}
-use Rattle.txn_cells.specs.declared.limits.TheConstants.{CELLS}
+use Rattle.txn_cells.specs.declared.limits.TheConstants.{CELLS, MOST_ROUNDS}
 use Rattle.txn_cells.specs.Adding.{AreAllCells, sums_of}
 use Rattle.txn_cells.specs.Cells.{AreCellValues}
 use Rattle.txn_cells.specs.Rounds.{AreSoMany, HaveRounds, IsRound}
@@ -45,6 +46,6 @@ module _ {S : Type 0} (workers rounds : ℕ) (closed : ClosedView S) (h : HasClo
   pub counted : AreSoMany workers rounds closed.records
   counted = so_many numbers workers rounds closed h.coherent h.legal h.records each near
 
-  pub summed_up : AreCellValues numbers 0 CELLS closed.words (sums_of workers rounds)
-  summed_up = are_sums numbers workers rounds closed h.coherent h.legal h.records each near (λ x is. is)
-      (subst (λ s. AreCellValues numbers 0 CELLS s (replicate CELLS 0)) (sym h.began) zero_cells)
+  pub summed_up : workers ≤ MOST_PASSES → rounds ≤ MOST_ROUNDS → AreCellValues numbers 0 CELLS closed.words (sums_of workers rounds)
+  summed_up few short = are_sums numbers workers rounds closed h.coherent h.legal h.records each near (λ x is. is)
+      (subst (λ s. AreCellValues numbers 0 CELLS s (replicate CELLS 0)) (sym h.began) zero_cells) few short

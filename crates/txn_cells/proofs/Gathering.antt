@@ -11,9 +11,8 @@ use Rattle.history_model.specs.Views.{number}
 use Rattle.history_model.proofs.ListPlaces.{at_map, below_get}
 use Rattle.values_rule.proofs.Members.{in_first, none_in, in_join}
 use Rattle.values_rule.proofs.Told.ItemsIn.{in_parts}
-use Rattle.locks_rule.specs.Splits.{opening_view}
 use Rattle.word_table.specs.Closing.{AreSeenBy, ClosedView}
-use Rattle.word_table.specs.Copies.{PassView}
+use Rattle.word_table.specs.Copies.{fresh_pass, PassView}
 use Rattle.word_table.specs.Desks.{DeskView}
 use Rattle.txn_threads.specs.Passes.{IsFresh}
 use Rattle.txn_threads.specs.Inner.Seats.{AreNew, IsPass}
@@ -100,7 +99,7 @@ module _ {S E : Type 0} (desk : DeskView S) (rounds : ℕ) (opened : List PassVi
   many = sym (length-map passes Ok) ∙ ap length all_well ∙ as_many
 
   abbrev new_pass : ℕ → PassView
-  new_pass j = record { table = desk.table; view = opening_view desk.base desk.seats (j ∷ []) [] }
+  new_pass j = fresh_pass desk.table desk.base desk.seats j
 
   pass_made : (k : ℕ) (p : PassView) → slice_get passes k ≡ Some p → MadeRounds rounds (new_pass k) p
   pass_made k p at =
@@ -147,7 +146,7 @@ all_fresh desk passes new k d lt =
 
 -- the pass of seat j of a table over such words, with so many seats
 abbrev new_at : {S : Type 0} → DeskView S → List ℕ → ℕ → ℕ → PassView
-new_at desk base seats j = record { table = desk.table; view = opening_view base seats (j ∷ []) [] }
+new_at desk base seats j = fresh_pass desk.table base seats j
 
 -- passes that come with a desk are new
 pub new_passes : {S : Type 0} (desk : DeskView S) (passes : List PassView) (base : List ℕ) (seats : ℕ) → desk.base ≡ base → desk.seats ≡ seats

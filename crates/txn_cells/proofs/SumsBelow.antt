@@ -1,5 +1,5 @@
 -- Sums of terms by number, and sums over a list each of whose members has a number.
-use Rattle.std.proofs.Common.{◌≡◌, ◌≢◌, ◌⊎◌, inl, inr, ⊎_elim, ℕ, zero, suc, ◌+◌, ◌*◌, ◌<◌, List, [], ◌∷◌, Some, length, slice_get}
+use Rattle.std.proofs.Common.{◌≡◌, ◌≢◌, ◌⊎◌, inl, inr, ⊎_elim, ℕ, zero, suc, ◌+◌, ◌*◌, ◌<◌, ◌≤◌, List, [], ◌∷◌, Some, length, slice_get}
 use Rattle.std.proofs.Common.{sum_by, refl, sym, ap, ◌∙◌, arith, add-zero, zero-add, zero-mul, suc-mul, one-add}
 use Rattle.std.proofs.lemmas.List.Sums.{sum_by-cons}
 use Rattle.std.proofs.lemmas.Option.{same_Some}
@@ -30,6 +30,15 @@ none_below (suc n) f none =
     let front : sum_below n f ≡ 0 = none_below n f (λ k lt. none k (omega arith)) in
     let last : f n ≡ 0 = none n (omega arith) in
     omega (arith, front, last)
+
+-- terms that are small
+pub small_below : (n a : ℕ) (f : ℕ → ℕ) → ((k : ℕ) → k < n → f k ≤ a) → sum_below n f ≤ n * a
+unfolding sum_below
+small_below zero a f small = omega arith
+small_below (suc n) a f small =
+    let front : sum_below n f ≤ n * a = small_below n a f (λ k lt. small k (omega arith)) in
+    let last : f n ≤ a = small n (omega arith) in
+    omega (arith, front, last, suc-mul n a)
 
 -- one term alone
 pub one_below : (n k : ℕ) (f : ℕ → ℕ) → k < n → ((j : ℕ) → j < n → j ≢ k → f j ≡ 0) → sum_below n f ≡ f k

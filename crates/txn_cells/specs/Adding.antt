@@ -34,10 +34,10 @@ unfoldable pub sum_below : ℕ → (ℕ → ℕ) → ℕ
 sum_below zero f = 0
 sum_below (suc n) f = sum_below n f + f n
 
--- the values when all callers have added in all their rounds, to cells that had 0
+-- the values when all callers have added in all their rounds, to cells that had 0: the sums themselves
 abbrev pub sums_of : ℕ → ℕ → List ℕ
 sums_of callers rounds =
-    map (λ i. sum_below callers (λ c. sum_below rounds (λ r. amount_by c r i)) % 2 ^ 128) (range_with_len 0 CELLS)
+    map (λ i. sum_below callers (λ c. sum_below rounds (λ r. amount_by c r i))) (range_with_len 0 CELLS)
 
 module _ (code : Codes ℕ) where
   -- the cells, and no word besides them

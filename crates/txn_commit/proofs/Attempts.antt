@@ -130,7 +130,13 @@ some_fits count good n base v r = let left = r.left_good r.order r.arranged in
 reads_write : (count : ℕ) (good : List ℕ → Type 0) (n : ℕ) (base : List ℕ) (j a x : ℕ) (v : View) → ReadsArranged (IsGood count good) n base v
     → ReadsArranged (IsGood count good) n base ((store_value_action j a x v).view 0)
 reads_write count good n base j a x v r = record {
-  items = r.items;
+  words = r.words;
+  views = r.views;
+  place = r.place;
+  seat = r.seat;
+  holds = r.holds;
+  knows = r.knows;
+  in_call = record { who = r.in_call.who; call = r.in_call.call; seen = r.in_call.seen; abandoned = r.in_call.abandoned };
   seen = r.seen;
   attempts = r.attempts;
   order = r.order;

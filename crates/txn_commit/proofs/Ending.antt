@@ -20,6 +20,7 @@ use Rattle.stamps_rule.specs.Stamps.{AreRestartsBounded}
 use Rattle.values_rule.specs.Steps.{begin_call_action, clear_stamp_action, entry_of, after_commit}
 use Rattle.undo_log.specs.Room.{Room}
 use Rattle.values_rule.specs.History.{items_of_attempts, knew_of}
+use Rattle.values_rule.specs.Records.{Knew}
 use Rattle.word_table.specs.Calls.{ReadsArranged}
 use Rattle.word_table.specs.Copies.{HoldsNothing, PassView}
 use Rattle.word_table.specs.Desks.{DeskHolds, DeskView}
@@ -85,7 +86,18 @@ same_attempts old new s =
 pub still_reads : (good : List ℕ → Type 0) (n : ℕ) (base : List ℕ) (old new : View) → SameReads old new
     → ReadsArranged good n base old → ReadsArranged good n base new
 still_reads good n base old new same r = record {
-  items = r.items;
+  words = r.words;
+  views = r.views;
+  place = r.place;
+  seat = r.seat;
+  holds = r.holds;
+  knows = r.knows;
+  in_call = record {
+    who = r.in_call.who ∙ sym same.who;
+    call = r.in_call.call ∙ sym same.call;
+    seen = r.in_call.seen ∙ sym same.seen;
+    abandoned = r.in_call.abandoned ∙ sym same.abandoned;
+  };
   seen = λ e i. r.seen e (subst (λ (l : List Entry). IsIn e l) same.seen i);
   attempts = λ x i. r.attempts x (subst (λ (l : List Item). IsIn x l) (same_attempts old new same) i);
   order = r.order;
@@ -181,14 +193,16 @@ pub gets_entry : {A : Type 0} (word_count : ℕ) (good words : List ℕ → Type
     → StaysInCall first old → first.floor ≡ length first.seen → first.call ≡ call
     → new ≡ after_commit kept old → receipt.call ≡ call → length old.abandoned ≡ receipt.restarts
     → ListsUses (uses_of kept old.trace old.uses) receipt.uses.items
+    → ((x : Entry) → IsIn x old.seen → Knew (entry_of kept old) x)
     → ((s : List ℕ) → Fits word_count good old.trace s → means s kept receipt.answer (after old.trace s))
     → ((s : List ℕ) → words s → IsGood word_count good s)
     → GetsEntry words means (number first) call first.seen new.seen receipt
-gets_entry word_count good words means kept call first old new receipt same floor number_is commits call_is restarts uses meaning is_good = record {
+gets_entry word_count good words means kept call first old new receipt same floor number_is commits call_is restarts uses knew meaning is_good = record {
   entry = entry_of kept old;
   seen = ap (λ (v : View). v.seen) commits ∙ ap (λ (h : List Entry). h ++ entry_of kept old ∷ []) same.seen;
   made_by = ap (λ (l : List ℕ). slice_index l 0) same.seat.who;
   call_is = (same.call ∙ number_is, call_is);
+  knew = λ x had. knew x (subst (λ (l : List Entry). IsIn x l) (sym same.seen) had);
   floor_is = same.floor ∙ floor;
   restarts_are = sym restarts;
   uses_are = uses;

@@ -1,5 +1,5 @@
 -- Lists that are put together of others, and two lists of which the one has something for each of the other.
-use Rattle.std.proofs.Common.{◌≡◌, ◌≢◌, ℕ, zero, suc, ◌<◌, ◌≤◌, ⊎_elim, List, [], ◌∷◌, ◌++◌, All}
+use Rattle.std.proofs.Common.{◌≡◌, ◌≢◌, ℕ, zero, suc, ◌<◌, ⊎_elim, List, [], ◌∷◌, ◌++◌, All}
 use Rattle.std.proofs.Common.{AllPairs, flat_map, length, map, get_or, slice_get, Some, refl}
 use Rattle.std.proofs.Common.{sym, ap, ◌∙◌, subst, subst₂, arith}
 use Rattle.std.proofs.lemmas.List.{append-nil}
@@ -100,42 +100,3 @@ module _ {X Y : Type 0} (R : X → Y → Type 0) where
   beside_images f g [] each = beside_none
   beside_images f g (z ∷ zs) each = beside_one (f z) (g z) (map f zs) (map g zs) (each z (zero, refl))
       (beside_images f g zs (λ w t. each w (suc t.0, t.1)))
-
--- a list without what stands at a place
-abbrev without : {X : Type 0} → ℕ → List X → List X
-without n [] = []
-without zero (x ∷ xs) = xs
-without (suc n) (x ∷ xs) = x ∷ without n xs
-
-length_without : {X : Type 0} (n : ℕ) (xs : List X) → n < length xs → suc (length (without n xs)) ≡ length xs
-length_without n [] lt = absurd (omega arith)
-length_without zero (x ∷ xs) lt = refl
-length_without (suc n) (x ∷ xs) lt = ap suc (length_without n xs (omega (arith, lt)))
-
-stays_without : {X : Type 0} (n k : ℕ) (xs : List X) (x : X) → slice_get xs k ≡ Some x → k ≢ n → IsIn x (without n xs)
-stays_without n k [] x at off = absurd (none_in x (k, at))
-stays_without zero zero (y ∷ xs) x at off = absurd (off refl)
-stays_without zero (suc k) (y ∷ xs) x at off = (k, at)
-stays_without (suc n) zero (y ∷ xs) x at off = (zero, at)
-stays_without (suc n) (suc k) (y ∷ xs) x at off = let r = stays_without n k xs x at (λ e. off (ap suc e)) in (suc r.0, r.1)
-
--- where each has one of the other list, and no two the same, there are no more than there
-pub no_more_than : {X Y : Type 0} (R : X → Y → Type 0) (xs : List X) (ys : List Y) → ((x : X) → IsIn x xs → (y : Y) × IsIn y ys × R x y)
-    → AllPairs (λ x z. (y : Y) → R x y → R z y → ⊥) xs → length xs ≤ length ys
-no_more_than R [] ys some apart = omega arith
-no_more_than R (x ∷ xs) ys some apart =
-    let its = some x (zero, refl) in
-    let at : ℕ = its.1.0 in
-    let within : at < length ys = slice_get_within ys at its.0 its.1.1 in
-    let rest = no_more_than R xs (without at ys)
-    (λ z t.
-    let r = some z (suc t.0, t.1) in (
-      r.0,
-      stays_without at r.1.0 ys r.0 r.1.1
-          (λ same. let one = same_Some r.0 its.0 (sym r.1.1 ∙ ap (λ k. slice_get ys k) same ∙ its.1.1) in
-          let pair = apart 0 (suc t.0) x (omega arith) (omega (arith, slice_get_within xs t.0 z t.1)) in
-          pair its.0 its.2 (subst (λ y. R (get_or xs t.0 x) y) one (subst (λ w. R w r.0) (sym (get_or_from_slice_get xs t.0 z x t.1)) r.2))),
-      r.2,
-    ))
-    (λ i k d lt short. apart (suc i) (suc k) d (omega (arith, lt)) (omega (arith, short))) in
-    omega (arith, rest, length_without at ys within)

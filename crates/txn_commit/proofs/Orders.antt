@@ -1,5 +1,7 @@
 -- what stands at places, each of which stands there once
 pub mod Arranged
+-- what stands at the places of an order stands in that order itself
+pub mod InPlace
 -- what was run, in the order that is rebuilt from what it used, beside the entries of its calls
 pub mod Rebuilt
 -- the interpreter of a store, run down the jobs in their order

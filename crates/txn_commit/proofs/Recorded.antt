@@ -7,7 +7,7 @@ use Rattle.history_model.proofs.ListPlaces.{below_get}
 use Rattle.word_table.specs.Closing.{AreRecords, ClosedView}
 use Rattle.txn_commit.specs.declared.lists.Ran.{Ran}
 use Rattle.txn_commit.specs.Lists.{HaveRecords, IsEntryOf}
-use Rattle.txn_commit.proofs.Flattened.{no_more_than}
+use Rattle.word_table.proofs.Joined.Counting.{no_more_than}
 
 module _ {A S : Type 0} (closed : ClosedView S) (done : List (Ran A)) (entries : List Entry) (as_many : length done ≡ length entries)
     (of_items : (k : ℕ) (ran : Ran A) (e : Entry) → slice_get done k ≡ Some ran → slice_get entries k ≡ Some e → IsEntryOf ran e)

@@ -1,15 +1,18 @@
 -- An attempt is settled: its writes are kept or undone, what it used is listed, and it gets its entry, or is given up.
 use Rattle.std.proofs.Common.{◌≡◌, ℕ, ◌<◌, Bool, true, false, ◌⊎◌, inl, inr, ⊎_elim, List, [], All, refl, sym, ap, ◌∙◌, subst, arith}
+use Rattle.history_model.specs.declared.entry.Entry.{Entry}
 use Rattle.history_model.specs.declared.item.LockUse.{LockUse}
 use Rattle.history_model.specs.declared.view.View.{View}
 use Rattle.history_model.specs.declared.view.Phase.{Phase}
 use Rattle.history_model.specs.declared.view.Phase.TheVariants.{Idle, Running, Yielding, Withdrawing, Releasing}
 use Rattle.history_model.specs.Counts.{is_attempt, is_open}
+use Rattle.history_model.specs.Legal.{IsIn}
 use Rattle.history_model.specs.Sets.{has}
 use Rattle.history_model.specs.Undoing.{Notes, notes_of}
 use Rattle.history_model.proofs.SetLemmas.{has-nil}
 use Rattle.locks_rule.specs.Versions.{uses_of, locks_of}
-use Rattle.values_rule.specs.Steps.{undoing_phase}
+use Rattle.values_rule.specs.Records.{Knew}
+use Rattle.values_rule.specs.Steps.{entry_of, undoing_phase}
 use Rattle.txn_commit.specs.Uses.{ListsUses}
 use Rattle.word_table.specs.Uses.{AreUsesOf}
 use Rattle.txn_commit.specs.Inner.Releasing.{UndoesSome, Undoes, UndoesUnless}
@@ -24,6 +27,13 @@ lists_since true old mid listed u are s noted = let is = u.stays refl in
 lists_since false old mid listed u are s noted = let done = u.undone refl in
     entry_listed false old mid listed are (ap (λ (v : View). v.uses) done.some.rest)
     (λ k. ap (λ (l : Notes). has k (locks_of l)) done.none_left ∙ has-nil k)
+
+-- what the entry knew, since the attempt had seen the same
+pub knew_since : (kept : Bool) (old mid : View) → UndoesUnless kept old mid → ((x : Entry) → IsIn x mid.seen → Knew (entry_of kept mid) x)
+    → (x : Entry) → IsIn x old.seen → Knew (entry_of kept old) x
+knew_since true old mid u knew = subst (λ (v : View). (x : Entry) → IsIn x v.seen → Knew (entry_of true v) x) (u.stays refl) knew
+knew_since false old mid u knew =
+    subst (λ (v : View). (x : Entry) → IsIn x v.seen → Knew (entry_of false v) x) (u.undone refl).some.rest knew
 
 -- a running attempt whose writes are kept or undone still is an attempt
 undoing_twice : (p : Phase) → undoing_phase (undoing_phase p) ≡ undoing_phase p

@@ -1,5 +1,6 @@
 -- What was run over a table, in the order that is rebuilt from what it used.
 use Rattle.std.specs.Prelude.{◌≡◌, ◌≢◌, ◌↔◌, ◌<◌, ◌≤◌, ℕ, AllPairs, Bool, true, false, List, [], ◌∷◌, map, length, take, Some, slice_get}
+use Rattle.std.specs.List.{range_with_len}
 use Rattle.history_model.specs.declared.entry.Entry.{Entry}
 use Rattle.history_model.specs.declared.placed.Spot.{Spot}
 use Rattle.history_model.specs.Histories.{replay}
@@ -15,13 +16,10 @@ pub record AreAt {X : Type 0} (xs : List X) (places : List ℕ) (ys : List X) : 
   pub count : length ys ≡ length places
   pub each : (i p : ℕ) → slice_get places i ≡ Some p → slice_get ys i ≡ slice_get xs p
 
--- the items stand in the order that is rebuilt from what they used
+-- the items stand in the order that is rebuilt from what they used: they can be put in order, and theirs is that order
 pub record IsRebuilt {X : Type 0} (spot : X → Spot) (done : List X) : Type 0 where
-  pub given : List X
-  pub places : List ℕ
-  pub orderable : Orderable (map spot given)
-  pub order : IsOrder (map spot given) places
-  pub are : AreAt given places done
+  pub orderable : Orderable (map spot done)
+  pub order : IsOrder (map spot done) (range_with_len 0 (length done))
 
 -- what the order of jobs is made by: a job's caller, its place among the caller's jobs, and what it used
 abbrev pub spot_of : {A : Type 0} → Ran A → Spot

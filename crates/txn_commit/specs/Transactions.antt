@@ -9,6 +9,7 @@ use Rattle.history_model.specs.Sets.{has, has_pair}
 use Rattle.history_model.specs.Traces.{Trace, Touches, IsLegalTrace, after}
 use Rattle.history_model.specs.Views.{number}
 use Rattle.stamps_rule.specs.Stamps.{AreRestartsBounded}
+use Rattle.values_rule.specs.Records.{Knew}
 use Rattle.word_table.specs.Calls.{ReadsArranged}
 use Rattle.word_table.specs.Copies.{HoldsNothing}
 use Rattle.txn_commit.specs.declared.transaction.Receipt.{Receipt}
@@ -16,13 +17,15 @@ use Rattle.txn_commit.specs.Uses.{ListsUses}
 
 -- a call of this seat got one entry, behind what the seat had seen; and on all good words on which its trace is legal the
 -- job's meaning holds: whether its writes are kept, its answer, and what its trace leaves. In every arrangement of all that
--- is done the words that come of what stands before it are such
+-- is done the words that come of what stands before it are such. It knew all that the seat had seen, which so stands before
+-- it in every arrangement
 pub record GetsEntry {A : Type 0} (good : List ℕ → Type 0) (means : List ℕ → Bool → A → List ℕ → Type 0)
     (who call : ℕ) (old new : List Entry) (receipt : Receipt A) : Type 0 where
   pub entry : Entry
   pub seen : new ≡ old ++ entry ∷ []
   pub made_by : entry.who ≡ who
   pub call_is : (entry.call ≡ call) × (receipt.call ≡ call)
+  pub knew : (x : Entry) → IsIn x old → Knew entry x
   pub floor_is : entry.floor ≡ length old
   pub restarts_are : receipt.restarts ≡ length entry.abandoned
   -- the locks that it used, by rising lock

@@ -1,14 +1,17 @@
 //! One transaction.
 
 ghost use Rattle.std.specs.Prelude.{◌≡◌, ℕ, ◌+◌, ◌<◌, [], List, length, true, false, None, Some, Ok, IfOk, OnErr, OnOk, ◌⊎◌};
+ghost use Rattle.history_model.specs.declared.entry.Entry.{Entry};
 ghost use Rattle.history_model.specs.Counts.{is_attempt};
 ghost use Rattle.history_model.specs.Fitting.{Fits};
+ghost use Rattle.history_model.specs.Legal.{IsIn};
 ghost use Rattle.history_model.specs.Traces.{after};
 ghost use Rattle.history_model.specs.Views.{number};
 ghost use Rattle.locks_rule.specs.Versions.{uses_of};
 ghost use Rattle.stamps_rule.specs.Causes.{newest, past_causes};
 ghost use Rattle.txn_words.specs.Verdicts.{is_kept, answer_of};
-ghost use Rattle.values_rule.specs.Steps.{after_commit};
+ghost use Rattle.values_rule.specs.Records.{Knew};
+ghost use Rattle.values_rule.specs.Steps.{after_commit, entry_of};
 ghost use Rattle.word_table.specs.Calls.{ReadsArranged};
 ghost use Rattle.word_table.specs.Copies.{HoldsNothing};
 ghost use Rattle.word_table.specs.declared.limits.TheConstants.{LAST_CALL};
@@ -136,6 +139,8 @@ fn settle<S: Shape, G: Gate, R: Wait>(
     ensures uses { IfOk result (λ uses. ListsUses
         (uses_of kept attempt.old.pass.now.view.trace attempt.old.pass.now.view.uses)
         uses.items) }
+    ensures knew { OnOk result ((x : Entry) → IsIn x attempt.old.pass.now.view.seen
+        → Knew (entry_of kept attempt.old.pass.now.view) x) }
     ensures few { OnOk result
         (length attempt.old.pass.now.view.abandoned < attempt.old.desk.now.seats) }
     ensures undone { OnErr result

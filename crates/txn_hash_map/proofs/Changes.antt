@@ -200,24 +200,28 @@ module _ (map : ChainMap) (s : List ℕ) (f : Entries) (u v : Blocks) (hold : Ho
       let q = hold.map.used_in d m in
       block_below map.arena s (map.buckets + q.0) d (hold.map.cells q.0) (hold.map.chain q.0 q.1) q.2
 
--- a new key, in a block that was free
-pub left_new : (map : ChainMap) (key x b : ℕ) (s r t : List ℕ) (f : Entries) (u v : Blocks) → HoldsApart (chain_part map) s f u v → IsMissing map key s
-    → TakesBlock map.arena b s r v → KeepsOthers (IsHead map.arena) s r → IsPutInFront map key x b r t
-    → HoldsApart (chain_part map) t (entry_map.insert f key x) (set.insert u b) (set.remove v b)
-left_new map key x b s r t f u v hold missing taken kept put =
+-- the map stands where heads alone are written
+pub chains_headed : (map : ChainMap) (s r : List ℕ) (f : Entries) (u v : Blocks) → HoldsApart (chain_part map) s f u v
+    → KeepsOthers (IsHead map.arena) s r → ChainsHold map r f u
+chains_headed map s r f u v hold kept =
+    let l : IsLaid map s = hold.map.laid in
+    chains_stand map s r f u hold.map kept.count (λ c k. kept.same c (l.no_head c k))
+    (λ d c m k. kept.same c (l.arena.outside d c (used_below map s f u v hold d m) k))
+
+-- a new key, in a block that was neither used nor free
+pub put_apart : (map : ChainMap) (key x b : ℕ) (r t : List ℕ) (f : Entries) (u v : Blocks) → HoldsApart (chain_part map) r f u v
+    → entry_map.get f key ≡ None → b < map.arena.blocks → set.contains u b ≡ false → set.contains v b ≡ false → IsPutInFront map key x b r t
+    → HoldsApart (chain_part map) t (entry_map.insert f key x) (set.insert u b) v
+put_apart map key x b r t f u v hold absent below unused lacks put =
     let a : Arena = map.arena in
     let j : ℕ = bucket_of key in
-    let l : IsLaid map s = hold.map.laid in
-    let h : ChainsHold map r f u = chains_stand map s r f u hold.map kept.count (λ c k. kept.same c (l.no_head c k))
-    (λ d c m k. kept.same c (l.arena.outside d c (used_below map s f u v hold d m) k)) in
-    let absent : entry_map.get f key ≡ None = missing_value map key s f u missing hold.map in
-    let below : b < a.blocks = free_below a s v b hold.free_lists taken.was_free in
-    let unused : set.contains u b ≡ false = free_unused (chain_part map) s f u v b hold taken.was_free in
+    let h : ChainsHold map r f u = hold.map in
+    let l : IsLaid map r = h.laid in
     let c : Cell = record { block = b; key = key; value = x } in
     let bucket : (i : ℕ) → i < BUCKETS → IsBucket map (map.buckets + i) = λ i lt. record { low = omega arith; high = omega (arith, lt) } in
     let here : IsBucket map (map.buckets + j) = bucket j (bucket_below key) in
     let keep : (d e : ℕ) → set.contains u d ≡ true → IsInBlock a d e → slice_get t e ≡ slice_get r e = λ d e m k.
-    put.others e (λ w. l.outside d e (used_below map s f u v hold d m) k (subst (λ q. IsBucket map q) (sym w) here))
+    put.others e (λ w. l.outside d e (used_below map r f u v hold d m) k (subst (λ q. IsBucket map q) (sym w) here))
     (λ mine. true≢false (sym m ∙ ap (λ q. set.contains u q) (same_block a d b e k mine) ∙ unused)) in
     record {
       map = record {
@@ -250,13 +254,19 @@ left_new map key x b s r t f u v hold missing taken kept put =
           | inr k ↦ in_there u b d (h.in_used d i lt k)
         ];
       };
-      free_lists = free_kept a r t (set.remove v b) taken.left put.count
+      free_lists = free_kept a r t v hold.free_lists put.count
           (λ e head. put.others e (λ w. l.no_head e (subst (λ q. IsBucket map q) (sym w) here) head) (λ k. l.arena.outside b e below k head))
           (λ d e free k. put.others e
-          (λ w. l.outside d e (free_below a r (set.remove v b) d taken.left free) k (subst (λ q. IsBucket map q) (sym w) here))
-          (λ mine. true≢false (sym free ∙ ap (λ q. set.contains (set.remove v b) q) (same_block a d b e k mine) ∙ out_itself v b)));
-      apart = λ d m. elim (in_or u b d m) [
-        | inl e ↦ ap (λ q. set.contains (set.remove v b) q) e ∙ out_itself v b
-        | inr k ↦ out_less v b d (hold.apart d k)
-      ];
+          (λ w. l.outside d e (free_below a r v d hold.free_lists free) k (subst (λ q. IsBucket map q) (sym w) here))
+          (λ mine. true≢false (sym free ∙ ap (λ q. set.contains v q) (same_block a d b e k mine) ∙ lacks)));
+      apart = λ d m. elim (in_or u b d m) [ inl e ↦ ap (λ q. set.contains v q) e ∙ lacks | inr k ↦ hold.apart d k ];
     }
+
+-- and in a block that was free
+pub left_new : (map : ChainMap) (key x b : ℕ) (s r t : List ℕ) (f : Entries) (u v : Blocks) → HoldsApart (chain_part map) s f u v → IsMissing map key s
+    → TakesBlock map.arena b s r v → KeepsOthers (IsHead map.arena) s r → IsPutInFront map key x b r t
+    → HoldsApart (chain_part map) t (entry_map.insert f key x) (set.insert u b) (set.remove v b)
+left_new map key x b s r t f u v hold missing taken kept put = put_apart map key x b r t f u (set.remove v b)
+    (record { map = chains_headed map s r f u v hold kept; free_lists = taken.left; apart = λ d m. out_less v b d (hold.apart d m) })
+    (missing_value map key s f u missing hold.map) (free_below map.arena s v b hold.free_lists taken.was_free)
+    (free_unused (chain_part map) s f u v b hold taken.was_free) (out_itself v b) put

@@ -35,7 +35,7 @@ room map key b n G t laid some lt =
     let k : block_at map.arena b + 4 ≤ length s = l.arena.blocks b lt in
     record { bucket = omega (arith, long, l.buckets, bucket_below key); block = omega (arith, long, k); small = omega (arith, long, l.arena.places) }
 
-put_state : (map : ChainMap) (key x b z : ℕ) (s : List ℕ) → IsLaid map s → b < map.arena.blocks → slice_get s (map.buckets + bucket_of key) ≡ Some z
+pub put_state : (map : ChainMap) (key x b z : ℕ) (s : List ℕ) → IsLaid map s → b < map.arena.blocks → slice_get s (map.buckets + bucket_of key) ≡ Some z
     → IsPutInFront map key x b s
     (slice_set (slice_set (slice_set (slice_set s (block_at map.arena b) key) (block_at map.arena b + 1) x)
     (block_at map.arena b + 2) z) (map.buckets + bucket_of key) (b + 1))

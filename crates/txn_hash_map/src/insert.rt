@@ -1,15 +1,19 @@
 //! Putting a key and a value into the map.
 
-ghost use Rattle.std.specs.Prelude.{◌≡◌, ℕ, IfOk, OnOk};
+ghost use Rattle.std.specs.Prelude.{◌≡◌, ℕ, ◌<◌, None, IfOk, OnOk};
+ghost use Rattle.std.specs.FinSet as set;
+ghost use Rattle.std.specs.FinMap as map;
+ghost use Rattle.txn_words.specs.Frames.{KeepsOthers};
 ghost use Rattle.txn_words.specs.Calls.{IsReady, GoesOn, ReadsWithin, WritesOnly, WritesWithin, InEachState, LeadsTo};
 ghost use Rattle.txn_alloc.specs.declared.put.Put.TheVariants.{New, Full, Old};
-ghost use Rattle.txn_alloc.specs.EntryMaps.{HasMapApart, Inserts, LacksRoom, TakesNearest, IsOwn, MayReadToInsert, IsValue};
-ghost use Rattle.txn_hash_map.specs.Chains.{chain_part};
+ghost use Rattle.txn_alloc.specs.FreeLists.{Lacks};
+ghost use Rattle.txn_alloc.specs.EntryMaps.{Entries, Blocks, HoldsApart, IsUsedIn, HasMapApart, Inserts, LacksRoom, TakesNearest, IsOwn, MayReadToInsert, IsValue};
+ghost use Rattle.txn_hash_map.specs.Chains.{ChainsHold, chain_part};
 
-use crate::find::find;
+use crate::find::{bucket, find};
 use crate::front::put_in_front;
 use crate::map::ChainMap;
-use txn_alloc::arena::VALUE;
+use txn_alloc::arena::{NEXT, VALUE};
 use txn_alloc::{Put, take_near};
 use txn_words::{Stop, Words};
 
@@ -77,5 +81,34 @@ impl ChainMap {
                 None => Ok(Put::Full),
             },
         }
+    }
+
+    /// Puts in a value at a key that is absent, in front of its bucket's chain, in a block that is neither used nor free. No
+    /// chain is gone along.
+    pub fn insert_absent(&self, words: &mut [u64], key: u64, value: u64, block: u32)
+        requires order { HasMapApart (chain_part self.now) words.old }
+        requires absent { (entries : Entries) (used : Blocks)
+            → ChainsHold self.now words.old entries used → map.get entries key ≡ None }
+        requires block { block < self.now.arena.blocks }
+        requires unused { ¬ IsUsedIn (chain_part self.now) words.old block }
+        requires lacks { Lacks self.now.arena block words.old }
+
+        // The map has the value at the key, and else what it had, in its blocks and this one.
+        ensures put { (entries : Entries) (used free : Blocks)
+            → HoldsApart (chain_part self.now) words.old entries used free
+            → HoldsApart (chain_part self.now) words.new (map.insert entries key value)
+            (set.insert used block) free }
+
+        // No word is written but the key's bucket and the words of the map's blocks.
+        ensures frame { KeepsOthers (IsOwn (chain_part self.now) key words.old words.new) words.old
+            words.new }
+    {
+        let place = (self.buckets + bucket(key)) as usize;
+        let at = self.arena.place_of(block);
+        let next = words[place];
+        words[at as usize] = key;
+        words[(at + VALUE) as usize] = value;
+        words[(at + NEXT) as usize] = next;
+        words[place] = u64::from(block) + 1;
     }
 }

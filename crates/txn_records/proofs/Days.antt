@@ -18,7 +18,7 @@ use Rattle.record_text.specs.Lines.{ran_of_line, scripts_of}
 use Rattle.record_text.specs.Output.{closing_of, outcome_at, places_run, printed_of, records_after, replies_of, text_of, AreByRank, AreRun, Printed, RecordRan}
 use Rattle.record_text.specs.Records.{Records, index_of}
 use Rattle.record_text.proofs.Ranked.{printed_by_rank}
-use Rattle.txn_stores.proofs.Days.{all_of, day_of, dealt_of, left_by, reply_by, side_by_side, AreJobs, CameTo, IsDay, RunsDown}
+use Rattle.txn_stores.proofs.Days.{all_of, day_of, dealt_of, left_by, reply_by, side_by_side, CameTo, IsDay, RunsDown}
 use Rattle.txn_records.specs.declared.done.RecordDone.{RecordDone}
 use Rattle.txn_records.specs.declared.shape.RecordShape.{RecordShape}
 use Rattle.txn_records.specs.Days.{place_of_done, places_of_done, ran_of_done, scripts_done, AreDealtInTurn, IsRecordDay}
@@ -27,21 +27,6 @@ use Rattle.txn_records.specs.Layout.{words_of}
 use Rattle.txn_records.specs.Meaning.{is_done, ScriptMeans}
 use Rattle.txn_records.specs.Standing.{IsGoodFor, Stands}
 use Rattle.txn_records.proofs.Scripted.{run_stays}
-
--- a job as an item
-abbrev done_of_ran : Ran RecordReply → RecordDone
-done_of_ran ran = record {
-  caller = ran.caller;
-  index = ran.index;
-  seat = ran.seat;
-  call = ran.call;
-  uses = ran.uses;
-  restarts = ran.restarts;
-  reply = ran.answer;
-}
-
-are_jobs : AreJobs ran_of_done done_of_ran
-are_jobs = record { there = λ ran. refl; back = λ item. refl }
 
 -- the words of a store that are good, and what a script of an input means on them
 abbrev good_on : RecordShape → List ℕ → Type 0
@@ -80,7 +65,7 @@ module _ (input : StoreInput) (closed : ClosedView RecordShape) (done : List Rec
   pub day_made : shape ≡ store_of input.blocks → closed.shape ≡ shape → Stands shape closed.base finite.empty → IsRecordDay input closed done
   day_made sized shape_is opening =
       let day : IsDay ran_of_done input.callers (replies_of input) (records_after input) Stands finite.empty closed done =
-      day_of ran_of_done done_of_ran are_jobs good_on (means_on input) input.callers (outcome_at input) (replies_of input) (records_after input)
+      day_of ran_of_done good_on (means_on input) input.callers (outcome_at input) (replies_of input) (records_after input)
       (runs_down input) Stands (store_of input.blocks) (is_step input) finite.empty workers closed shape sized shape_is opening done jobs jobs_are came in
       record {
         rebuilt = day.rebuilt;

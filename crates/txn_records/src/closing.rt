@@ -16,7 +16,8 @@ use crate::shape::RecordShape;
 use crate::trees::first_in;
 use io_ends::OutOfMemory;
 use std::alloc::Global;
-use txn_words::{Plain, Stop, Words};
+use txn_stores::ReadOnly;
+use txn_words::{Stop, Words};
 
 // The first key of the index from one on, with its data.
 fn next_entry<W: Words>(
@@ -83,9 +84,8 @@ pub fn records_of_words(
     ensures { IfOk result (λ all. (records : Records) → Stands shape.now words.now records
         → all.items ≡ printed_of records) }
 {
-    let copy = Vec::from_slice(alloc, words)?;
-    let mut plain = Plain::new(alloc, *shape, copy);
-    match all_records(alloc, &mut plain, shape) {
+    let mut reader = ReadOnly::new(*shape, words);
+    match all_records(alloc, &mut reader, shape) {
         Ok(all) => Ok(all),
         Err(Stop::Memory) => Err(OutOfMemory),
         Err(Stop::Yield) => unreachable!(),

@@ -1,23 +1,23 @@
 -- A day of a store, from jobs that were run in order: whatever its items are called, its state is, and its interpreter.
 use Rattle.std.proofs.Common.{◌≡◌, ◌≢◌, ℕ, ◌<◌, ◌≤◌, ◌%◌, Bool, List, [], ◌∷◌, All, AllPairs, map, length, take, get_or}
 use Rattle.std.proofs.Common.{slice_get, Some, refl, sym, ap, ◌∙◌, subst, arith}
-use Rattle.std.specs.Prelude.{◌↔◌, option_map}
+use Rattle.std.specs.Prelude.{◌↔◌}
 use Rattle.std.specs.List.{zip}
 use Rattle.std.proofs.Math.ListN.{get_or-map}
 use Rattle.std.proofs.lemmas.List.{length-map, take-map}
-use Rattle.std.proofs.lemmas.Option.{slice_get-get_or, slice_get-map}
+use Rattle.std.proofs.lemmas.Option.{slice_get-get_or}
 use mathlib.Core.List.{map-map}
 use Rattle.history_model.specs.declared.entry.Entry.{Entry}
 use Rattle.history_model.specs.Histories.{replay}
 use Rattle.history_model.specs.Legal.{IsIn}
 use Rattle.history_model.specs.Traces.{IsLegalTrace}
 use Rattle.history_model.proofs.ListPlaces.{at_map}
-use Rattle.order_rebuild.specs.Order.{IsOrder, Orderable}
 use Rattle.word_table.specs.Closing.{ClosedView}
 use Rattle.txn_commit.specs.declared.lists.Ran.{Ran}
 use Rattle.txn_commit.specs.Lists.{AreDealt, AreOnceInOrder, HaveRecords, IsEntryOf}
 use Rattle.txn_commit.specs.Ordered.{answers_down, spot_of, state_down, IsRebuilt, IsRunInOrder, IsStep}
 use Rattle.txn_commit.proofs.Orders.Arranged.{by_place}
+use Rattle.txn_commit.proofs.Orders.InPlace.{rebuilt_of}
 use Rattle.txn_commit.proofs.Orders.Stores.{all_answers, at_the_end, runs_to}
 use Rattle.script_reader.specs.Gathered.{CallerOf}
 use Rattle.script_reader.specs.Journal.{Place}
@@ -39,11 +39,6 @@ pub side_by_side : {X Y Z W : Type 0} (join : Y → Z → W) (f : X → Y) (g : 
     → map (λ pair. join pair.0 pair.1) (zip (map f xs) (map g xs)) ≡ map (λ x. join (f x) (g x)) xs
 side_by_side join f g [] = refl
 side_by_side join f g (x ∷ xs) = ap (λ l. join (f x) (g x) ∷ l) (side_by_side join f g xs)
-
--- items are jobs that were run, with their parts under names of the store's own
-pub record AreJobs {Item A : Type 0} (ran_of : Item → Ran A) (item_of : Ran A → Item) : Type 0 where
-  pub there : (ran : Ran A) → ran_of (item_of ran) ≡ ran
-  pub back : (item : Item) → item_of (ran_of item) ≡ item
 
 -- replies down places, and the state that is left, go by the steps of an interpreter
 pub record RunsDown {A X : Type 0} (outcome : X → Place → A × X) (replies : X → List Place → List A)
@@ -110,79 +105,56 @@ module _ {Item A : Type 0} (ran_of : Item → Ran A) where
     last_down [] x = sym (down.no_step x)
     last_down (item ∷ items) x = last_down items (outcome x (place_of item)).1 ∙ sym (down.one_step x (place_of item) (map place_of items))
 
-  module _ (item_of : Ran A → Item) (are : AreJobs ran_of item_of) where
-    there_and_back : (done : List Item) → map item_of (map ran_of done) ≡ done
-    there_and_back [] = refl
-    there_and_back (x ∷ xs) = ap (λ l. item_of (ran_of x) ∷ l) (there_and_back xs) ∙ ap (λ y. y ∷ xs) (are.back x)
+  -- all that is said of a day, on the shape of an input
+  module _ {S X Script : Type 0} (good : List ℕ → Type 0) (means : ℕ → ℕ → List ℕ → Bool → A → List ℕ → Type 0)
+      (callers : List (CallerOf Script)) (workers : ℕ) (outcome : X → Place → A × X) (replies : X → List Place → List A)
+      (last : X → List Place → X) (down : RunsDown outcome replies last) (stands : S → List ℕ → X → Type 0) (shape : S)
+      (step : IsStep means (stands shape) (reply_by outcome) (left_by outcome)) (start : X) (closed : ClosedView S)
+      (shape_is : closed.shape ≡ shape) (opening : stands shape closed.base start) (done : List Item)
+      (came : CameTo good means callers workers closed (map ran_of done)) where
+    stands_to : (k : ℕ) → k ≤ length done
+        → stands closed.shape (replay closed.base (take k came.in_order.entries)) (last start (map place_of (take k done)))
+    stands_to k le =
+        let state = (runs_to good means closed (map ran_of done) came.in_order (stands shape) (reply_by outcome) (left_by outcome) step start opening
+        k (omega (arith, le, length-map done ran_of))).state in
+        subst (λ s. stands s (replay closed.base (take k came.in_order.entries)) (last start (map place_of (take k done)))) (sym shape_is)
+        (subst (λ x. stands shape (replay closed.base (take k came.in_order.entries)) x)
+        (ap (λ l. state_down (left_by outcome) l start) (take-map ran_of k done) ∙ last_down outcome replies last down (take k done) start) state)
 
-    spots_same : (given : List (Ran A)) → map (λ item. spot_of (ran_of item)) (map item_of given) ≡ map spot_of given
-    spots_same [] = refl
-    spots_same (x ∷ xs) = ap (λ l. spot_of (ran_of (item_of x)) ∷ l) (spots_same xs) ∙ ap (λ ran. spot_of ran ∷ map spot_of xs) (are.there x)
-
-    -- items stand in the order that is rebuilt from what they used
-    rebuilt_items : (done : List Item) → IsRebuilt spot_of (map ran_of done) → IsRebuilt (λ item. spot_of (ran_of item)) done
-    rebuilt_items done r = record {
-      given = map item_of r.given;
-      places = r.places;
-      orderable = subst (λ l. Orderable l) (sym (spots_same r.given)) r.orderable;
-      order = subst (λ l. IsOrder l r.places) (sym (spots_same r.given)) r.order;
-      are = record {
-        count = sym (length-map done ran_of) ∙ r.are.count;
-        each = λ i p at. ap (λ l. slice_get l i) (sym (there_and_back done)) ∙ slice_get-map item_of (map ran_of done) i
-            ∙ ap (option_map item_of) (r.are.each i p at) ∙ sym (slice_get-map item_of r.given p);
-      };
+    is_day : IsDay callers replies last stands start closed done
+    is_day = record {
+      rebuilt = rebuilt_of ran_of spot_of done came.in_order.rebuilt;
+      entries = came.in_order.entries;
+      as_many = sym (length-map done ran_of) ∙ came.in_order.as_many;
+      of_items = λ k item e at_item at_e. came.in_order.of_items k (ran_of item) e (at_map ran_of done k item at_item) at_e;
+      of_records = came.in_order.of_records;
+      apart = pairs_of (λ (x y : Ran A). x.seat ≡ y.seat → x.call ≢ y.call) ran_of done came.entries.apart;
+      legal = came.in_order.legal;
+      words = came.in_order.words;
+      journal = subst (λ l. IsJournalOf callers l) (map-map place_of_ran ran_of done) (jobs_are_journal callers (map ran_of done) came.once);
+      below = subst (λ n. All (λ item. (ran_of item).restarts < n) done) (sym came.seats_are)
+          (all_of (λ (ran : Ran A). ran.restarts < workers) ran_of done came.below);
+      replies_are = sym (map-map (λ (ran : Ran A). ran.answer) ran_of done)
+          ∙ all_answers good means closed (map ran_of done) came.in_order (stands shape) (reply_by outcome) (left_by outcome) step start opening
+          ∙ replies_down outcome replies last down done start;
+      stands_at = stands_to;
+      left = subst (λ s. stands s closed.words (last start (map place_of done))) (sym shape_is)
+          (subst (λ x. stands shape closed.words x) (last_down outcome replies last down done start)
+          (at_the_end good means closed (map ran_of done) came.in_order (stands shape) (reply_by outcome) (left_by outcome) step start opening));
     }
 
-    -- all that is said of a day, on the shape of an input
-    module _ {S X Script : Type 0} (good : List ℕ → Type 0) (means : ℕ → ℕ → List ℕ → Bool → A → List ℕ → Type 0)
-        (callers : List (CallerOf Script)) (workers : ℕ) (outcome : X → Place → A × X) (replies : X → List Place → List A)
-        (last : X → List Place → X) (down : RunsDown outcome replies last) (stands : S → List ℕ → X → Type 0) (shape : S)
-        (step : IsStep means (stands shape) (reply_by outcome) (left_by outcome)) (start : X) (closed : ClosedView S)
-        (shape_is : closed.shape ≡ shape) (opening : stands shape closed.base start) (done : List Item)
-        (came : CameTo good means callers workers closed (map ran_of done)) where
-      stands_to : (k : ℕ) → k ≤ length done
-          → stands closed.shape (replay closed.base (take k came.in_order.entries)) (last start (map place_of (take k done)))
-      stands_to k le =
-          let state = (runs_to good means closed (map ran_of done) came.in_order (stands shape) (reply_by outcome) (left_by outcome) step start opening
-          k (omega (arith, le, length-map done ran_of))).state in
-          subst (λ s. stands s (replay closed.base (take k came.in_order.entries)) (last start (map place_of (take k done)))) (sym shape_is)
-          (subst (λ x. stands shape (replay closed.base (take k came.in_order.entries)) x)
-          (ap (λ l. state_down (left_by outcome) l start) (take-map ran_of k done) ∙ last_down outcome replies last down (take k done) start) state)
-
-      is_day : IsDay callers replies last stands start closed done
-      is_day = record {
-        rebuilt = rebuilt_items done came.in_order.rebuilt;
-        entries = came.in_order.entries;
-        as_many = sym (length-map done ran_of) ∙ came.in_order.as_many;
-        of_items = λ k item e at_item at_e. came.in_order.of_items k (ran_of item) e (at_map ran_of done k item at_item) at_e;
-        of_records = came.in_order.of_records;
-        apart = pairs_of (λ (x y : Ran A). x.seat ≡ y.seat → x.call ≢ y.call) ran_of done came.entries.apart;
-        legal = came.in_order.legal;
-        words = came.in_order.words;
-        journal = subst (λ l. IsJournalOf callers l) (map-map place_of_ran ran_of done) (jobs_are_journal callers (map ran_of done) came.once);
-        below = subst (λ n. All (λ item. (ran_of item).restarts < n) done) (sym came.seats_are)
-            (all_of (λ (ran : Ran A). ran.restarts < workers) ran_of done came.below);
-        replies_are = sym (map-map (λ (ran : Ran A). ran.answer) ran_of done)
-            ∙ all_answers good means closed (map ran_of done) came.in_order (stands shape) (reply_by outcome) (left_by outcome) step start opening
-            ∙ replies_down outcome replies last down done start;
-        stands_at = stands_to;
-        left = subst (λ s. stands s closed.words (last start (map place_of done))) (sym shape_is)
-            (subst (λ x. stands shape closed.words x) (last_down outcome replies last down done start)
-            (at_the_end good means closed (map ran_of done) came.in_order (stands shape) (reply_by outcome) (left_by outcome) step start opening));
-      }
-
-    -- a day of what jobs came to, where the table's shape is that of the input
-    pub day_of : {S X Script : Type 0} (good : S → List ℕ → Type 0) (means : S → ℕ → ℕ → List ℕ → Bool → A → List ℕ → Type 0)
-        (callers : List (CallerOf Script)) (outcome : X → Place → A × X) (replies : X → List Place → List A) (last : X → List Place → X)
-        → RunsDown outcome replies last → (stands : S → List ℕ → X → Type 0) (given : S)
-        → IsStep (means given) (stands given) (reply_by outcome) (left_by outcome) → (start : X) (workers : ℕ) (closed : ClosedView S) (shape : S)
-        → shape ≡ given → closed.shape ≡ shape → stands shape closed.base start → (done : List Item) (jobs : List (Ran A)) → map ran_of done ≡ jobs
-        → CameTo (good shape) (means shape) callers workers closed jobs → IsDay callers replies last stands start closed done
-    day_of good means callers outcome replies last down stands given step start workers closed shape sized shape_is opening done jobs jobs_are came =
-        is_day (good given) (means given) callers workers outcome replies last down stands given step start closed (shape_is ∙ sized)
-        (subst (λ s. stands s closed.base start) sized opening) done
-        (subst (λ s. CameTo (good s) (means s) callers workers closed (map ran_of done)) sized
-        (subst (λ l. CameTo (good shape) (means shape) callers workers closed l) (sym jobs_are) came))
+  -- a day of what jobs came to, where the table's shape is that of the input
+  pub day_of : {S X Script : Type 0} (good : S → List ℕ → Type 0) (means : S → ℕ → ℕ → List ℕ → Bool → A → List ℕ → Type 0)
+      (callers : List (CallerOf Script)) (outcome : X → Place → A × X) (replies : X → List Place → List A) (last : X → List Place → X)
+      → RunsDown outcome replies last → (stands : S → List ℕ → X → Type 0) (given : S)
+      → IsStep (means given) (stands given) (reply_by outcome) (left_by outcome) → (start : X) (workers : ℕ) (closed : ClosedView S) (shape : S)
+      → shape ≡ given → closed.shape ≡ shape → stands shape closed.base start → (done : List Item) (jobs : List (Ran A)) → map ran_of done ≡ jobs
+      → CameTo (good shape) (means shape) callers workers closed jobs → IsDay callers replies last stands start closed done
+  day_of good means callers outcome replies last down stands given step start workers closed shape sized shape_is opening done jobs jobs_are came =
+      is_day (good given) (means given) callers workers outcome replies last down stands given step start closed (shape_is ∙ sized)
+      (subst (λ s. stands s closed.base start) sized opening) done
+      (subst (λ s. CameTo (good s) (means s) callers workers closed (map ran_of done)) sized
+      (subst (λ l. CameTo (good shape) (means shape) callers workers closed l) (sym jobs_are) came))
 
   -- items are dealt as their jobs are
   pub dealt_of : (workers : ℕ) (done : List Item) (jobs : List (Ran A)) → map ran_of done ≡ jobs → AreDealt workers jobs

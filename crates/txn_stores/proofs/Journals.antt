@@ -10,7 +10,8 @@ use Rattle.history_model.specs.Legal.{IsIn}
 use Rattle.history_model.proofs.ListPlaces.{at_map}
 use Rattle.txn_commit.specs.declared.lists.Ran.{Ran}
 use Rattle.txn_commit.specs.Lists.{indexes_of, AreOnceInOrder}
-use Rattle.txn_commit.proofs.Orders.Once.{in_filter, later_index, pairs_map}
+use Rattle.txn_commit.proofs.Orders.Once.{later_index, pairs_map}
+use Rattle.word_table.proofs.Joined.Counting.{in_filter}
 use Rattle.script_reader.specs.Gathered.{caller_at, count_scripts, AreCallers, CallerOf}
 use Rattle.script_reader.specs.Journal.{Place}
 use Rattle.txn_stores.specs.Journals.{place_of_ran, script_count, IsJournalOf, IsPlaceOf}

@@ -1,2 +1,3 @@
 pub mod Journals
 pub mod Statements
+pub mod Reads

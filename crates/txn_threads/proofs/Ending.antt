@@ -1,9 +1,8 @@
 -- Clients whose threads have ended, each with the pass that it was lent.
-use Rattle.std.proofs.Common.{◌≡◌, ℕ, ◌<◌, List, [], ◌∷◌, map, length, get_or, Some, false, slice_get, ⊎_elim, refl, sym, ap, ◌∙◌, subst, arith}
+use Rattle.std.proofs.Common.{◌≡◌, ℕ, ◌<◌, List, map, length, get_or, Some, false, slice_get, ⊎_elim, refl, sym, ap, ◌∙◌, subst, arith}
 use Rattle.std.proofs.lemmas.List.{length-map, get_or-map}
 use Rattle.std.proofs.lemmas.Option.{get_or_from_slice_get, slice_get_cases}
-use Rattle.locks_rule.specs.Splits.{opening_view}
-use Rattle.word_table.specs.Copies.{PassView}
+use Rattle.word_table.specs.Copies.{fresh_pass, PassView}
 use Rattle.word_table.specs.Desks.{DeskView}
 use Rattle.txn_threads.specs.declared.seat.Seat.{Seat}
 use Rattle.txn_threads.specs.Clients.{HasWorked}
@@ -19,7 +18,7 @@ module _ {S C : Type 0} (does : DeskView S → C → C → PassView → PassView
     (ended : (k : ℕ) (d : Seat C S) → k < length old → HasEnded does desk (get_or old k d) (get_or new k d))
     (parts : AreParts new left after) where
   new_pass : ℕ → PassView
-  new_pass j = record { table = desk.table; view = opening_view desk.base desk.seats (j ∷ []) [] }
+  new_pass j = fresh_pass desk.table desk.base desk.seats j
 
   many : length clients ≡ length old
   many = sym (ap length clients_are) ∙ length-map old client_of

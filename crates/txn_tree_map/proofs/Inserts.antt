@@ -6,6 +6,8 @@ pub mod SplitSteps
 pub mod SplitCalls
 -- a new cell put into the tree, in one word list
 pub mod PutSteps
+-- a tree laid by its right spine, in one word list
+pub mod SpineSteps
 -- what the call that puts a new cell into the tree leads to, in every fitting state at once
 pub mod PutCalls
 -- another value at a key that was found

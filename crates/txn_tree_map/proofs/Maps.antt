@@ -1,5 +1,5 @@
 -- The map as a whole: it is one, it stands while its words stay, and what it is after a change at a place.
-use Rattle.std.proofs.Common.{◌≡◌, ℕ, ◌+◌, ◌<◌, ◌≤◌, true, List, [], ◌∷◌, ◌++◌, length, slice_get, inl, inr, refl, sym, ap, ◌∙◌, subst, arith}
+use Rattle.std.proofs.Common.{◌≡◌, ℕ, ◌+◌, ◌<◌, ◌≤◌, true, false, List, [], ◌∷◌, ◌++◌, length, slice_get, inl, inr, refl, sym, ap, ◌∙◌, subst, arith}
 use mathlib.Core.Bool.{true≢false}
 use mathlib.Core.Logic.{dite}
 use native.Mathlib.Decide.{ℕ_discrete}
@@ -119,39 +119,43 @@ put_holds map key x b r t f u hold put =
     (λ ne. contains-insert_other u b d ne ∙ at_used map r none.path Leaf none.is_at f u hold d ∙ ap (λ cs. has_block d cs) put.cells
     ∙ less_block d xs ys c (λ e. ne (sym e)) ∙ ap (λ cs. has_block d cs) (sym whole)))
 
--- with the free lists beside it
-pub inserted_new : (map : TreeMap) (key x b : ℕ) (s r t : List ℕ) (f : Entries) (u v : Blocks) → HoldsApart (tree_part map) s f u v → IsMissing map key s
-    → TakesBlock map.arena b s r v → KeepsOthers (IsHead map.arena) s r → IsPut map key x b r t → InsertsIn (tree_part map) key x b t f u v
-inserted_new map key x b s r t f u v hold none taken kept put =
+-- with the free lists beside it, where the block was in none
+pub put_apart : (map : TreeMap) (key x b : ℕ) (r t : List ℕ) (f : Entries) (u v : Blocks) → HoldsApart (tree_part map) r f u v
+    → set.contains v b ≡ false → IsPut map key x b r t
+    → HoldsApart (tree_part map) t (entry_map.insert f key x) (set.insert u b) v
+put_apart map key x b r t f u v hold lacks put =
     let a : Arena = map.arena in
-    let h : TreeHolds map r f u = tree_headed map s r f u hold.map kept in
+    let h : TreeHolds map r f u = hold.map in
     let here : IsMissing map key r = put.before.missing in
     let l : IsLaid map r = h.laid in
     let used : (d : ℕ) → has_block d (before_of here.path ++ after_of here.path) ≡ true → set.contains u d ≡ true =
     λ d k. at_used map r here.path Leaf here.is_at f u h d ∙ k in
     record {
-      absent = missing_value map key s f u none hold.map;
-      was_free = taken.was_free;
-      left = record {
-        map = put_holds map key x b r t f u h put;
-        free_lists = free_kept a r t (set.remove v b) taken.left put.kept.count
-            (λ c head. put.kept.same c (λ k. elim k [
-              | inl e ↦ l.no_head (subst (λ z. IsHead a z) e head)
-              | inr m ↦ l.arena.outside m.0 c
-                  (elim (m.1) [ inl e ↦ subst (λ d. d < a.blocks) (sym e) put.before.below | inr z ↦ used_below map r f u m.0 h (used m.0 z) ]) m.2 head
-            ]))
-            (λ d c free mine. put.kept.same c (λ k. elim k [
-              | inl e ↦ l.outside d (free_below a r (set.remove v b) d taken.left free) (subst (λ z. IsInBlock a d z) e mine)
-              | inr m ↦
-                  let same : d ≡ m.0 = same_block a d m.0 c mine m.2 in
-                  elim (m.1) [
-                    | inl e ↦ true≢false (sym free ∙ ap (λ q. set.contains (set.remove v b) q) (same ∙ e) ∙ out_itself v b)
-                    | inr z ↦ true≢false (sym free ∙ ap (λ q. set.contains (set.remove v b) q) same ∙ out_less v b m.0 (hold.apart m.0 (used m.0 z)))
-                  ]
-            ]));
-        apart = λ d m. elim (in_or u b d m) [
-          | inl e ↦ ap (λ q. set.contains (set.remove v b) q) e ∙ out_itself v b
-          | inr k ↦ out_less v b d (hold.apart d k)
-        ];
-      };
+      map = put_holds map key x b r t f u h put;
+      free_lists = free_kept a r t v hold.free_lists put.kept.count
+          (λ c head. put.kept.same c (λ k. elim k [
+            | inl e ↦ l.no_head (subst (λ z. IsHead a z) e head)
+            | inr m ↦ l.arena.outside m.0 c
+                (elim (m.1) [ inl e ↦ subst (λ d. d < a.blocks) (sym e) put.before.below | inr z ↦ used_below map r f u m.0 h (used m.0 z) ]) m.2 head
+          ]))
+          (λ d c free mine. put.kept.same c (λ k. elim k [
+            | inl e ↦ l.outside d (free_below a r v d hold.free_lists free) (subst (λ z. IsInBlock a d z) e mine)
+            | inr m ↦
+                let same : d ≡ m.0 = same_block a d m.0 c mine m.2 in
+                elim (m.1) [
+                  | inl e ↦ true≢false (sym free ∙ ap (λ q. set.contains v q) (same ∙ e) ∙ lacks)
+                  | inr z ↦ true≢false (sym free ∙ ap (λ q. set.contains v q) same ∙ hold.apart m.0 (used m.0 z))
+                ]
+          ]));
+      apart = λ d m. elim (in_or u b d m) [ inl e ↦ ap (λ q. set.contains v q) e ∙ lacks | inr k ↦ hold.apart d k ];
     }
+
+-- and where it was taken out of them
+pub inserted_new : (map : TreeMap) (key x b : ℕ) (s r t : List ℕ) (f : Entries) (u v : Blocks) → HoldsApart (tree_part map) s f u v → IsMissing map key s
+    → TakesBlock map.arena b s r v → KeepsOthers (IsHead map.arena) s r → IsPut map key x b r t → InsertsIn (tree_part map) key x b t f u v
+inserted_new map key x b s r t f u v hold none taken kept put = record {
+  absent = missing_value map key s f u none hold.map;
+  was_free = taken.was_free;
+  left = put_apart map key x b r t f u (set.remove v b)
+      (record { map = tree_headed map s r f u hold.map kept; free_lists = taken.left; apart = λ d m. out_less v b d (hold.apart d m) }) (out_itself v b) put;
+}

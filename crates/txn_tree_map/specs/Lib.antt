@@ -8,3 +8,4 @@ pub mod Walks
 pub mod Statements
 pub mod Firsts
 pub mod Stored
+pub mod Spines

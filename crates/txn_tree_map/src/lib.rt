@@ -48,9 +48,11 @@ pub mod map;
 mod next;
 mod remove;
 mod seat;
+mod spine;
 mod split;
 mod sum;
 mod walk;
 
 pub use in_place::Stored;
 pub use map::TreeMap;
+pub use spine::Spine;

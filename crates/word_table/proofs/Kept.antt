@@ -12,5 +12,7 @@ pub mod KeptKinds
 pub mod KeptChanges
 -- each atomic operation may be any kind of step that fits it
 pub mod Soundness
+-- a rule of views alone, of seats whose steps are counted
+pub mod Numbered
 -- a version has room for one more, and so has the clock
 pub mod Growing

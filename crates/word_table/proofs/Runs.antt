@@ -12,3 +12,7 @@ pub mod Drawing
 pub mod Writing
 -- an entry that was made stands in every later state
 pub mod Recorded
+-- what a pass has seen stands before the entries of its later calls; and where an entry stands
+pub mod Later
+-- the seats of a desk begin fewer than 2^37 calls together
+pub mod Counted

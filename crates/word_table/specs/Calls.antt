@@ -21,7 +21,7 @@ use Rattle.locks_rule.specs.Steps.{is_free, set_read_bit_action, load_writer_act
 use Rattle.locks_rule.specs.Versions.{load_version_action, store_version_action}
 use Rattle.values_rule.specs.Steps.{load_value_action, after_giving_way}
 use Rattle.values_rule.specs.Closing.{IsPlaced}
-use Rattle.values_rule.specs.History.{item_of_entry, items_of_attempts, knew_of}
+use Rattle.values_rule.specs.History.{item_of_entry, items_of, items_of_attempts, knew_of}
 use Rattle.stamps_rule.specs.Steps.{judge_stamp_action}
 use Rattle.word_table.specs.declared.answer.Shared.{Shared}
 use Rattle.word_table.specs.declared.answer.Shared.TheVariants as shared
@@ -32,6 +32,7 @@ use Rattle.word_table.specs.declared.answer.Scanned.TheVariants as scanned
 use Rattle.word_table.specs.declared.answer.Judged.{Judged}
 use Rattle.word_table.specs.declared.answer.Judged.TheVariants as judged
 use Rattle.word_table.specs.Kinds.{TakenIn}
+use Rattle.word_table.specs.Sound.{IsSound}
 use Rattle.word_table.specs.Versions.{HasUse, locks_found}
 
 -- the call that began with the view old met another seat, i, on lock k: by a step that it took from the view asking, in
@@ -182,16 +183,30 @@ pub record JudgedBy (sound : List ℕ → List View → Type 0) (v : View) (i : 
   pub yield_earlier : (stamp : ℕ) → r ≡ judged.Yield stamp → (found ≡ stamp) × (0 < stamp) × (stamp < v.stamp)
   pub earlier_yield : 0 < found → found < v.stamp → r ≡ judged.Yield found
 
--- what the call's last attempt did is legal on the words that all that was done leaves of the base, in whatever order
--- this is arranged, and these are good words; all that the pass has seen is a part of it, and so are the attempts of the
--- call that gave way, each of which stands at a legal place
+-- the seat was in the call that v is in, and had seen the same
+pub record IsInCall (seat v : View) : Type 0 where
+  pub who : seat.who ≡ v.who
+  pub call : seat.call ≡ v.call
+  pub seen : seat.seen ≡ v.seen
+  pub abandoned : seat.abandoned ≡ v.abandoned
+
+-- in a state of the table that is sound, in which the pass's seat was in this call: what the call's last attempt did is
+-- legal on the words that all that was done then leaves of the base, in whatever order this is arranged, and these are good
+-- words; all that the pass has seen is a part of it, and so are the attempts of the call that gave way, each of which stands
+-- at a legal place
 pub record ReadsArranged (good : List ℕ → Type 0) (n : ℕ) (base : List ℕ) (v : View) : Type 0 where
-  pub items : List Item
-  pub seen : (e : Entry) → IsIn e v.seen → IsIn (item_of_entry e) items
-  pub attempts : (x : Item) → IsIn x (items_of_attempts (number v) v.call (knew_of v.seats v.seen) 0 v.abandoned) → IsIn x items
+  pub words : List ℕ
+  pub views : List View
+  pub place : ℕ
+  pub seat : View
+  pub holds : IsSound good n base words views
+  pub knows : Knows views place seat
+  pub in_call : IsInCall seat v
+  pub seen : (e : Entry) → IsIn e v.seen → IsIn (item_of_entry e) (items_of views)
+  pub attempts : (x : Item) → IsIn x (items_of_attempts (number v) v.call (knew_of v.seats v.seen) 0 v.abandoned) → IsIn x (items_of views)
   pub order : List Item
-  pub arranged : IsArrangement items order
-  pub placed : (order : List Item) → IsArrangement items order → (p : ℕ) (x : Item) → slice_get order p ≡ Some x
+  pub arranged : IsArrangement (items_of views) order
+  pub placed : (order : List Item) → IsArrangement (items_of views) order → (p : ℕ) (x : Item) → slice_get order p ≡ Some x
       → IsPlaced good n base order p x
-  pub left_good : (order : List Item) → IsArrangement items order → good (replay_items base order)
-  pub fits : (order : List Item) → IsArrangement items order → IsLegalTrace v.trace (replay_items base order)
+  pub left_good : (order : List Item) → IsArrangement (items_of views) order → good (replay_items base order)
+  pub fits : (order : List Item) → IsArrangement (items_of views) order → IsLegalTrace v.trace (replay_items base order)

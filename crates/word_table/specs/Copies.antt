@@ -15,6 +15,7 @@ use Rattle.history_model.specs.Table.{row_word, writer_word, value_word, table_w
 use Rattle.history_model.specs.Traces.{Trace, Touches}
 use Rattle.history_model.specs.Undoing.{Notes}
 use Rattle.history_model.specs.Views.{HasBit, HasClaim}
+use Rattle.locks_rule.specs.Splits.{opening_view}
 use Rattle.locks_rule.specs.Versions.{locks_of}
 use Rattle.word_table.specs.declared.copies.CallCopy.{CallCopy}
 use Rattle.word_table.specs.declared.copies.LockCopy.{LockCopy}
@@ -22,10 +23,15 @@ use Rattle.word_table.specs.declared.copies.VersionCopy.{VersionCopy}
 use Rattle.word_table.specs.declared.limits.TheConstants.{MOST_PASSES, MOST_WORDS}
 use Rattle.word_table.specs.Versions.{locks_found}
 
--- a pass: the table that it is of, and what it knows
+-- a pass: the table that it is of, what it knows, and how many steps it took
 pub record PassView : Type 0 where
   pub table : TableId
   pub view : View
+  pub steps : ℕ
+
+-- pass j of n over these words of a table, which has done nothing
+abbrev pub fresh_pass : TableId → List ℕ → ℕ → ℕ → PassView
+fresh_pass table base n j = record { table = table; view = opening_view base n (j ∷ []) []; steps = 0 }
 
 -- sixteen words show a set of locks, a bit for each
 pub record ShowsLocks (row locks : List ℕ) : Type 0 where

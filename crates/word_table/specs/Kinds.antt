@@ -1,5 +1,5 @@
 -- All kinds of step, what each does, and when a seat may take it.
-use Rattle.std.specs.Prelude.{◌≡◌, ℕ, ◌+◌, ◌^◌, ◌<◌, List}
+use Rattle.std.specs.Prelude.{◌≡◌, ℕ, ◌+◌, ◌^◌, ◌<◌, List, Bool, true, false}
 use Rattle.atomic_table.specs.Table.{Me}
 use Rattle.history_model.specs.declared.view.View.{View}
 use Rattle.history_model.specs.Table.{Knows}
@@ -39,6 +39,27 @@ action_of (JudgeStamp j i) v = judge_stamp_action j i v
 action_of (LoadCauseStamp j i stamp) v = load_cause_stamp_action j i stamp v
 action_of (LoadVersion j k) v = load_version_action j k v
 action_of (StoreVersion j k x) v = store_version_action j k x v
+
+-- the step loads its word; any other stores to it, exchanges it or adds to it
+abbrev pub is_load : Step → Bool
+is_load (SetReadBit j k a) = false
+is_load (ClearReadBit j k) = false
+is_load (LoadWriter j k a) = true
+is_load (ClaimWriter j k a) = false
+is_load (ScanRow j k i) = true
+is_load (ReleaseWriter j k) = false
+is_load (BeginCall j) = false
+is_load (LoadValue j a) = true
+is_load (StoreValue j a x) = false
+is_load (UndoStore j a old) = false
+is_load (CommitCall j kept) = false
+is_load (ClearStamp j) = false
+is_load (DrawStamp j) = false
+is_load (AnnounceStamp j) = false
+is_load (JudgeStamp j i) = true
+is_load (LoadCauseStamp j i stamp) = true
+is_load (LoadVersion j k) = true
+is_load (StoreVersion j k x) = false
 
 -- a seat that knows v may take the step, where these are the good lists of words
 abbrev pub May : (List ℕ → Type 0) → Step → View → Type 0

@@ -11,5 +11,6 @@ pub mod Unscanned
 pub mod Calls
 pub mod Runs
 pub mod Meetings
+pub mod Words
 pub mod Writes
 pub mod Uses

@@ -1,22 +1,28 @@
 -- What holds in every state of every run: of who meets whom, of each call, and of the clock. And a state that every table
 -- comes to.
-use Rattle.std.specs.Prelude.{◌≡◌, ◌≢◌, ℕ, ◌<◌, ◌≤◌, true, List, [], ◌∷◌, length, Some, slice_get, slice_index}
+use Rattle.std.specs.Prelude.{◌≡◌, ◌≢◌, ℕ, ◌^◌, ◌<◌, ◌≤◌, true, List, [], ◌∷◌, length, Some, slice_get, slice_index, take}
 use Rattle.history_model.specs.declared.entry.Entry.{Entry}
 use Rattle.history_model.specs.declared.item.Item.{Item}
 use Rattle.history_model.specs.declared.view.View.{View}
 use Rattle.history_model.specs.declared.view.Phase.TheVariants.{Idle}
+use Rattle.history_model.specs.declared.TheConstants.{LOCKS}
 use Rattle.history_model.specs.Conflicts.{Meets, IsAt}
+use Rattle.history_model.specs.Counts.{calls_sum}
 use Rattle.history_model.specs.Arrangements.{IsArrangement}
+use Rattle.history_model.specs.Items.{replay_items}
+use Rattle.history_model.specs.Legal.{IsIn}
 use Rattle.history_model.specs.Locks.{lock_of_word}
 use Rattle.history_model.specs.Sets.{has}
-use Rattle.history_model.specs.Table.{TableState, Knows, clock_word}
+use Rattle.history_model.specs.Table.{TableState, Knows, clock_word, version_word}
+use Rattle.history_model.specs.Traces.{IsLegalTrace}
 use Rattle.locks_rule.specs.Actions.{found_by, words_after}
 use Rattle.locks_rule.specs.Locks.{AskedFor, IsSeat}
 use Rattle.locks_rule.specs.Splits.{opening_view}
 use Rattle.stamps_rule.specs.Stamps.{AreRestartsBounded, draws_of}
 use Rattle.values_rule.specs.Closing.{IsPlaced}
-use Rattle.values_rule.specs.History.{items_of}
+use Rattle.values_rule.specs.History.{item_of_entry, items_of}
 use Rattle.values_rule.specs.Records.{IsRecorded}
+use Rattle.word_table.specs.declared.limits.TheConstants.{MOST_PASSES}
 use Rattle.word_table.specs.declared.step.Step.{Step}
 use Rattle.word_table.specs.declared.step.Step.TheVariants.{DrawStamp}
 use Rattle.word_table.specs.Kinds.{action_of, May}
@@ -94,6 +100,13 @@ OnlyDrawsMoveClock good n base =
     → IsReached good n base state → Knows state.views place view → May good step view → ((j : ℕ) → step ≢ DrawStamp j)
     → slice_index (words_after (action_of step view) state.words) clock_word ≡ slice_index state.words clock_word
 
+-- the seats of a desk begin fewer than 2^37 calls together, so no timestamp and no version is as great
+abbrev pub NumbersStayBelow : (List ℕ → Type 0) → ℕ → List ℕ → Type 0
+NumbersStayBelow good n base =
+    (state : TableState) → IsReached good n base state → n ≤ MOST_PASSES
+    → (calls_sum n state.words < 2 ^ 37) × (slice_index state.words clock_word < 2 ^ 37)
+    × ((k : ℕ) → k < LOCKS → slice_index state.words (version_word n k) < 2 ^ 37)
+
 -- n seats that did nothing yet: a view for each number, and no other
 pub record AreDealt (n : ℕ) (base : List ℕ) (views : List View) : Type 0 where
   pub count : length views ≡ n
@@ -123,3 +136,24 @@ EntriesStay good n base =
     (run : List TableState) (p q : ℕ) (before after : TableState) (e : Entry)
     → good base → IsRun good n base run → slice_get run p ≡ Some before → slice_get run q ≡ Some after → p ≤ q
     → IsRecorded before.views e → IsRecorded after.views e
+
+-- an entry that was made stands at some place in each later arrangement: good words come of what stands before it, and its
+-- trace is legal on them
+abbrev pub EntriesStand : (List ℕ → Type 0) → ℕ → List ℕ → Type 0
+EntriesStand good n base =
+    (run : List TableState) (p q : ℕ) (before after : TableState) (e : Entry) (order : List Item)
+    → good base → IsRun good n base run → slice_get run p ≡ Some before → slice_get run q ≡ Some after → p ≤ q
+    → IsRecorded before.views e → IsArrangement (items_of after.views) order
+    → (i : ℕ) × (slice_get order i ≡ Some (item_of_entry e)) × good (replay_items base (take i order))
+    × IsLegalTrace e.trace (replay_items base (take i order))
+
+-- what a pass has seen stands, in each later arrangement, before the entry of each call that it begins later
+abbrev pub LaterStandBehind : (List ℕ → Type 0) → ℕ → List ℕ → Type 0
+LaterStandBehind good n base =
+    (run : List TableState) (p q : ℕ) (before after : TableState) (place j : ℕ) (v : View) (x e : Entry)
+    (order : List Item) (a b : ℕ)
+    → good base → IsRun good n base run → slice_get run p ≡ Some before → slice_get run q ≡ Some after → p ≤ q
+    → Knows before.views place v → v.who ≡ j ∷ [] → IsIn x v.seen
+    → IsRecorded after.views e → e.who ≡ j → v.call < e.call
+    → IsArrangement (items_of after.views) order
+    → slice_get order a ≡ Some (item_of_entry x) → slice_get order b ≡ Some (item_of_entry e) → a < b

@@ -10,8 +10,8 @@ ghost use Rattle.word_table.specs.Gathering.{IsGathered};
 
 use crate::desk::Desk;
 use crate::pass::Pass;
-use crate::rule::TableWords;
-use atomic_table::{Join, Seat};
+use crate::step::{TableSeat, TableWords, join};
+use atomic_table::Join;
 use history_model::{Shape, View};
 use io_ends::OutOfMemory;
 use std::alloc::Global;
@@ -26,7 +26,7 @@ use std::snapshot::Snapshot;
 pub struct Closed<S: Shape> {
     pub(crate) words: Vec<u64>,
     pub(crate) made: Snapshot<TableWords<S>>,
-    pub(crate) last: Snapshot<Seat<(), View>>,
+    pub(crate) last: Snapshot<TableSeat>,
 }
 
 impl<S: Shape> Model for Closed<S> {
@@ -79,7 +79,7 @@ pub(crate) fn room_for(alloc: Global, count: usize) -> Result<Vec<u64>, OutOfMem
 }
 
 // The seat takes in another with its numbers.
-fn join_one<S: Shape>(table: &TableWords<S>, seat: &mut Seat<(), View>, other: Seat<(), View>)
+fn join_one<S: Shape>(table: &TableWords<S>, seat: &mut TableSeat, other: TableSeat)
     requires table { (seat.old.table_id ≡ table.now.table_id)
         × (other.table_id ≡ table.now.table_id) }
     requires words { 0 < table.now.table_id.words }
@@ -89,7 +89,7 @@ fn join_one<S: Shape>(table: &TableWords<S>, seat: &mut Seat<(), View>, other: S
     ensures table { seat.new.table_id ≡ seat.old.table_id }
     ensures seat { seat.new.me ≡ (after_joining seat.old.me.0 other.me.0, seat.old.me.1) }
 {
-    table.join_seat::<JoinsSeats>(seat, other);
+    join::<S, JoinsSeats>(table, seat, other);
 }
 
 /// All passes as one seat, which has all their numbers, and what each had seen.
@@ -97,7 +97,7 @@ pub(crate) fn gather<S: Shape>(
     table: &TableWords<S>,
     first: Pass<S>,
     mut passes: Vec<Pass<S>>,
-) -> Seat<(), View>
+) -> TableSeat
     requires words { 0 < table.now.table_id.words }
     requires all { AreAllPasses table.now.table_id table.now.key.seats
         (passes.items ++ first ∷ []) }

@@ -1,13 +1,15 @@
 //! The shared table, and the calls that a program makes: it opens a table, lends its passes, and closes it. Between calls a
 //! pass may note what it has seen, for another to meet.
 
-ghost use Rattle.std.specs.Prelude.{◌≡◌, ◌<◌, ◌≤◌, ℕ, [], ◌∷◌, length, IfOk, IfErr, Some, slice_get};
+ghost use Rattle.std.specs.Prelude.{◌≡◌, ◌↔◌, ◌⊎◌, ◌<◌, ◌≤◌, ℕ, [], ◌∷◌, length, IfOk, IfErr, Some, slice_get};
+ghost use Rattle.history_model.specs.declared.entry.Entry.{Entry};
 ghost use Rattle.history_model.specs.Fitting.{IsGood};
-ghost use Rattle.locks_rule.specs.Splits.{opening_view};
+ghost use Rattle.history_model.specs.Legal.{IsIn};
 ghost use Rattle.locks_rule.specs.Joins.{gains};
 ghost use Rattle.word_table.specs.Closing.{AreAllPasses, AreRecords, AreSeenBy, IsCoherent, IsLegalInEachOrder};
 ghost use Rattle.word_table.specs.Desks.{AreGoodWords};
 ghost use Rattle.word_table.specs.Sound.{opening_words};
+ghost use Rattle.word_table.specs.Copies.{fresh_pass};
 
 use crate::closing::{CloseRefused, Closed, copy_words, gather, room_for};
 use crate::deal::deal;
@@ -15,8 +17,8 @@ use crate::layout::place_of_values;
 use crate::limits::{MOST_PASSES, MOST_WORDS};
 use crate::notes::Note;
 use crate::pass::Pass;
-use crate::rule::{DeskRule, Ground};
-use atomic_table::Table;
+use crate::rule::Ground;
+use crate::step::{TableWords, close_with, lay_table, word_count};
 use history_model::{Phase, Shape, View};
 use io_ends::OutOfMemory;
 use std::alloc::Global;
@@ -38,7 +40,7 @@ fn lay(alloc: Global, base: &Vec<u64>, n: u32) -> Result<Vec<u64>, OutOfMemory>
 /// The shared table. Any number of threads may step on it, each with a pass of its own.
 #[derive(Drop)]
 pub struct Desk<S: Shape> {
-    table: Table<(), View, Ground<S>, DeskRule<S>, Global>,
+    table: TableWords<S>,
     seats: u32,
 }
 
@@ -52,17 +54,17 @@ impl<S: Shape> Model for Desk<S> {
     ghost Value = { DeskView S };
 
     ghost view = { λ d. record {
-      table = d.table.shared.table_id;
-      base = d.table.shared.key.base.items;
-      seats = d.table.shared.key.seats;
-      shape = d.table.shared.key.shape;
+      table = d.table.table_id;
+      base = d.table.key.base.items;
+      seats = d.table.key.seats;
+      shape = d.table.key.shape;
     } };
 
     ghost invariant = { λ d.
-        (d.table.shared.table_id.slots ≡ 0)
-        × (d.table.shared.table_id.words ≡ table_words d.table.shared.key.seats (length d.table.shared.key.base.items))
-        × (d.seats ≡ d.table.shared.key.seats) × (1 ≤ d.seats) × (d.seats ≤ MOST_PASSES)
-        × IsGood (S.word_count d.table.shared.key.shape) (S.good d.table.shared.key.shape) d.table.shared.key.base.items };
+        (d.table.table_id.slots ≡ 0)
+        × (d.table.table_id.words ≡ table_words d.table.key.seats (length d.table.key.base.items))
+        × (d.seats ≡ d.table.key.seats) × (1 ≤ d.seats) × (d.seats ≤ MOST_PASSES)
+        × IsGood (S.word_count d.table.key.shape) (S.good d.table.key.shape) d.table.key.base.items };
 }
 
 impl<S: Shape> Desk<S> {
@@ -81,11 +83,7 @@ impl<S: Shape> Desk<S> {
         ensures count { IfOk result (λ made. length made.1.items ≡ n) }
         ensures passes { IfOk result (λ made. (j : ℕ) → j < n
             → slice_get made.1.items j
-            ≡ Some (record {
-              table = made.0.table;
-              view = opening_view base.items n (j ∷ [])
-                  [];
-            })) }
+            ≡ Some (fresh_pass made.0.table base.items n j)) }
         ensures all { IfOk result (λ made. AreAllPasses made.0.table made.0.seats made.1.items) }
     {
         let words = lay(alloc, &base, n)?;
@@ -94,8 +92,8 @@ impl<S: Shape> Desk<S> {
             base,
             shape,
         };
-        let (table, seat) = Table::of_words(alloc, words.as_slice(), &ground)?;
-        let passes = deal(alloc, &table.shared, seat, n)?;
+        let (table, seat) = lay_table(alloc, words.as_slice(), &ground)?;
+        let passes = deal(alloc, &table, seat, n)?;
         Ok((Desk { table, seats: n }, passes))
     }
 
@@ -121,7 +119,7 @@ impl<S: Shape> Desk<S> {
         ensures desk { result.table ≡ self.now.table }
         ensures seen { result.seen ≡ pass.old.view.seen }
     {
-        pass.take_note(&self.table.shared)
+        pass.take_note(&self.table)
     }
 
     /// The pass has then seen exactly the records that it or the note had seen, each once. What it commits later stands
@@ -131,17 +129,20 @@ impl<S: Shape> Desk<S> {
         requires note { note.table ≡ self.now.table }
         requires phase { pass.old.view.phase ≡ Phase.Idle }
         ensures desk { pass.new.table ≡ pass.old.table }
+        ensures steps { pass.new.steps ≡ pass.old.steps }
         ensures exactly { pass.new.view
             ≡ record pass.old.view { seen = gains pass.old.view.seen note.seen; met = [] } }
+        ensures both { (e : Entry) → IsIn e pass.new.view.seen
+            ↔ (IsIn e pass.old.view.seen ⊎ IsIn e note.seen) }
     {
-        pass.meet_note(&self.table.shared, note);
+        pass.meet_note(&self.table, note);
     }
 
     // How many words the memory has.
     fn memory_words(&self) -> usize
         ensures { result ≡ length self.now.base }
     {
-        self.table.word_count() - place_of_values(self.seats)
+        word_count(&self.table) - place_of_values(self.seats)
     }
 
     // Brings all passes together and takes the words out, into room that was taken before.
@@ -159,10 +160,10 @@ impl<S: Shape> Desk<S> {
         let Some(last_pass) = passes.pop() else {
             unreachable!()
         };
-        let seat = gather(&table.shared, last_pass, passes);
-        let made = Snapshot::of(&table.shared);
+        let seat = gather(&table, last_pass, passes);
+        let made = Snapshot::of(&table);
         let last = Snapshot::of(&seat);
-        let closed = table.close_with(seat);
+        let closed = close_with(table, seat);
         copy_words(&closed, place_of_values(seats), &mut words);
         closed.free();
         Closed { words, made, last }

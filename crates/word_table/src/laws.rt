@@ -10,12 +10,12 @@ ghost use Rattle.locks_rule.specs.Joins.{after_note, after_joining};
 ghost use Rattle.locks_rule.specs.Splits.{KeepsSplit, MaySplitSeat, left_by_split, given_by_split};
 ghost use Rattle.word_table.specs.declared.step.Step.{Step};
 ghost use Rattle.word_table.specs.Kinds.{action_of, May};
-ghost use Rattle.word_table.specs.Meetings.{ClockCountsDraws, EntriesStay, IsArranged, MeetsInConflict, NeverMeetsApart, OnlyDrawsMoveClock, ReadsOneState, RestartsFew, SeatsAreDealt, StampsAreKept};
+ghost use Rattle.word_table.specs.Meetings.{ClockCountsDraws, EntriesStand, EntriesStay, IsArranged, LaterStandBehind, MeetsInConflict, NeverMeetsApart, NumbersStayBelow, OnlyDrawsMoveClock, ReadsOneState, RestartsFew, SeatsAreDealt, StampsAreKept};
 ghost use Rattle.word_table.specs.Runs.{IsOpening, IsRun, Steps};
 ghost use Rattle.word_table.specs.Sound.{IsSound};
 ghost use Rattle.word_table.specs.Writes.{HaveNoCommonWord, WritesOwnAndAsked};
 
-use crate::limits::{MOST_PASSES, MOST_WORDS};
+use crate::limits::{LAST_CALL, MOST_PASSES, MOST_WORDS};
 use history_model::Shape;
 
 /// Every kind of step keeps the whole rule, from every state in which a seat may take it.
@@ -85,9 +85,18 @@ pub fn every_draw<S: Shape>()
         → OnlyDrawsMoveClock (IsGood (S.word_count shape) (S.good shape)) n base }
 {}
 
+/// Of the numbers in the table, in every state of every run of so many seats as a desk may have: all seats together began
+/// fewer than 2^37 calls, and no timestamp and no version is as great.
+pub fn every_number<S: Shape>()
+    ensures { (shape : _) (n : ℕ) (base : List ℕ)
+        → NumbersStayBelow (IsGood (S.word_count shape) (S.good shape)) n base }
+{}
+
 /// Of all that was done, in every state of every run: it has an arrangement (`arranged`), and in each one every attempt
 /// that gave way, and every entry, stands where its trace is legal and behind all that its pass had seen as the call
-/// began (`opacity`). An entry that was made stands in every later state (`stays`).
+/// began (`opacity`). An entry that was made stands in every later state (`stays`), and there in each arrangement where
+/// good words come of what stands before it and its trace is legal on them (`entries`). What a pass has seen stands
+/// before the entry of each call that it begins later (`later`).
 pub fn every_arrangement<S: Shape>()
     ensures arranged { (shape : _) (n : ℕ) (base : List ℕ)
         → IsArranged (IsGood (S.word_count shape) (S.good shape)) n base }
@@ -95,11 +104,15 @@ pub fn every_arrangement<S: Shape>()
         → ReadsOneState (IsGood (S.word_count shape) (S.good shape)) n base }
     ensures stays { (shape : _) (n : ℕ) (base : List ℕ)
         → EntriesStay (IsGood (S.word_count shape) (S.good shape)) n base }
+    ensures entries { (shape : _) (n : ℕ) (base : List ℕ)
+        → EntriesStand (IsGood (S.word_count shape) (S.good shape)) n base }
+    ensures later { (shape : _) (n : ℕ) (base : List ℕ)
+        → LaterStandBehind (IsGood (S.word_count shape) (S.good shape)) n base }
 {}
 
-/// Of the words that a call changes, in every state of every run: each is one of its seat's own, or one of a lock that
-/// the call asked for, or the clock, where the call has met another (`own`). So two calls that asked for no common lock
-/// change no common word but the clock (`apart`).
+/// Of the words that a call writes, in every state of every run: a step is a load, or else its word is one of its seat's
+/// own, or one of a lock that the call asked for, or the clock, where the call has met another, whatever is written there
+/// (`own`). So two calls that asked for no common lock write no common word but the clock (`apart`).
 pub fn every_write<S: Shape>()
     ensures own { (shape : _) (n : ℕ) (base : List ℕ)
         → WritesOwnAndAsked (IsGood (S.word_count shape) (S.good shape)) n base }
@@ -129,8 +142,9 @@ pub fn step_leads<S: Shape>()
         }) }
 {}
 
-/// The greatest numbers of passes and of words, in digits. All else cites the constants.
+/// The greatest numbers of passes, of words, and of a pass's calls, in digits. All else cites the constants.
 pub fn greatest_sizes()
     ensures passes { MOST_PASSES ≡ 32 }
     ensures words { MOST_WORDS ≡ 1048576 }
+    ensures calls { LAST_CALL ≡ 4294967295 }
 {}

@@ -1,6 +1,7 @@
 //! Notes: what one pass has seen, to be told to another.
 
-use atomic_table::{Join, Seat, Split};
+use crate::step::TableSeat;
+use atomic_table::{Join, Split};
 use history_model::View;
 use std::marker::{Model, PhantomData};
 
@@ -10,7 +11,7 @@ use std::marker::{Model, PhantomData};
 /// later stands behind that in every arrangement.
 #[derive(Drop)]
 pub struct Note<S> {
-    pub(crate) seat: Seat<(), View>,
+    pub(crate) seat: TableSeat,
     pub(crate) shape: PhantomData<S>,
 }
 

@@ -27,14 +27,14 @@ use crate::bits;
 use crate::copies::{CallCopy, LockCopy, VersionCopy};
 use crate::layout::place_of_values;
 use crate::limits::{LAST_CALL, MOST_PASSES, MOST_WORDS};
-use atomic_table::Seat;
-use history_model::{LOCKS, LockUse, Phase, Shape, View};
+use crate::step::TableSeat;
+use history_model::{LOCKS, LockUse, Phase, Shape};
 use std::marker::{Model, PhantomData};
 
 /// One caller's seat at a desk. A thread steps with its own pass, which no other thread has.
 #[derive(Drop)]
 pub struct Pass<S> {
-    seat: Seat<(), View>,
+    seat: TableSeat,
     call: CallCopy,
     locks: LockCopy,
     shape: PhantomData<S>,
@@ -45,7 +45,11 @@ impl<S> Model for Pass<S> {
 
     ghost Value = { PassView };
 
-    ghost view = { λ p. record { table = p.seat.table_id; view = p.seat.me.0 } };
+    ghost view = { λ p. record {
+      table = p.seat.table_id;
+      view = p.seat.me.0;
+      steps = p.seat.steps;
+    } };
 
     ghost invariant = { λ p. IsCopy p.call p.locks p.seat.table_id p.seat.me };
 }
@@ -53,7 +57,7 @@ impl<S> Model for Pass<S> {
 impl<S: Shape> Pass<S> {
     // A pass that has done nothing.
     pub(crate) fn of(
-        seat: Seat<(), View>,
+        seat: TableSeat,
         seats: u32,
         who: u32,
         scans: Vec<u64>,
@@ -67,6 +71,7 @@ impl<S: Shape> Pass<S> {
         requires found { found.items ≡ replicate LOCKS 0 }
         ensures table { result.table ≡ seat.table_id }
         ensures view { result.view ≡ opening_view seat.me.0.base seats (who ∷ []) [] }
+        ensures steps { result.steps ≡ seat.steps }
     {
         let call = CallCopy {
             seats,
@@ -100,7 +105,7 @@ impl<S: Shape> Pass<S> {
     }
 
     // The seat alone.
-    pub(crate) fn into_seat(self) -> Seat<(), View>
+    pub(crate) fn into_seat(self) -> TableSeat
         ensures table { result.table_id ≡ self.table }
         ensures seat { result.me ≡ (self.view, []) }
         ensures named { has (number self.view) self.view.who ≡ true }

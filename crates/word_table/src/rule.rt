@@ -3,6 +3,7 @@
 ghost use Rattle.locks_rule.specs.Splits.{opening_view};
 ghost use Rattle.std.specs.Prelude.{[]};
 ghost use Rattle.word_table.specs.Sound.{GroundHolds, numbers};
+ghost use Rattle.word_table.specs.Words.{views_of};
 
 use atomic_table::TableRule;
 use history_model::{Shape, View};
@@ -19,16 +20,23 @@ pub struct Ground<S> {
     pub shape: S,
 }
 
-/// The rule of a desk's table. One view begins with the numbers of all seats.
+/// What a seat knows, and how many steps it took. No value of it is ever made.
+pub struct Counted {
+    pub view: View,
+    pub steps: u64,
+}
+
+/// The rule of a desk's table. One view begins with the numbers of all seats. It says nothing of how many steps there
+/// were.
 pub struct DeskRule<S> {
     shape: PhantomData<S>,
 }
 
-impl<S: Shape> TableRule<(), View, Ground<S>> for DeskRule<S> {
-    ghost holds = { λ made s. GroundHolds S.word_count S.good made s.words s.views };
+impl<S: Shape> TableRule<(), Counted, Ground<S>> for DeskRule<S> {
+    ghost holds = { λ made s. GroundHolds S.word_count S.good made s.words (views_of s.views) };
 
-    ghost first = { λ made. opening_view made.base.items made.seats (numbers 0 made.seats) [] };
+    ghost first = { λ made. record {
+      view = opening_view made.base.items made.seats (numbers 0 made.seats) [];
+      steps = 0;
+    } };
 }
-
-/// The words of a desk's table, as threads share them.
-pub type TableWords<S> = atomic_table::Shared<(), View, Ground<S>, DeskRule<S>>;

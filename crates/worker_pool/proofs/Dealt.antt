@@ -10,7 +10,7 @@ use Rattle.crossbeam_deque.specs.Handles.{Pass, view, IsPassOf, SameWorker, work
 use Rattle.worker_pool.specs.declared.rule.Deal.{Deal}
 use Rattle.worker_pool.specs.declared.rule.TheConstants.{ALL_PARTS}
 use Rattle.worker_pool.specs.Counting.{times, once_below}
-use Rattle.worker_pool.specs.Inner.Deals.{deal}
+use Rattle.worker_pool.specs.Deques.{deal}
 use Rattle.worker_pool.specs.Inner.Dealing.{at_turn, AreDealtInTurn, AreShown, AreStill, DealsOne, HasLess, HaveLess, IsFree, IsNew, IsNewRow, IsShown, IsStill}
 use Rattle.worker_pool.specs.Inner.Ends.{HasOver}
 use Rattle.worker_pool.proofs.Places.{related_push, related_set}

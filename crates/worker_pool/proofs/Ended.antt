@@ -1,5 +1,5 @@
 -- All shares of a day, put together.
-use Rattle.std.proofs.Common.{◌≡◌, ◌↔◌, ℕ, ◌+◌, ◌<◌, ◌≤◌, ◌&&◌, ◌==◌, List, ◌∷◌, [], All, flat_map, map, take, length, get_or, slice_get, Some, cond}
+use Rattle.std.proofs.Common.{◌≡◌, ◌≢◌, ◌↔◌, ℕ, ◌+◌, ◌<◌, ◌≤◌, ◌&&◌, ◌==◌, List, ◌∷◌, [], All, AllPairs, flat_map, map, take, length, get_or, slice_get, Some, cond}
 use Rattle.std.proofs.Common.{sym, ap, ◌∙◌, subst, arith}
 use Rattle.std.proofs.Common.{zero-add}
 use Rattle.std.specs.List.{range_with_len}
@@ -10,12 +10,11 @@ use Rattle.std.proofs.lemmas.List.Folds.{flat_map-map}
 use mathlib.Core.List.{map-map}
 use Rattle.std.proofs.lemmas.Option.{get_or_from_slice_get, slice_get-get_or, slice_get_within}
 use Rattle.history_model.specs.declared.entry.Entry.{Entry}
-use Rattle.history_model.specs.declared.placed.Spot.{Spot}
 use Rattle.history_model.specs.Fitting.{IsGood}
 use Rattle.history_model.specs.Histories.{replay}
 use Rattle.history_model.specs.Legal.{IsIn}
 use Rattle.history_model.specs.Traces.{after}
-use Rattle.history_model.proofs.ListPlaces.{at_map, below_get, map_at}
+use Rattle.history_model.proofs.ListPlaces.{map_at}
 use Rattle.books_model.specs.declared.reply.Reply.{Reply}
 use Rattle.books_model.specs.Laws.{RefusedChangesNothing}
 use Rattle.script_reader.specs.Input.{ClearingInput}
@@ -39,7 +38,9 @@ use Rattle.worker_pool.specs.Days.{place_of_item, places_of_items, spot_of, AreC
 use Rattle.worker_pool.specs.Inner.Makers.{AreMadeBy, IsMadeBy}
 use Rattle.worker_pool.specs.Inner.Workers.{seat_of, share_of, tally_number, AreAllDone, IsDone, Tally}
 use Rattle.txn_commit.proofs.Orders.Arranged.{all_arranged, AreAllPlaces}
+use Rattle.txn_commit.proofs.Orders.InPlace.{rebuilt_as}
 use Rattle.txn_commit.proofs.Orders.Once.{pairs_map}
+use Rattle.txn_commit.proofs.Recorded.{have_records}
 use Rattle.txn_commit.proofs.Orders.Rebuilt.{all_places, apart_there, as_many_there, can_be_ordered, entries, legal_there, made_there, rebuilt}
 use Rattle.txn_commit.proofs.Orders.Rebuilt.{records_there, rising_there, words_there, AreRunOver}
 use Rattle.worker_pool.proofs.Arranged.{sum_arranged}
@@ -169,18 +170,7 @@ module _ (desk : DeskView BooksShape) (input : ClearingInput) (shares : List Sha
           let its = λ (k : ℕ) (ran : Ran Reply) (e : Entry) (at_ran : slice_get (map ran_of done) k ≡ Some ran).
           map_at ran_of done k ran at_ran in
           record {
-            rebuilt = record {
-              given = map ran_of given;
-              places = places;
-              orderable = subst Orderable (sym (map-map ordered.spot_of ran_of given)) (can_be_ordered over);
-              order = subst (λ (l : List Spot). IsOrder l places) (sym (map-map ordered.spot_of ran_of given)) order;
-              are = record {
-                count = length-map done ran_of ∙ at.count;
-                each = λ i p e.
-                    let x = below_get p given (all_at.within i p e) in
-                    at_map ran_of done i x.0 (at.each i p e ∙ x.1) ∙ sym (at_map ran_of given p x.0 x.1);
-              };
-            };
+            rebuilt = rebuilt_as ran_of ordered.spot_of done (rebuilt over places order done at);
             entries = entries over places order;
             as_many = length-map done ran_of ∙ as_many_there over places order done at;
             of_items = λ k ran e at_ran at_e.
@@ -211,6 +201,15 @@ module _ (desk : DeskView BooksShape) (input : ClearingInput) (shares : List Sha
             (rising_there over places order done at);
       }
 
+      its_apart : AllPairs (λ (x y : Ran Reply). x.seat ≡ y.seat → x.call ≢ y.call) (map ran_of done)
+      its_apart = pairs_map (λ (x y : Ran Reply). x.seat ≡ y.seat → x.call ≢ y.call) ran_of done
+          (λ i j d lt short seat call. absurd (omega (
+            arith,
+            lt,
+            apart_there over places order done at i j (get_or done i d) (get_or done j d) (slice_get-get_or done i d (omega (arith, lt, short)))
+                (slice_get-get_or done j d short) seat call,
+          )))
+
       pub day_of_all : IsDay input closed done
       unfolding its_run
       day_of_all =
@@ -223,6 +222,8 @@ module _ (desk : DeskView BooksShape) (input : ClearingInput) (shares : List Sha
               each = λ k item entry at_item at_entry. (its_made k item entry at_item at_entry).is_of;
             };
             of_records = records_there over places order;
+            as_many = sym (length-map done ran_of) ∙ (have_records closed (map ran_of done) its_run.entries its_run.as_many its_run.of_items
+                its_run.of_records its_apart records).as_many;
             distinct = apart_there over places order done at;
             legal = (legal_there over places order).trace_legal;
             words = words_there over places order;

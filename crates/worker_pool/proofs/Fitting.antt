@@ -7,7 +7,7 @@ use Rattle.crossbeam_deque.specs.declared.handles.Stealer.{Stealer}
 use Rattle.crossbeam_deque.specs.Handles.{Pass, view, SamePass}
 use Rattle.worker_pool.specs.declared.rule.Deal.{Deal}
 use Rattle.worker_pool.specs.Counting.{times, HadOneMore}
-use Rattle.worker_pool.specs.Inner.Deals.{deal}
+use Rattle.worker_pool.specs.Deques.{deal}
 use Rattle.worker_pool.specs.Inner.Ends.{IsPassAt, AreAtEach, stolen, HadSame}
 use Rattle.worker_pool.proofs.Steps.{times_append}
 use Rattle.std.proofs.lemmas.List.{length-set, get_or-set_other, get_or-set_same}

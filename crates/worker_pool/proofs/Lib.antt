@@ -2,6 +2,8 @@
 pub mod Sums
 -- each kind of step keeps the rule of a deque
 pub mod Steps
+-- a deque in each state to which its steps lead
+pub mod Reached
 -- lists by their places: one item changes, or one more comes
 pub mod Places
 -- one pass changes among those of a worker

@@ -7,7 +7,7 @@ use Rattle.crossbeam_deque.specs.declared.handles.Worker.{Worker}
 use Rattle.crossbeam_deque.specs.Handles.{Pass, view, SameWorker, worker_view}
 use Rattle.worker_pool.specs.declared.rule.Deal.{Deal}
 use Rattle.worker_pool.specs.Counting.{times}
-use Rattle.worker_pool.specs.Inner.Deals.{deal}
+use Rattle.worker_pool.specs.Deques.{deal}
 use Rattle.worker_pool.specs.Inner.Ends.{IsGuest, AreGuests, HasMore, HaveMore, owners_took, stolen}
 use Rattle.worker_pool.proofs.Steps.{times_append}
 use Rattle.std.proofs.lemmas.List.{length-set, get_or-set_other, get_or-set_same, get_or_append_left, get_or_default, get_or_push}

@@ -5,10 +5,9 @@ use Rattle.std.proofs.lemmas.List.{length-map, map_push, reverse-append}
 use Rattle.std.specs.List.{range_with_len}
 use Rattle.std.proofs.lemmas.Option.{get_or_from_slice_get}
 use Rattle.history_model.specs.Views.{number}
-use Rattle.locks_rule.specs.Splits.{opening_view}
 use Rattle.txn_books.specs.declared.shape.BooksShape.{BooksShape}
 use Rattle.worker_pool.proofs.Places.{get_second}
-use Rattle.word_table.specs.Copies.{PassView}
+use Rattle.word_table.specs.Copies.{fresh_pass, PassView}
 use Rattle.word_table.specs.Desks.{DeskView}
 use Rattle.worker_pool.specs.declared.worker.Worker.{Worker}
 use Rattle.worker_pool.specs.Days.{AreAllNew}
@@ -19,7 +18,7 @@ use Rattle.worker_pool.proofs.Yielded.{one_given}
 
 -- the pass of seat j of a new desk
 abbrev pub new_pass : DeskView BooksShape → ℕ → PassView
-new_pass desk j = record { table = desk.table; view = opening_view desk.base desk.seats (j ∷ []) [] }
+new_pass desk j = fresh_pass desk.table desk.base desk.seats j
 
 -- the numbers of items that are numbered from a on
 numbered : {X : Type 0} (n : X → ℕ) (a : ℕ) (xs : List X)

@@ -7,7 +7,8 @@ use Rattle.crossbeam_deque.specs.Tasks.{Pushes, Takes, Finds, FindsFew, Forks, M
 use Rattle.worker_pool.specs.declared.rule.Deal.{Deal}
 use Rattle.worker_pool.specs.declared.rule.TheConstants.{ALL_PARTS}
 use Rattle.worker_pool.specs.Counting.{times}
-use Rattle.worker_pool.specs.Inner.Deals.{deal, took, put, IsAllTaken, IsDealt}
+use Rattle.worker_pool.specs.Inner.Deals.{took, put, IsAllTaken, IsDealt}
+use Rattle.worker_pool.specs.Deques.{deal}
 use Rattle.worker_pool.proofs.Sums.{sum_at_set, alone}
 
 pub times_append : (x : ℕ) (xs ys : List ℕ) → times x (xs ++ ys) ≡ times x xs + times x ys
@@ -22,17 +23,17 @@ if_some true n e = absurd (Rattle.std.proofs.Common.true≢false e)
 if_some false n e = refl
 
 -- a pass with a part counts with its lists
-took_of : (x : ℕ) (v : Deal) → 0 < v.parts → took x v ≡ times x v.taken
+pub took_of : (x : ℕ) (v : Deal) → 0 < v.parts → took x v ≡ times x v.taken
 took_of x v part = if_some (v.parts == 0) (times x v.taken) (ne_eqb v.parts 0 (λ e. omega (arith, e, part)))
 
-put_of : (x : ℕ) (v : Deal) → 0 < v.parts → put x v ≡ times x v.dealt
+pub put_of : (x : ℕ) (v : Deal) → 0 < v.parts → put x v ≡ times x v.dealt
 put_of x v part = if_some (v.parts == 0) (times x v.dealt) (ne_eqb v.parts 0 (λ e. omega (arith, e, part)))
 
 -- a pass with no part counts for nothing
-no_took : (x : ℕ) (v : Deal) → v.parts ≡ 0 → took x v ≡ 0
+pub no_took : (x : ℕ) (v : Deal) → v.parts ≡ 0 → took x v ≡ 0
 no_took x v e = grind arith
 
-no_put : (x : ℕ) (v : Deal) → v.parts ≡ 0 → put x v ≡ 0
+pub no_put : (x : ℕ) (v : Deal) → v.parts ≡ 0 → put x v ≡ 0
 no_put x v e = grind arith
 
 pub begins : IsDealt [] (deal ALL_PARTS [] [] ∷ [])

@@ -1,13 +1,12 @@
 -- What all workers of a day did together.
-use Rattle.std.specs.Prelude.{◌≡◌, ◌↔◌, ◌≤◌, ◌<◌, ℕ, List, [], ◌∷◌, map, length, take, All, Some, slice_get}
+use Rattle.std.specs.Prelude.{◌≡◌, ◌↔◌, ◌≤◌, ◌<◌, ℕ, List, map, length, take, All, Some, slice_get}
 use Rattle.history_model.specs.declared.entry.Entry.{Entry}
 use Rattle.history_model.specs.declared.placed.Spot.{Spot}
 use Rattle.history_model.specs.Histories.{replay}
 use Rattle.history_model.specs.Legal.{IsIn}
 use Rattle.history_model.specs.Traces.{IsLegalTrace}
-use Rattle.locks_rule.specs.Splits.{opening_view}
 use Rattle.word_table.specs.Closing.{ClosedView}
-use Rattle.word_table.specs.Copies.{PassView}
+use Rattle.word_table.specs.Copies.{fresh_pass, PassView}
 use Rattle.word_table.specs.Desks.{DeskView}
 use Rattle.script_reader.specs.Input.{ClearingInput}
 use Rattle.script_reader.specs.Journal.{Place, IsJournal}
@@ -21,7 +20,7 @@ use Rattle.worker_pool.specs.declared.done.Done.{Done}
 -- the desk is new, and these are all its passes
 pub record AreAllNew {S : Type 0} (desk : DeskView S) (passes : List PassView) : Type 0 where
   pub count : length passes ≡ desk.seats
-  pub each : (j : ℕ) → j < desk.seats → slice_get passes j ≡ Some (record { table = desk.table; view = opening_view desk.base desk.seats (j ∷ []) [] })
+  pub each : (j : ℕ) → j < desk.seats → slice_get passes j ≡ Some (fresh_pass desk.table desk.base desk.seats j)
 
 -- the place of the script that an item is about
 abbrev pub place_of_item : Done → Place
@@ -64,6 +63,7 @@ pub record IsDay (input : ClearingInput) (closed : ClosedView BooksShape) (done 
   pub entries : List Entry
   pub of_items : AreEntriesOf done entries
   pub of_records : (e : Entry) → IsIn e entries ↔ IsIn e closed.records
+  pub as_many : length done ≡ length closed.records
   pub distinct : (j k : ℕ) (x y : Done) → slice_get done j ≡ Some x → slice_get done k ≡ Some y → x.seat ≡ y.seat → x.call ≡ y.call → j ≡ k
   pub legal : (k : ℕ) (e : Entry) → slice_get entries k ≡ Some e → IsLegalTrace e.trace (replay closed.base (take k entries))
   pub words : closed.words ≡ replay closed.base entries

@@ -1,3 +1,4 @@
 pub mod Counting
+pub mod Deques
 pub mod Days
 pub mod Inner

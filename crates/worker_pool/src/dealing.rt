@@ -2,7 +2,7 @@
 
 ghost use Rattle.std.specs.Prelude.{◌≡◌, ◌<◌, ◌≤◌, [], length, All, IfOk, OnOk};
 ghost use Rattle.crossbeam_deque.specs.Handles.{worker_view};
-ghost use Rattle.worker_pool.specs.Inner.Deals.{deal};
+ghost use Rattle.worker_pool.specs.Deques.{deal};
 ghost use Rattle.worker_pool.specs.Inner.Dealing.{AreDealtInTurn, AreShown, AreStill, DealsOne, HaveLess, IsFree, IsNewRow};
 ghost use Rattle.worker_pool.specs.Inner.Ends.{HasOver};
 

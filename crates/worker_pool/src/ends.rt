@@ -2,7 +2,8 @@
 
 ghost use Rattle.std.specs.Prelude.{◌≡◌, ◌<◌, ◌+◌, ◌-◌, ◌∷◌, ◌++◌, [], IfSome, IfNone, MatchResult};
 ghost use Rattle.crossbeam_deque.specs.Handles.{view, IsPassOf, SamePass, stealer_deque, stealer_flavor, worker_deque, worker_view, worker_flavor, SameWorker};
-ghost use Rattle.worker_pool.specs.Inner.Deals.{deal, IsAllTaken};
+ghost use Rattle.worker_pool.specs.Inner.Deals.{IsAllTaken};
+ghost use Rattle.worker_pool.specs.Deques.{deal};
 
 use crate::rule::{ALL_PARTS, Both, Cut, DequePass, Owner, Put, Thief, Took};
 use crossbeam_deque::Steal;

@@ -1,5 +1,5 @@
 //! The rule of a deque, which holds between any two steps (`IsDealt` of `specs/Inner/Deals`), and what each kind of step
-//! does to what a thread knows.
+//! does to what a thread knows (`specs/Deques`).
 
 use crossbeam_deque::protocol::{Join, Outcome, Protocol, Split};
 use std::alloc::Global;
@@ -24,7 +24,8 @@ pub(crate) struct DealRule;
 impl Protocol<u32, Deal> for DealRule {
     ghost use Rattle.std.specs.Prelude.{[]};
     ghost use Rattle.worker_pool.specs.declared.rule.TheConstants.{ALL_PARTS};
-    ghost use Rattle.worker_pool.specs.Inner.Deals.{deal, IsDealt};
+    ghost use Rattle.worker_pool.specs.Inner.Deals.{IsDealt};
+    ghost use Rattle.worker_pool.specs.Deques.{deal};
 
     ghost holds = { IsDealt };
 
@@ -37,21 +38,22 @@ impl Protocol<u32, Deal> for DealRule {
 pub(crate) struct Put;
 
 impl Outcome<u32, Deal> for Put {
-    ghost use Rattle.std.specs.Prelude.{◌≡◌, ◌++◌};
-    ghost use Rattle.worker_pool.specs.Inner.Deals.{deal};
+    ghost use Rattle.std.specs.Prelude.{◌≡◌};
+    ghost use Rattle.worker_pool.specs.Deques.{has_dealt};
 
-    ghost then = { λ v xs w. w ≡ deal v.parts (v.dealt ++ xs) v.taken };
+    ghost then = { λ v xs w. w ≡ has_dealt v xs };
 }
 
 /// Callers are taken. Who has all parts and finds none left knows that all that was dealt was taken.
 pub(crate) struct Took;
 
 impl Outcome<u32, Deal> for Took {
-    ghost use Rattle.std.specs.Prelude.{◌≡◌, ◌++◌};
+    ghost use Rattle.std.specs.Prelude.{◌≡◌};
     ghost use Rattle.worker_pool.specs.declared.rule.TheConstants.{ALL_PARTS};
-    ghost use Rattle.worker_pool.specs.Inner.Deals.{deal, IsAllTaken};
+    ghost use Rattle.worker_pool.specs.Deques.{has_taken};
+    ghost use Rattle.worker_pool.specs.Inner.Deals.{IsAllTaken};
 
-    ghost then = { λ v xs w. w ≡ deal v.parts v.dealt (v.taken ++ xs) };
+    ghost then = { λ v xs w. w ≡ has_taken v xs };
 
     ghost empty = { λ v. v.parts ≡ ALL_PARTS → IsAllTaken v };
 }
@@ -60,10 +62,10 @@ impl Outcome<u32, Deal> for Took {
 pub(crate) struct Cut;
 
 impl Split<Deal> for Cut {
-    ghost use Rattle.std.specs.Prelude.{[], ◌-◌};
-    ghost use Rattle.worker_pool.specs.Inner.Deals.{deal};
+    ghost use Rattle.std.specs.Prelude.{[]};
+    ghost use Rattle.worker_pool.specs.Deques.{deal, with_part_less};
 
-    ghost left = { λ v. deal (v.parts - 1) v.dealt v.taken };
+    ghost left = { λ v. with_part_less v };
 
     ghost right = { λ v. deal 1 [] [] };
 }
@@ -72,10 +74,10 @@ impl Split<Deal> for Cut {
 pub(crate) struct Both;
 
 impl Join<Deal> for Both {
-    ghost use Rattle.std.specs.Prelude.{[], ◌++◌, ◌+◌};
-    ghost use Rattle.worker_pool.specs.Inner.Deals.{deal};
+    ghost use Rattle.std.specs.Prelude.{[]};
+    ghost use Rattle.worker_pool.specs.Deques.{deal, joined};
 
-    ghost both = { λ v w. deal (v.parts + w.parts) (v.dealt ++ w.dealt) (v.taken ++ w.taken) };
+    ghost both = { λ v w. joined v w };
 
     ghost spent = { deal 0 [] [] };
 }

@@ -1,5 +1,5 @@
 -- Numbers in their ranges, and the words of a header.
-use Rattle.std.proofs.Common.{◌≡◌, ℕ, Bool, true, false, not, ◌&&◌, nat_le, List, [], ◌∷◌, codes, map, length, None, refl, ap, ◌∙◌, arith}
+use Rattle.std.proofs.Common.{◌≡◌, ℕ, Bool, true, false, not, ◌&&◌, nat_le, List, [], ◌∷◌, codes, map, length, slice_index_or, None, refl, ap, ◌∙◌, arith}
 use Rattle.std.specs.List.{list_all, AllByRecursion}
 use Rattle.std.proofs.lemmas.Bool.{le-leb, ne_eqb}
 use Rattle.std.proofs.lemmas.Slice.Eq.{bytes_eq-Decides}
@@ -44,6 +44,21 @@ values_are [] [] h = refl
 values_are [] (n ∷ ns) h = absurd h
 values_are (r ∷ ranges) [] h = absurd h
 values_are (r ∷ ranges) (n ∷ ns) h = λ i. value_of_number n h.2 i ∷ values_are ranges ns h.3 i
+
+-- they are those at their places
+pub one_number : (r : ℕ × ℕ) (ns : List ℕ) → AreNumbersIn (r ∷ []) ns → slice_index_or ns 0 0 ∷ [] ≡ ns
+one_number r [] h = absurd h
+one_number r (a ∷ []) h = refl
+one_number r (a ∷ b ∷ ns) h = absurd h.3
+
+pub two_numbers : (r s : ℕ × ℕ) (ns : List ℕ) → AreNumbersIn (r ∷ s ∷ []) ns → slice_index_or ns 0 0 ∷ slice_index_or ns 1 0 ∷ [] ≡ ns
+two_numbers r s [] h = absurd h
+two_numbers r s (a ∷ ns) h = ap (λ l. a ∷ l) (one_number s ns h.3)
+
+pub three_numbers : (r s t : ℕ × ℕ) (ns : List ℕ) → AreNumbersIn (r ∷ s ∷ t ∷ []) ns
+    → slice_index_or ns 0 0 ∷ slice_index_or ns 1 0 ∷ slice_index_or ns 2 0 ∷ [] ≡ ns
+three_numbers r s t [] h = absurd h
+three_numbers r s t (a ∷ ns) h = ap (λ l. a ∷ l) (two_numbers s t ns h.3)
 
 -- a word is itself
 pub same_word : (word : List ℕ) → bytes_eq word word ≡ true

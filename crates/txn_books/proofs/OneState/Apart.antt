@@ -1,7 +1,6 @@
 -- The parts of books lie apart, and a block is in one of them alone.
 use Rattle.std.proofs.Common.{◌≢◌, ℕ, arith}
 use Rattle.txn_alloc.specs.FreeLists.{IsHead, IsInBlock}
-use Rattle.txn_alloc.specs.EntryMaps.{IsOwn}
 use Rattle.txn_hash_map.specs.Chains.{IsBucket}
 use Rattle.txn_ring.specs.Queues as ring
 use Rattle.txn_books.specs.declared.shape.BooksShape.{BooksShape}

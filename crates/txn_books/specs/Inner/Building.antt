@@ -1,7 +1,10 @@
 -- What the calls inside a building of words say.
-use Rattle.std.specs.Prelude.{◌≡◌, ℕ, List, length, filter, nat_eq}
+use Rattle.std.specs.Prelude.{◌≡◌, ℕ, ◌<◌, List, Some, length, filter, nat_eq}
 use Rattle.std.specs.List.{IsDistinct}
 use Rattle.std.specs.FinSet as set
+use Rattle.txn_words.specs.Frames.{KeepsOthers}
+use Rattle.txn_alloc.specs.declared.arena.Arena.{Arena}
+use Rattle.txn_alloc.specs.FreeLists.{IsHeadFor, Takes}
 use Rattle.txn_alloc.specs.EntryMaps.{Blocks}
 use Rattle.std.specs.declared.cmp.Ordering.{Ordering}
 use Rattle.std.specs.Ordering.{is_lt}
@@ -18,6 +21,12 @@ pub record IsBuilt (shape : BooksShape) (words : List ℕ) (books : ClearingBook
 -- the entries of a map whose keys are above this one
 abbrev pub above : {K : Type 0} → (K → K → Ordering) → K → List (K × ℕ) → List (K × ℕ)
 above R k es = filter (λ e. is_lt (R k e.0)) es
+
+-- a free block was taken out of its list, whose head alone was written
+pub record IsTaken (arena : Arena) (block : ℕ) (old new : List ℕ) : Type 0 where
+  pub below : block < arena.blocks
+  pub takes : Takes arena (Some block) old new
+  pub kept : KeepsOthers (IsHeadFor arena block) old new
 
 -- these are the free blocks, each once
 pub record AreFree (free : Blocks) (order : List ℕ) : Type 0 where

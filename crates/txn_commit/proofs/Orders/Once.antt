@@ -10,33 +10,11 @@ use Rattle.std.proofs.lemmas.List.Kept.{AllPairs-cons, AllPairs-filter}
 use Rattle.std.proofs.lemmas.Option.{get_or_from_slice_get, slice_get-get_or, slice_get_within}
 use Rattle.history_model.specs.Legal.{IsIn}
 use Rattle.history_model.proofs.ListPlaces.{at_map, map_at}
+use Rattle.word_table.proofs.Joined.Counting.{filter_in, in_filter}
 use Rattle.txn_commit.specs.declared.lists.Ran.{Ran}
 use Rattle.txn_commit.specs.Lists.{indexes_of, AreOnceInOrder}
 use Rattle.txn_commit.specs.Ordered.{spot_of, AreAt}
 use Rattle.txn_commit.proofs.Orders.Arranged.{all_arranged, by_place, place_of_done, AreAllPlaces}
-
--- what is in a list without those that a test passes over
-front_in : {X : Type 0} (b : Bool) (x y : X) (fs ys : List X) → (IsIn x fs → IsIn x ys) → IsIn x (cond b (y ∷ fs) fs) → IsIn x (y ∷ ys)
-front_in true x y fs ys rest (zero, e) = (zero, e)
-front_in true x y fs ys rest (suc k, e) = let r = rest (k, e) in (suc r.0, r.1)
-front_in false x y fs ys rest t = let r = rest t in (suc r.0, r.1)
-
-filter_in : {X : Type 0} (p : X → Bool) (xs : List X) (x : X) → IsIn x (filter p xs) → IsIn x xs
-filter_in p [] x t = t
-filter_in p (y ∷ ys) x t = front_in (p y) x y (filter p ys) ys (filter_in p ys x) t
-
-same_first : {X : Type 0} (u v : X) → Some u ≡ Some v → u ≡ v
-same_first u v e = cc
-
-in_front : {X : Type 0} (b : Bool) (x y : X) (fs : List X) → IsIn x fs → IsIn x (cond b (y ∷ fs) fs)
-in_front true x y fs t = (suc t.0, t.1)
-in_front false x y fs t = t
-
-pub in_filter : {X : Type 0} (p : X → Bool) (xs : List X) (x : X) → p x ≡ true → IsIn x xs → IsIn x (filter p xs)
-in_filter p [] x passes t = t
-in_filter p (y ∷ ys) x passes (zero, e) =
-    subst (λ b. IsIn x (cond b (y ∷ filter p ys) (filter p ys))) (sym (ap p (same_first y x e) ∙ passes)) (zero, e)
-in_filter p (y ∷ ys) x passes (suc k, e) = in_front (p y) x y (filter p ys) (in_filter p ys x passes (k, e))
 
 -- the pairs of a list of images
 pub pairs_map : {X Y : Type 0} (R : Y → Y → Type 0) (f : X → Y) (xs : List X) → AllPairs (λ x y. R (f x) (f y)) xs → AllPairs R (map f xs)

@@ -26,9 +26,10 @@ use Rattle.order_rebuild.specs.Order.{IsOrder, Orderable}
 use Rattle.order_rebuild.proofs.Legal.{entries_ordered, orderable}
 use Rattle.order_rebuild.proofs.Stuck.{order_keeps, order_once}
 use Rattle.txn_commit.specs.Uses.{ListsUses}
-use Rattle.word_table.specs.Closing.{AreRecords, ClosedView, IsCoherent, IsLegalInEachOrder, items_of_closed}
+use Rattle.word_table.specs.Closing.{items_of_closed, writes_of, AreRecords, ClosedView, IsCoherent, IsLegalInEachOrder}
 use Rattle.txn_commit.specs.Ordered.{AreAt, IsRebuilt}
 use Rattle.txn_commit.proofs.Orders.Arranged.{by_place, place_of_done, AreAllPlaces}
+use Rattle.txn_commit.proofs.Orders.InPlace.{in_place}
 
 -- a use that an entry lists is one that it has
 same_uses : (us vs : List LockUse) → ListsUses us vs → SameUses us vs
@@ -253,7 +254,7 @@ module _ {X S : Type 0} {read : Readings X} {good : List ℕ → Type 0} {closed
     legal_there = record {
       trace_legal = λ k e at.
           subst (λ (s : List ℕ). IsLegalTrace e.trace s) (before k)
-          (is_legal good closed.base over.coherent.versions items (map item_of_entry entries) over.coherent.agree in_uses k (item_of_entry e)
+          (is_legal good closed.base (writes_of closed.records) items (map item_of_entry entries) over.coherent.agree in_uses k (item_of_entry e)
           (at_map item_of_entry entries k e at)).0;
       good_before = good_at;
     }
@@ -269,20 +270,20 @@ module _ {X S : Type 0} {read : Readings X} {good : List ℕ → Type 0} {closed
             let at = at_map item_of_entry entries k e (slice_get-get_or entries k no_entry lt) in
             let next : k + 1 ≡ suc k = omega arith in
             subst (λ (n : ℕ). good (replay closed.base (take n entries))) next (subst good (before (k + 1))
-            (is_legal good closed.base over.coherent.versions items (map item_of_entry entries) over.coherent.agree in_uses k (item_of_entry e) at).1))
+            (is_legal good closed.base (writes_of closed.records) items (map item_of_entry entries) over.coherent.agree in_uses k (item_of_entry e) at).1))
             (λ no. subst (λ (l : List Entry). good (replay closed.base l)) (sym (take_all (suc k) entries (omega (arith, no))))
             (subst good (replay_same closed.base entries)
-            (end_good good closed.base over.coherent.versions items (map item_of_entry entries) over.coherent.agree in_uses)))
+            (end_good good closed.base (writes_of closed.records) items (map item_of_entry entries) over.coherent.agree in_uses)))
 
     -- and the words are what they leave
     pub words_there : closed.words ≡ replay closed.base entries
     words_there = over.legal.words over.coherent.order over.coherent.arranged
-        ∙ (same_end good closed.base over.coherent.versions items over.coherent.order (map item_of_entry entries) over.coherent.agree
+        ∙ (same_end good closed.base (writes_of closed.records) items over.coherent.order (map item_of_entry entries) over.coherent.agree
         (arranged items over.coherent.order over.coherent.arranged) in_uses ∙ replay_same closed.base entries)
 
     module _ (done : List X) (at : AreAt given places done) where
       pub rebuilt : IsRebuilt read.spot done
-      rebuilt = record { given = given; places = places; orderable = can_be_ordered; order = order; are = at }
+      rebuilt = in_place read.spot given done places at all_places can_be_ordered order
 
       -- what is so of each item and its entry, as they were given, is so in this order
       pub made_there : (P : X → Entry → Type 0) → ((k : ℕ) (x : X) (e : Entry) → slice_get given k ≡ Some x → slice_get all k ≡ Some e → P x e)

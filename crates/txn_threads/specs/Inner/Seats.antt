@@ -1,8 +1,7 @@
 -- Clients with their passes, before and after their threads.
 use Rattle.std.specs.Prelude.{◌≡◌, ℕ, ◌<◌, List, [], ◌∷◌, length, map, All, get_or, slice_get, Some, false}
 use Rattle.history_model.specs.declared.view.Phase.TheVariants.{Idle}
-use Rattle.locks_rule.specs.Splits.{opening_view}
-use Rattle.word_table.specs.Copies.{PassView}
+use Rattle.word_table.specs.Copies.{fresh_pass, PassView}
 use Rattle.word_table.specs.Desks.{DeskView}
 use Rattle.txn_threads.specs.declared.seat.Seat.{Seat}
 use Rattle.txn_threads.specs.Clients.{HasWorked}
@@ -11,7 +10,7 @@ use Rattle.txn_threads.specs.Passes.{IsFresh, IsNext}
 -- the passes of a desk as it is opened
 pub record AreNew {S : Type 0} (desk : DeskView S) (passes : List PassView) : Type 0 where
   pub count : length passes ≡ desk.seats
-  pub each : (j : ℕ) → j < desk.seats → slice_get passes j ≡ Some (record { table = desk.table; view = opening_view desk.base desk.seats (j ∷ []) [] })
+  pub each : (j : ℕ) → j < desk.seats → slice_get passes j ≡ Some (fresh_pass desk.table desk.base desk.seats j)
 
 -- pass k of a desk, between calls
 pub record IsPass {S : Type 0} (desk : DeskView S) (k : ℕ) (pass : PassView) : Type 0 where

@@ -17,7 +17,7 @@ use Rattle.txn_tree_map.specs.Paths.{Step, Path, whole_of, plug, place_at_end, b
 use Rattle.txn_alloc.proofs.Maps.Counting.{times_all, length_below}
 use Rattle.txn_tree_map.proofs.Held.Rising.{rising_once}
 use Rattle.txn_tree_map.proofs.Held.Trees.{count_in, count_on, times_cells, cells_step, cells_plug, count_plug, all_tree, all_before, all_after, spelled_whole}
-use Rattle.txn_tree_map.proofs.Held.Trees.{name_whole, hung_plug, one_tree}
+use Rattle.txn_tree_map.proofs.Held.Trees.{name_whole, whole_spelled, hung_plug, one_tree}
 
 pub priority_small : (key : ℕ) → priority_of key < 2 ^ 64
 unfolding priority_of
@@ -50,10 +50,10 @@ high_whole top st path tree high heap = at (st.left) high heap
     at true h k = ((k.0, k.1, k.3, h), k.2)
     at false h k = ((k.1, k.0, k.2, h), k.3)
 
-pub high_plug : (top : ℕ) (path : Path) (tree : Tree) → IsHigh top path (rank_of tree) → IsHeap tree
-    → (rank_of (plug path tree) ≤ top) × IsHeap (plug path tree)
-high_plug top [] tree high heap = (high, heap)
-high_plug top (st ∷ path) tree high heap = high_plug top path (whole_of st tree) (at st.left) (both st.left)
+-- and the other way round
+pub whole_high : (top : ℕ) (st : Step) (path : Path) (tree : Tree) → IsHigh top (st ∷ path) (rank_of tree) → IsHeap tree
+    → IsHigh top path (rank_of (whole_of st tree)) × IsHeap (whole_of st tree)
+whole_high top st path tree high heap = (at st.left, both st.left)
   where
     at : (left : Bool) → IsHigh top path (rank_of (if left then Node tree st.cell st.other else Node st.other st.cell tree))
     at true = high.3
@@ -62,6 +62,13 @@ high_plug top (st ∷ path) tree high heap = high_plug top path (whole_of st tre
     both : (left : Bool) → IsHeap (if left then Node tree st.cell st.other else Node st.other st.cell tree)
     both true = (high.0, high.1, heap, high.2)
     both false = (high.1, high.0, high.2, heap)
+
+pub high_plug : (top : ℕ) (path : Path) (tree : Tree) → IsHigh top path (rank_of tree) → IsHeap tree
+    → (rank_of (plug path tree) ≤ top) × IsHeap (plug path tree)
+high_plug top [] tree high heap = (high, heap)
+high_plug top (st ∷ path) tree high heap =
+    let whole = whole_high top st path tree high heap in
+    high_plug top path (whole_of st tree) whole.0 whole.1
 
 -- what hangs lower is high enough
 pub high_lower : (top : ℕ) (path : Path) (m n : ℕ) → m ≤ n → IsHigh top path n → IsHigh top path m
@@ -79,6 +86,19 @@ module _ (map : TreeMap) (s : List ℕ) where
     high = rank_small hold.tree;
     heap = hold.heap;
   }
+
+  -- one step up
+  pub at_up : (st : Step) (path : Path) (tree : Tree) → HangsAt map (st ∷ path) tree s → HangsAt map path (whole_of st tree) s
+  at_up st path tree m =
+      let heaps = whole_high (2 ^ 64) st path tree m.high m.heap in
+      record {
+        laid = m.laid;
+        hung = subst (λ n. IsHung map.arena s map.root path n) (sym (name_whole map.arena s st tree)) m.hung.2;
+        spelled = whole_spelled map.arena s st tree m.hung.0 m.hung.1 m.spelled;
+        search = subst (λ cs. IsRising cs) (sym (cells_step st path tree)) m.search;
+        high = heaps.0;
+        heap = heaps.1;
+      }
 
   module _ (path : Path) (tree : Tree) (m : HangsAt map path tree s) where
     abbrev pub all_cells : List Cell

@@ -199,7 +199,7 @@ module _ (map : TreeMap) (key value block place name : ℕ) (r : List ℕ) (can 
     hung_u = hung_stays map.arena r u map.root seat.path (name_of seat.rest) (root_kept ∙ root_other)
         (λ b a k mine. path_kept b a k mine ∙ block_other b a (omega (arith, k)) mine) seat.is_at.hung
 
-    abbrev cell : Cell
+    abbrev pub cell : Cell
     cell = record { block = block; key = key; value = value }
 
     abbrev pub put_words : List ℕ
@@ -249,7 +249,7 @@ module _ (map : TreeMap) (key value block place name : ℕ) (r : List ℕ) (can 
           ]
     ])
 
-    put_is_at : HangsAt map seat.path (Node split.left cell split.right) put_words
+    pub put_is_at : HangsAt map seat.path (Node split.left cell split.right) put_words
     put_is_at =
         let rising : IsRising ((before_of seat.path ++ cells_of split.left) ++ (cells_of split.right ++ after_of seat.path)) =
         subst (λ cs. IsRising cs) (ap (λ z. before_of seat.path ++ (z ++ after_of seat.path)) parts ∙ around_parts) seat.is_at.search in

@@ -1,21 +1,26 @@
 -- What a call on values tells beside its step: that what its attempt did is legal behind all that was done, however that is
 -- arranged.
-use Rattle.std.proofs.Common.{◌≢◌, if◌then◌else◌, ne_eqb, ◌≡◌, ℕ, Bool, true, inl, inr, List, [], ◌∷◌, ◌++◌, Option, Some, None, unwrap_or, refl}
+use Rattle.std.proofs.Common.{◌<◌, ◌≤◌, ◌≢◌, if◌then◌else◌, ne_eqb, ◌≡◌, ℕ, Bool, true, inl, inr, List, [], ◌∷◌, ◌++◌, Option, Some, None, unwrap_or, refl}
 use Rattle.std.proofs.Common.{sym, ap, ◌∙◌, subst}
+use Rattle.history_model.specs.declared.entry.Entry.{Entry}
 use Rattle.history_model.specs.declared.event.Event.TheVariants.{Read}
 use Rattle.history_model.specs.declared.view.View.{View}
 use Rattle.history_model.specs.Counts.{is_attempt}
+use Rattle.history_model.specs.Legal.{IsIn}
 use Rattle.history_model.specs.Table.{Knows}
 use Rattle.history_model.specs.Traces.{Trace, value_after}
 use Rattle.history_model.specs.Views.{number}
 use Rattle.history_model.proofs.Traces.EndEvents.{last_read_same}
 use Rattle.history_model.proofs.Views.Places.{put_here}
-use Rattle.locks_rule.specs.Actions.{views_after, found_by}
-use Rattle.values_rule.specs.Steps.{begin_call_action, load_value_action, store_value_action, known_value, MayBeginCall, MayLoadValue}
+use Rattle.locks_rule.specs.Actions.{Action, words_after, views_after, found_by}
+use Rattle.locks_rule.proofs.Own.{own_number}
+use Rattle.values_rule.specs.Records.{Knew}
+use Rattle.values_rule.specs.Steps.{begin_call_action, entry_of, load_value_action, store_value_action, known_value, MayBeginCall, MayLoadValue}
 use Rattle.values_rule.proofs.Members.{in_second}
 use Rattle.values_rule.proofs.Phases.{attempt_open}
-use Rattle.values_rule.specs.History.{items_of_attempts, item_of_entry, items_of, knew_of}
+use Rattle.values_rule.specs.History.{items_of_attempts, item_of_entry, knew_of}
 use Rattle.values_rule.proofs.Told.ItemsIn.{items_into, entry_from, attempt_from}
+use Rattle.values_rule.proofs.Told.Knowing.{knew_at, last_least}
 use Rattle.values_rule.proofs.Whole.Legality.{place, leaves_good, attempts_legal}
 use Rattle.stamps_rule.specs.Steps.{MayLoadCauseStamp, load_cause_stamp_action, after_waiting, after_restarting}
 use Rattle.word_table.specs.declared.step.Step.{Step}
@@ -36,7 +41,13 @@ reads_after good n base st old new found t may busy =
     let after = sound_kept good n base st t.words t.views t.place old t.holds t.knows may in
     let me : Knows vs t.place next = put_here t.views t.place old next t.knows in
     subst (λ (x : View). ReadsArranged good n base x) (sym is) (record {
-      items = items_of vs;
+      words = words_after (action_of st old) t.words;
+      views = vs;
+      place = t.place;
+      seat = next;
+      holds = after;
+      knows = me;
+      in_call = record { who = refl; call = refl; seen = refl; abandoned = refl };
       seen = λ e i. items_into vs (item_of_entry e) (inl (record {
         entry = e;
         recorded = record { id = t.place; view = next; knows = me; seen = i };
@@ -82,3 +93,15 @@ noted_old j a x v w before old e trace =
     let last : value_after v.trace a None ≡ Some old = ap (λ (t : Trace). value_after t a None) trace ∙ last_read_same before a old a refl in
     let is : known_value v a ≡ old = ap (λ (o : Option ℕ). unwrap_or o 0) last in
     ap (λ (y : View). y.undo) e ∙ ap (λ (o : ℕ). v.undo ++ (a, o) ∷ []) is
+
+-- an entry knew what its pass had seen
+pub knew_seen : (kept : Bool) (v : View) (x : Entry) → IsIn x v.seen → x.who < v.seats → Knew (entry_of kept v) x
+knew_seen kept v x t below = subst (λ (m : ℕ). x.call ≤ m) (sym (knew_at v.seats x.who v.seen below)) (last_least x.who v.seen x t refl)
+
+-- and so does the one that a call gets, in a state that is sound
+pub commit_knew : (good : List ℕ → Type 0) (n : ℕ) (base : List ℕ) (action : Action) (kept : Bool) (v : View) (found : ℕ) (w : View) (j : ℕ)
+    → TakenIn (IsSound good n base) action v found w → v.who ≡ j ∷ [] → (x : Entry) → IsIn x v.seen → Knew (entry_of kept v) x
+commit_knew good n base action kept v found w j t single x had =
+    let seats : v.seats ≡ n = t.holds.locks.seats_alike t.place j v (record { knows = t.knows; named = own_number v j single }) in
+    knew_seen kept v x had (subst (λ (m : ℕ). x.who < m) (sym seats)
+    (t.holds.values.records.by_seat x (record { id = t.place; view = v; knows = t.knows; seen = had })))

@@ -3,14 +3,15 @@ use Rattle.std.proofs.Common.{◌≡◌, ◌≢◌, ℕ, zero, suc, ◌+◌, ◌
 use Rattle.std.proofs.Common.{slice_index, slice_set, refl, sym, ap, ◌∙◌, subst, arith, length-drop}
 use Rattle.std.proofs.lemmas.List.{ext_get_or, get_or-drop, get_or-set_same, get_or-set_other}
 use Rattle.std.proofs.lemmas.Option.{slice_get_within, same_Some}
+use lib.ListN.{get_elem?}
 use mathlib.Core.Option.{some, some-injective, some-ne-none}
 use mathlib.Core.Logic.{dite}
 use native.Mathlib.Decide.{ℕ_discrete}
-use lib.ListN.{get_elem?}
 use Rattle.atomic_table.specs.Table.{State, Me, Joins, Final, Seen}
 use Rattle.atomic_table.specs.Seated.{TableId}
 use Rattle.std.specs.List.{flat_map}
 use Rattle.history_model.specs.declared.entry.Entry.{Entry}
+use Rattle.history_model.specs.Items.{AgreeWithVersions}
 use Rattle.history_model.specs.declared.item.Item.{Item}
 use Rattle.history_model.specs.declared.view.View.{View}
 use Rattle.history_model.specs.declared.view.Phase.{Phase}
@@ -26,7 +27,6 @@ use Rattle.history_model.proofs.Views.Places.{same_view, put_cases}
 use Rattle.history_model.proofs.SetLemmas.{has-join_same}
 use Rattle.locks_rule.specs.Joins.{spent_view}
 use Rattle.locks_rule.specs.Locks.{IsSeat}
-use Rattle.locks_rule.specs.Splits.{opening_view}
 use Rattle.locks_rule.proofs.Joining.{has-append_first, has-append_second}
 use Rattle.values_rule.specs.Undone.{memory_of, undone_by}
 use Rattle.values_rule.proofs.Members.{in_first, in_second, in_join, none_in}
@@ -37,8 +37,9 @@ use Rattle.values_rule.proofs.CutsAndJoins.Gains.{gains_first, gains_second, gai
 use Rattle.values_rule.proofs.Whole.Closing.{of_all, agree_with_table, has_arrangement}
 use Rattle.values_rule.proofs.Whole.Legality.{place}
 use Rattle.values_rule.proofs.Whole.Undone.{undoing_restores}
-use Rattle.word_table.specs.Closing.{ClosedView, IsCoherent, IsLegalInEachOrder, AreRecords, AreAllPasses, AreSeenBy}
-use Rattle.word_table.specs.Copies.{PassView}
+use Rattle.word_table.specs.Closing.{writes_of, ClosedView, IsCoherent, IsLegalInEachOrder, AreRecords, AreAllPasses, AreSeenBy}
+use Rattle.word_table.proofs.Joined.Counting.{writes_counted}
+use Rattle.word_table.specs.Copies.{fresh_pass, PassView}
 use Rattle.word_table.specs.Desks.{DeskView}
 use Rattle.word_table.specs.Gathering.{HasTaken, IsGathered}
 use Rattle.word_table.specs.Sound.{IsSound}
@@ -184,14 +185,24 @@ module _ (good : List ℕ → Type 0) (n : ℕ) (base ws : List ℕ) (vs : List 
   recorded : (e : Entry) → IsIn e v.seen → IsRecorded vs e
   recorded e t = record { id = id; view = v; knows = me; seen = t }
 
+  -- whatever is recorded it has seen, since who made it is one of its numbers
+  all_seen : (e : Entry) → IsRecorded vs e → IsIn e v.seen
+  all_seen e r = h.values.records.own_seen id e.who v e (record { knows = me; named = all e.who (h.values.records.by_seat e r) }) r refl
+
   module _ {S : Type 0} (shape : S) (words : List ℕ) (words_are : words ≡ memory_of n ws) where
     abbrev closed : ClosedView S
     closed = record { base = base; seats = n; shape = shape; records = v.seen; words = words }
 
+    agrees : AgreeWithVersions good base (version_at n ws) items
+    agrees = agree_with_table good n base ws vs id v h.locks h.values me phase all
+
+    counted : (k : ℕ) → version_at n ws k ≡ writes_of v.seen k
+    counted = writes_counted good base (version_at n ws) v.seen agrees (h.values.records.apart id v me)
+        (λ e x i j who call. h.values.records.one e x (recorded e i) (recorded x j) who call)
+
     pub ended_coherent : IsCoherent good closed
     ended_coherent = let some = has_arrangement good n base ws vs id v h.locks h.values me phase all in record {
-      versions = version_at n ws;
-      agree = agree_with_table good n base ws vs id v h.locks h.values me phase all;
+      agree = subst (λ (next : ℕ → ℕ). AgreeWithVersions good base next items) (λ i k. counted k i) agrees;
       order = some.0;
       arranged = some.1;
     }
@@ -208,6 +219,12 @@ module _ (good : List ℕ → Type 0) (n : ℕ) (base ws : List ℕ) (vs : List 
       apart = h.values.records.apart id v me;
       one = λ e x i j who call. h.values.records.one e x (recorded e i) (recorded x j) who call;
       knew_own = λ e x i j who call. h.values.records.knew_own e x (recorded e i) (recorded x j) who call;
+      floors = λ e i. let f = h.values.records.floors e (recorded e i) in (
+        f.known,
+        f.apart,
+        (λ x. (λ t. (all_seen x (f.only x t).0, (f.only x t).1), λ t. f.all x (recorded x t.0) t.1)),
+        f.count,
+      );
       causes = λ e i. h.values.records.causes e (recorded e i);
     }
 
@@ -259,16 +276,16 @@ seat_view me v e = (ap (λ (m : Me (Unit {0}) View). m.0) e, ap (λ (m : Me (Uni
 
 -- passes that were just dealt out are all passes
 pub fresh_passes : (base : List ℕ) (n : ℕ) (table : TableId) (passes : List PassView) → length passes ≡ n
-    → ((j : ℕ) → j < n → slice_get passes j ≡ Some (record { table = table; view = opening_view base n (j ∷ []) [] })) → AreAllPasses table n passes
+    → ((j : ℕ) → j < n → slice_get passes j ≡ Some (fresh_pass table base n j)) → AreAllPasses table n passes
 fresh_passes base n table passes count each = record {
   of_table = λ p t. ap (λ (x : PassView). x.table) (is p t);
   idle = λ p t. ap (λ (x : PassView). x.view.phase) (is p t);
-  all = λ j lt. (record { table = table; view = opening_view base n (j ∷ []) [] }, (j, each j lt), refl);
+  all = λ j lt. (fresh_pass table base n j, (j, each j lt), refl);
 }
   where
-    is : (p : PassView) (t : IsIn p passes) → p ≡ record { table = table; view = opening_view base n (t.0 ∷ []) [] }
+    is : (p : PassView) (t : IsIn p passes) → p ≡ fresh_pass table base n t.0
     is p t = let lt = slice_get_within passes t.0 p t.1 in
-        same_Some p (record { table = table; view = opening_view base n (t.0 ∷ []) [] }) (sym t.1 ∙ each t.0 (omega arith))
+        same_Some p (fresh_pass table base n t.0) (sym t.1 ∙ each t.0 (omega arith))
 
 -- the last of all passes may have gone on
 pub last_went_on : (table : TableId) (n : ℕ) (left : List PassView) (x y : PassView)

@@ -1,12 +1,15 @@
 -- Notes are taken and met.
-use Rattle.std.proofs.Common.{◌≡◌, ℕ, ⊎_elim, List, [], ap, ◌∙◌, subst}
+use Rattle.std.proofs.Common.{◌≡◌, ◌↔◌, ◌⊎◌, ℕ, ⊎_elim, List, [], sym, ap, ◌∙◌, subst}
 use Rattle.atomic_table.specs.Table.{State, Splits, Joins}
 use Rattle.atomic_table.specs.Seated.{TableId}
+use Rattle.history_model.specs.declared.entry.Entry.{Entry}
 use Rattle.history_model.specs.declared.view.View.{View}
 use Rattle.history_model.specs.declared.view.Phase.TheVariants.{Idle}
+use Rattle.history_model.specs.Legal.{IsIn}
 use Rattle.history_model.proofs.Views.Places.{put_cases}
 use Rattle.locks_rule.specs.Joins.{left_by_note, note_of, spent_view}
 use Rattle.locks_rule.specs.Joins.{gains, after_note}
+use Rattle.values_rule.proofs.CutsAndJoins.Gains.{gains_first, gains_second, gains_cases}
 use Rattle.word_table.specs.Copies.{PassView}
 use Rattle.word_table.specs.Notes.{NoteView}
 use Rattle.word_table.specs.Sound.{IsSound}
@@ -25,13 +28,20 @@ module _ (good : List ℕ → Type 0) (n : ℕ) (base : List ℕ) where
       (record { phase = phase; note_phase = note_phase; unnumbered = unnumbered })
 
 -- what the join does to the seats, it does to the pass and the note that have them
-pub met_by : (v w joined : View) (table of : TableId) (pass : PassView) (note : NoteView)
-    → record { table = table; view = v } ≡ pass → record { table = of; seen = w.seen } ≡ note
+pub met_by : {steps : ℕ} (v w joined : View) (table of : TableId) (pass : PassView) (note : NoteView)
+    → record { table = table; view = v; steps = steps } ≡ pass → record { table = of; seen = w.seen } ≡ note
     → joined ≡ after_note v w → joined ≡ record pass.view { seen = gains pass.view.seen note.seen; met = [] }
 met_by v w joined table of pass note e f is =
     subst (λ (x : NoteView). joined ≡ record pass.view { seen = gains pass.view.seen x.seen; met = [] }) f
     (subst (λ (x : PassView). joined ≡ record x.view { seen = gains x.view.seen w.seen; met = [] }) e is)
 
 -- the phase of a pass is that of its seat's view
-pub seat_phase : (v : View) (table : TableId) (pass : PassView) → record { table = table; view = v } ≡ pass → pass.view.phase ≡ Idle → v.phase ≡ Idle
+pub seat_phase : {steps : ℕ} (v : View) (table : TableId) (pass : PassView) → record { table = table; view = v; steps = steps } ≡ pass
+    → pass.view.phase ≡ Idle → v.phase ≡ Idle
 seat_phase v table pass e idle = ap (λ (x : PassView). x.view.phase) e ∙ idle
+
+-- what a pass has seen that met a note
+pub both_seen : (v w : View) (seen : List Entry) → w ≡ record v { seen = gains v.seen seen; met = [] }
+    → (e : Entry) → IsIn e w.seen ↔ (IsIn e v.seen ⊎ IsIn e seen)
+both_seen v w seen is e = subst (λ (u : View). IsIn e u.seen ↔ (IsIn e v.seen ⊎ IsIn e seen)) (sym is)
+    (λ t. gains_cases v.seen seen e t, λ t. ⊎_elim (gains_first v.seen seen e) (gains_second v.seen seen e) t)

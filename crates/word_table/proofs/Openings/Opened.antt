@@ -1,8 +1,7 @@
 -- The passes of a desk, taken from the end of their list, as a test opens it.
 use Rattle.std.proofs.Common.{◌≡◌, ℕ, ◌+◌, List, [], ◌∷◌, ◌++◌, length, length-append, slice_get, Some, refl, sym, ap, ◌∙◌, arith}
 use Rattle.std.proofs.lemmas.Option.{same_Some}
-use Rattle.locks_rule.specs.Splits.{opening_view}
-use Rattle.word_table.specs.Copies.{PassView}
+use Rattle.word_table.specs.Copies.{fresh_pass, PassView}
 use Rattle.word_table.specs.Desks.{DeskView}
 
 none_left : {A : Type 0} (xs : List A) → length xs ≡ 0 → xs ≡ []
@@ -43,8 +42,8 @@ four_of all three two one none a b c d p q r s four =
 -- the pass at place j has done nothing, over the desk's own words
 pub has_opened : {S : Type 0} (desk : DeskView S) (words : List ℕ) (n j : ℕ) (all list : List PassView)
     (pass : PassView) → all ≡ list → slice_get list j ≡ Some pass
-    → slice_get all j ≡ Some (record { table = desk.table; view = opening_view words n (j ∷ []) [] })
-    → desk.base ≡ words → ◌≡◌ {A = PassView} pass (record { table = desk.table; view = opening_view desk.base n (j ∷ []) [] })
+    → slice_get all j ≡ Some (fresh_pass desk.table words n j)
+    → desk.base ≡ words → ◌≡◌ {A = PassView} pass (fresh_pass desk.table desk.base n j)
 has_opened desk words n j all list pass e h k b =
-    same_Some pass (record { table = desk.table; view = opening_view words n (j ∷ []) [] }) (sym h ∙ (ap (λ l. slice_get l j) (sym e) ∙ k))
-    ∙ ap (λ (w : List ℕ). record { table = desk.table; view = opening_view w n (j ∷ []) [] }) (sym b)
+    same_Some pass (fresh_pass desk.table words n j) (sym h ∙ (ap (λ l. slice_get l j) (sym e) ∙ k))
+    ∙ ap (λ (w : List ℕ). fresh_pass desk.table w n j) (sym b)

@@ -22,7 +22,7 @@ use Rattle.history_model.proofs.SetLemmas.{differ, not_true, has-nil, pair-nil, 
 use Rattle.word_table.specs.declared.limits.TheConstants.{MOST_PASSES, MOST_WORDS}
 use Rattle.word_table.specs.declared.copies.CallCopy.{CallCopy}
 use Rattle.word_table.specs.declared.copies.LockCopy.{LockCopy}
-use Rattle.word_table.specs.Copies.{ShowsLocks, ShowsOthers, ShowsPairs, IsCopy, PassView}
+use Rattle.word_table.specs.Copies.{fresh_pass, ShowsLocks, ShowsOthers, ShowsPairs, IsCopy, PassView}
 use Rattle.word_table.specs.Sound.{IsSound, opening_words, numbers}
 use Rattle.word_table.specs.Versions.{VersionsBounded}
 use Rattle.word_table.proofs.Copied.Rows.{zeros, zero_at, zeros_count, shows_none}
@@ -223,7 +223,7 @@ opening_copy base call locks table me em idle fresh unstamped unannounced others
 -- the first j passes of n
 pub record Dealt (base : List ℕ) (n : ℕ) (t : TableId) (j : ℕ) (passes : List PassView) : Type 0 where
   pub count : length passes ≡ j
-  pub each : (i : ℕ) → i < j → slice_get passes i ≡ Some (record { table = t; view = opening_view base n (i ∷ []) [] })
+  pub each : (i : ℕ) → i < j → slice_get passes i ≡ Some (fresh_pass t base n i)
 
 get_last : (xs : List PassView) (x : PassView) (j : ℕ) → length xs ≡ j → slice_get (xs ++ x ∷ []) j ≡ Some x
 get_last [] x zero e = refl
@@ -240,23 +240,24 @@ pub dealt_none : (base : List ℕ) (n : ℕ) (t : TableId) → Dealt base n t 0 
 dealt_none base n t = record { count = refl; each = λ i h. absurd (omega arith) }
 
 pub dealt_more : (base : List ℕ) (n : ℕ) (t : TableId) (j : ℕ) (passes : List PassView) (x : PassView)
-    → Dealt base n t j passes → x.table ≡ t → x.view ≡ opening_view base n (j ∷ []) [] → Dealt base n t (j + 1) (passes ++ x ∷ [])
-dealt_more base n t j passes x d et ev = record {
+    → Dealt base n t j passes → x.table ≡ t → x.view ≡ opening_view base n (j ∷ []) [] → x.steps ≡ 0 → Dealt base n t (j + 1) (passes ++ x ∷ [])
+dealt_more base n t j passes x d et ev es = record {
   count = length-append passes (x ∷ []) ∙ omega (arith, d.count);
   each = λ i h. dite (ℕ_discrete i j)
       (λ e. subst (λ (z : ℕ). slice_get (passes ++ x ∷ []) z
-      ≡ Some (record { table = t; view = opening_view base n (z ∷ []) [] })) (sym e) (get_last passes x j d.count
-      ∙ ap (λ (y : PassView). Some y) (pass_is x t (opening_view base n (j ∷ []) []) et ev)))
+      ≡ Some (fresh_pass t base n z)) (sym e) (get_last passes x j d.count
+      ∙ ap (λ (y : PassView). Some y) (pass_is x t (opening_view base n (j ∷ []) []) et ev es)))
       (λ ne. let z = d.count in get_before passes x i (omega arith) ∙ d.each i (omega arith));
 }
   where
-    pass_is : (x : PassView) (t : TableId) (v : View) → x.table ≡ t → x.view ≡ v → x ≡ record { table = t; view = v }
-    pass_is x t v et ev k = record { table = et k; view = ev k }
+    pass_is : (x : PassView) (t : TableId) (v : View) → x.table ≡ t → x.view ≡ v → x.steps ≡ 0 → x ≡ record { table = t; view = v; steps = 0 }
+    pass_is x t v et ev es k = record { table = et k; view = ev k; steps = es k }
 
 -- the passes after one more was pushed
 pub dealt_push : (base : List ℕ) (n : ℕ) (t : TableId) (j : ℕ) (passes after : List PassView) (x : PassView) (old : ℕ)
     (seat : Me (Unit {0}) View) → Dealt base n t old passes → old ≡ j → after ≡ passes ++ x ∷ [] → x.table ≡ t
-    → seat ≡ (opening_view base n (j ∷ []) [], []) → x.view ≡ opening_view seat.0.base n (j ∷ []) [] → Dealt base n t (j + 1) after
-dealt_push base n t j passes after x old seat d same e et es ev = subst (λ (l : List PassView). Dealt base n t (j + 1) l) (sym e)
+    → seat ≡ (opening_view base n (j ∷ []) [], []) → x.view ≡ opening_view seat.0.base n (j ∷ []) [] → x.steps ≡ 0
+    → Dealt base n t (j + 1) after
+dealt_push base n t j passes after x old seat d same e et es ev none = subst (λ (l : List PassView). Dealt base n t (j + 1) l) (sym e)
     (dealt_more base n t j passes x (subst (λ (i : ℕ). Dealt base n t i passes) same d) et (ev
-    ∙ ap (λ (s : Me (Unit {0}) View). opening_view s.0.base n (j ∷ []) []) es))
+    ∙ ap (λ (s : Me (Unit {0}) View). opening_view s.0.base n (j ∷ []) []) es) none)

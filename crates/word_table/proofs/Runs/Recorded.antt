@@ -31,7 +31,7 @@ use Rattle.word_table.specs.Runs.{Joins, Steps, IsRun}
 use Rattle.word_table.proofs.Runs.RunLaws.{before}
 
 -- what v has seen, w has seen
-abbrev Sees : View → View → Type 0
+abbrev pub Sees : View → View → Type 0
 Sees v w = (e : Entry) → IsIn e v.seen → IsIn e w.seen
 
 either : (b : Bool) (v x y : View) → Sees v x → Sees v y → Sees v (if b then x else y)
@@ -43,7 +43,7 @@ judging None v w s = s
 judging (Some cause) v w s = s
 
 -- the kinds of step, one by one
-sees : (st : Step) (v : View) (w : ℕ) → Sees v ((action_of st v).view w)
+pub sees : (st : Step) (v : View) (w : ℕ) → Sees v ((action_of st v).view w)
 sees (SetReadBit j l a) v w = λ e t. t
 sees (ClearReadBit j l) v w = λ e t. t
 sees (LoadWriter j l a) v w =

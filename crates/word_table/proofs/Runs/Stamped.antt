@@ -48,7 +48,7 @@ pub record Draws (v w : View) : Type 0 where
   pub none : v.stamp ≡ 0
   pub runs : v.phase ≡ Running
 
-abbrev GoesTo : View → View → Type 0
+abbrev pub GoesTo : View → View → Type 0
 GoesTo v w = (w.who ≡ v.who) × (w.joined ≡ v.joined) × (Stays v w ⊎ (Ends v w ⊎ ((w.call ≡ v.call + 1) ⊎ Draws v w)))
 
 -- what is known of seat j's view, where its call c had the timestamp s once
@@ -104,7 +104,7 @@ judging : (verdict : Option Cause) (v : View) (met : List ℕ) → v.phase ≢ I
 judging None v met busy = stays v (record v { met = met }) refl refl refl refl busy
 judging (Some cause) v met busy = stays v (after_giving_way cause (record v { met = met })) refl refl refl refl busy
 
-goes : (good : List ℕ → Type 0) (st : Step) (v : View) (w : ℕ) → May good st v → GoesTo v ((action_of st v).view w)
+pub goes : (good : List ℕ → Type 0) (st : Step) (v : View) (w : ℕ) → May good st v → GoesTo v ((action_of st v).view w)
 goes good (SetReadBit j l a) v w may = stays v ((action_of (SetReadBit j l a) v).view w) refl refl refl refl (runs v may.phase)
 goes good (ClearReadBit j l) v w may = stays v ((action_of (ClearReadBit j l) v).view w) refl refl refl refl may.release.begun
 goes good (LoadWriter j l a) v w may =

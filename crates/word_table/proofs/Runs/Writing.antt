@@ -1,20 +1,16 @@
--- Which words the steps of a call change, kind by kind; and that calls which share no lock have none in common.
+-- Which words the steps of a call write, kind by kind; and that calls which share no lock have none in common.
 use Rattle.std.proofs.Common.{◌≡◌, ◌≢◌, ◌⊎◌, inl, inr, ℕ, ◌-◌, ◌<◌, Bool, true, false, List, [], ◌∷◌, ◌++◌}
-use Rattle.std.proofs.Common.{Option, Some, None, slice_get, slice_index, slice_set, refl, sym, ap, ◌∙◌, subst, arith, ◌==◌, if◌then◌else◌}
+use Rattle.std.proofs.Common.{Option, Some, None, slice_index, refl, sym, ap, ◌∙◌, subst, arith, ◌==◌, if◌then◌else◌}
 use Rattle.std.proofs.Math.Nat.{mod-lt}
-use mathlib.Core.Logic.{dite}
-use native.Mathlib.Decide.{ℕ_discrete}
 use Rattle.history_model.specs.declared.TheConstants.{LOCKS}
 use Rattle.history_model.specs.declared.view.View.{View}
 use Rattle.history_model.specs.Locks.{lock_of_word}
 use Rattle.history_model.specs.Sets.{has, without_first}
-use Rattle.history_model.specs.Table.{Knows, clock_word, calls_word, commits_word, stamps_word, row_word, writer_word, version_word, value_word}
+use Rattle.history_model.specs.Table.{Knows, writer_word}
 use Rattle.history_model.specs.Undoing.{Notes}
 use Rattle.values_rule.specs.Values.{oldest}
 use Rattle.history_model.specs.Views.{number, HasClaim}
 use Rattle.history_model.proofs.SetLemmas.{has-join_same}
-use Rattle.history_model.proofs.Traces.TraceLaws.{get_set_other}
-use Rattle.history_model.proofs.Traces.UndoLaws.{set_same}
 use Rattle.locks_rule.specs.Locks.{AskedFor}
 use Rattle.locks_rule.specs.Steps.{after_asking, after_meeting}
 use Rattle.locks_rule.proofs.Own.{own, lock_near}
@@ -26,16 +22,8 @@ use Rattle.word_table.specs.declared.step.Step.TheVariants.{LoadCauseStamp, Load
 use Rattle.word_table.specs.Kinds.{May, action_of}
 use Rattle.word_table.specs.Meetings.{view_after, AsksApart}
 use Rattle.word_table.specs.Sound.{IsSound}
-use Rattle.word_table.specs.Writes.{HaveNoCommonWord, IsAskedWord, IsOwnWord, IsSharedWord, IsWordOfLock, WritesOwnAndAsked}
+use Rattle.word_table.specs.Writes.{HaveNoCommonWord, IsAskedWord, IsOwnWord, IsWordOfLock, Loads, MayWrite, WritesOwnAndAsked}
 use Rattle.word_table.proofs.Runs.Meetings.{reached_sound}
-
--- a load changes no word
-loads : (ws : List ℕ) (at a : ℕ) → slice_get (slice_set ws at (slice_index ws at)) a ≢ slice_get ws a → ⊥
-loads ws at a changed = changed (ap (λ l. slice_get l a) (set_same ws at))
-
--- a store changes the word that it is on
-stores : (ws : List ℕ) (at x a : ℕ) → slice_get (slice_set ws at x) a ≢ slice_get ws a → a ≡ at
-stores ws at x a changed = dite (ℕ_discrete a at) (λ same. same) (λ other. absurd (changed (get_set_other ws at a x other)))
 
 -- a word that is noted last is noted
 note_found : (a old : ℕ) (older : Notes) → (o : ℕ) × (oldest a (older ++ (a, old) ∷ []) ≡ Some o)
@@ -49,11 +37,8 @@ module _ (good : List ℕ → Type 0) (n : ℕ) (base ws : List ℕ) (vs : List 
   abbrev now : Step → View
   now st = view_after st v (record { words = ws; views = vs })
 
-  abbrev Changes : Step → Type 0
-  Changes st = slice_get (slice_set ws (action_of st v).at ((action_of st v).writes (slice_index ws (action_of st v).at))) a ≢ slice_get ws a
-
-  abbrev MayChange : View → Type 0
-  MayChange w = IsOwnWord n (number v) a ⊎ (IsAskedWord n w a ⊎ IsSharedWord v a)
+  abbrev Allowed : View → Type 0
+  Allowed w = MayWrite n v w a
 
   seats_are : (j : ℕ) → v.who ≡ j ∷ [] → v.seats ≡ n
   seats_are j who = (own n base ws vs id j v s.locks me who).seats
@@ -62,63 +47,63 @@ module _ (good : List ℕ → Type 0) (n : ℕ) (base ws : List ℕ) (vs : List 
   number_is j who = ap (λ (l : List ℕ). slice_index l 0) who
 
   -- a word of the own seat
-  own_word : (j : ℕ) (w : View) → v.who ≡ j ∷ [] → IsOwnWord v.seats j a → MayChange w
-  own_word j w who is = inl (subst (λ m. IsOwnWord m (number v) a) (seats_are j who) (subst (λ i. IsOwnWord v.seats i a) (sym (number_is j who)) is))
+  own_word : {L : Type 0} (j : ℕ) (w : View) → v.who ≡ j ∷ [] → IsOwnWord v.seats j a → L ⊎ Allowed w
+  own_word j w who is = inr (inl (subst (λ m. IsOwnWord m (number v) a) (seats_are j who) (subst (λ i. IsOwnWord v.seats i a) (sym (number_is j who)) is)))
 
   -- a word of a lock that was asked for
-  asked_word : (j k : ℕ) (w : View) → v.who ≡ j ∷ [] → AskedFor w k → IsWordOfLock v.seats k a → MayChange w
-  asked_word j k w who asked is = inr (inl (
+  asked_word : {L : Type 0} (j k : ℕ) (w : View) → v.who ≡ j ∷ [] → AskedFor w k → IsWordOfLock v.seats k a → L ⊎ Allowed w
+  asked_word j k w who asked is = inr (inr (inl (
     k,
     subst (λ l. l < LOCKS) asked.2 (mod-lt asked.0 (omega arith)),
     asked,
     subst (λ m. IsWordOfLock m k a) (seats_are j who) is,
-  ))
+  )))
 
   claim_asked : (k : ℕ) → HasClaim v k → AskedFor v k
   claim_asked k claim = s.locks.claims_were_asked id k v me claim
 
-  claimed : (j l b : ℕ) (c : Bool) → v.who ≡ j ∷ [] → lock_of_word b ≡ l → (x y : View) → x.asked ≡ b ∷ v.asked → y.asked ≡ b ∷ v.asked
-      → a ≡ writer_word v.seats l → MayChange (if c then x else y)
+  claimed : {L : Type 0} (j l b : ℕ) (c : Bool) → v.who ≡ j ∷ [] → lock_of_word b ≡ l → (x y : View) → x.asked ≡ b ∷ v.asked → y.asked ≡ b ∷ v.asked
+      → a ≡ writer_word v.seats l → L ⊎ Allowed (if c then x else y)
   claimed j l b true who lock x y p q at = asked_word j l x who (b, subst (λ m. has b m ≡ true) (sym p) (has-join_same b v.asked), lock) (inl at)
   claimed j l b false who lock x y p q at = asked_word j l y who (b, subst (λ m. has b m ≡ true) (sym q) (has-join_same b v.asked), lock) (inl at)
 
-  changes : (st : Step) → May good st v → Changes st → MayChange (now st)
-  changes (SetReadBit j l b) may c = own_word j (now (SetReadBit j l b)) may.who
-      (inr (inr (inr (l, subst (λ k. k < LOCKS) may.lock (mod-lt b (omega arith)), stores ws (row_word v.seats j l) _ a c))))
-  changes (ClearReadBit j l) may c = own_word j (now (ClearReadBit j l)) may.who
-      (inr (inr (inr (l, lock_near v l (s.locks.bits_were_asked id l v me may.bit), stores ws (row_word v.seats j l) _ a c))))
-  changes (LoadWriter j l b) may c = absurd (loads ws (writer_word v.seats l) a c)
-  changes (ClaimWriter j l b) may c =
+  writes : (st : Step) → May good st v → a ≡ (action_of st v).at → Loads st v ⊎ Allowed (now st)
+  writes (SetReadBit j l b) may c = own_word j (now (SetReadBit j l b)) may.who
+      (inr (inr (inr (l, subst (λ k. k < LOCKS) may.lock (mod-lt b (omega arith)), c))))
+  writes (ClearReadBit j l) may c = own_word j (now (ClearReadBit j l)) may.who
+      (inr (inr (inr (l, lock_near v l (s.locks.bits_were_asked id l v me may.bit), c))))
+  writes (LoadWriter j l b) may c = inl (refl, λ w. refl)
+  writes (ClaimWriter j l b) may c =
       let w : ℕ = slice_index ws (writer_word v.seats l) in
       claimed j l b (w == 0) may.who may.lock (record (after_asking v b) { claims = l ∷ v.claims; scans = without_first l v.scans })
-      (after_meeting (after_asking v b) l (w - 1)) refl refl (stores ws (writer_word v.seats l) _ a c)
-  changes (ScanRow j l i) may c = absurd (loads ws (row_word v.seats i l) a c)
-  changes (ReleaseWriter j l) may c =
-      asked_word j l (now (ReleaseWriter j l)) may.releases.who (claim_asked l may.releases.claim) (inl (stores ws (writer_word v.seats l) _ a c))
-  changes (BeginCall j) may c = own_word j (now (BeginCall j)) may.who (inl (stores ws (calls_word v.seats j) _ a c))
-  changes (LoadValue j b) may c = absurd (loads ws (value_word v.seats b) a c)
-  changes (StoreValue j b x) may c =
+      (after_meeting (after_asking v b) l (w - 1)) refl refl c
+  writes (ScanRow j l i) may c = inl (refl, λ w. refl)
+  writes (ReleaseWriter j l) may c =
+      asked_word j l (now (ReleaseWriter j l)) may.releases.who (claim_asked l may.releases.claim) (inl c)
+  writes (BeginCall j) may c = own_word j (now (BeginCall j)) may.who (inl c)
+  writes (LoadValue j b) may c = inl (refl, λ w. refl)
+  writes (StoreValue j b x) may c =
       asked_word j (lock_of_word b) (now (StoreValue j b x)) may.who (claim_asked (lock_of_word b) may.granted.0)
-      (inr (inr (b, refl, stores ws (value_word v.seats b) x a c)))
-  changes (UndoStore j b old) may c =
+      (inr (inr (b, refl, c)))
+  writes (UndoStore j b old) may c =
       let noted = note_found b old may.newest.0 in
       let held = s.values.undo.noted id b noted.0 v me (ap (oldest b) may.newest.1 ∙ noted.1) in
       asked_word j (lock_of_word b) (now (UndoStore j b old)) may.who (claim_asked (lock_of_word b) held.1.0)
-      (inr (inr (b, refl, stores ws (value_word v.seats b) old a c)))
-  changes (CommitCall j kept) may c = own_word j (now (CommitCall j kept)) may.who (inr (inl (stores ws (commits_word v.seats j) _ a c)))
-  changes (ClearStamp j) may c = own_word j (now (ClearStamp j)) may.who (inr (inr (inl (stores ws (stamps_word v.seats j) _ a c))))
-  changes (DrawStamp j) may c = inr (inr (stores ws clock_word _ a c, may.unjudged))
-  changes (AnnounceStamp j) may c = own_word j (now (AnnounceStamp j)) may.who (inr (inr (inl (stores ws (stamps_word v.seats j) _ a c))))
-  changes (JudgeStamp j i) may c = absurd (loads ws (stamps_word v.seats i) a c)
-  changes (LoadCauseStamp j i stamp) may c = absurd (loads ws (stamps_word v.seats i) a c)
-  changes (LoadVersion j l) may c = absurd (loads ws (version_word v.seats l) a c)
-  changes (StoreVersion j l x) may c =
-      asked_word j l (now (StoreVersion j l x)) may.stores.who (claim_asked l may.claim) (inr (inl (stores ws (version_word v.seats l) _ a c)))
+      (inr (inr (b, refl, c)))
+  writes (CommitCall j kept) may c = own_word j (now (CommitCall j kept)) may.who (inr (inl c))
+  writes (ClearStamp j) may c = own_word j (now (ClearStamp j)) may.who (inr (inr (inl c)))
+  writes (DrawStamp j) may c = inr (inr (inr (c, may.unjudged)))
+  writes (AnnounceStamp j) may c = own_word j (now (AnnounceStamp j)) may.who (inr (inr (inl c)))
+  writes (JudgeStamp j i) may c = inl (refl, λ w. refl)
+  writes (LoadCauseStamp j i stamp) may c = inl (refl, λ w. refl)
+  writes (LoadVersion j l) may c = inl (refl, λ w. refl)
+  writes (StoreVersion j l x) may c =
+      asked_word j l (now (StoreVersion j l x)) may.stores.who (claim_asked l may.claim) (inr (inl c))
 
 pub writes_own_and_asked : (good : List ℕ → Type 0) (n : ℕ) (base : List ℕ) → WritesOwnAndAsked good n base
-writes_own_and_asked good n base state place step old new a r t changed =
-    subst (λ w. IsOwnWord n (number old) a ⊎ (IsAskedWord n w a ⊎ IsSharedWord old a)) (sym t.reached)
-    (changes good n base state.words state.views place old (reached_sound good n base state r) t.knows a step t.may changed)
+writes_own_and_asked good n base state place step old new r t =
+    subst (λ w. Loads step old ⊎ MayWrite n old w (action_of step old).at) (sym t.reached)
+    (writes good n base state.words state.views place old (reached_sound good n base state r) t.knows (action_of step old).at step t.may refl)
 
 module _ (n i j a : ℕ) (v u : View) (i_below : i < n) (j_below : j < n) (other : i ≢ j) (apart : AsksApart v u) where
   own_own : IsOwnWord n i a → IsOwnWord n j a → ⊥

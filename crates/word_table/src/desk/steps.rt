@@ -1,20 +1,24 @@
 //! Steps on the shared table, for lock_or_yield and txn_commit: a program that runs jobs by `transact` calls none of them.
 
 ghost use Rattle.std.specs.Prelude.{◌≡◌, ◌≢◌, ◌⊎◌, ◌<◌, ℕ, [], ◌∷◌, length, Some, ◌++◌, ◌+◌, ◌==◌, not, true, false, List};
+ghost use Rattle.history_model.specs.declared.entry.Entry.{Entry};
 ghost use Rattle.history_model.specs.declared.event.Event.{Event};
 ghost use Rattle.history_model.specs.declared.event.Event.TheVariants.{Read};
 ghost use Rattle.history_model.specs.Counts.{is_attempt, is_open};
+ghost use Rattle.history_model.specs.Legal.{IsIn};
 ghost use Rattle.history_model.specs.Locks.{lock_of_word};
 ghost use Rattle.history_model.specs.Traces.{after, IsLegalTrace};
 ghost use Rattle.history_model.specs.Undoing.{Notes};
 ghost use Rattle.history_model.specs.Views.{number, HasBit, HasReadGrant, HasClaim, IsScanned, HasWriteGrant, IsGranted};
 ghost use Rattle.locks_rule.specs.Steps.{load_writer_action, claim_writer_action, scan_row_action, release_writer_action, clear_read_bit_action};
 ghost use Rattle.values_rule.specs.Steps.{begin_call_action, store_value_action, undo_store_action, clear_stamp_action};
-ghost use Rattle.values_rule.specs.Steps.{after_commit, commit_call_action};
+ghost use Rattle.values_rule.specs.Records.{Knew};
+ghost use Rattle.values_rule.specs.Steps.{after_commit, commit_call_action, entry_of};
 ghost use Rattle.stamps_rule.specs.Causes.{newest, past_causes};
 ghost use Rattle.stamps_rule.specs.Stamps.{AreRestartsBounded};
 ghost use Rattle.stamps_rule.specs.Steps.{draw_stamp_action, announce_stamp_action, load_cause_stamp_action};
-ghost use Rattle.history_model.specs.Sets.{has, without};
+ghost use Rattle.history_model.specs.Sets.{flag, has, without};
+ghost use Rattle.word_table.specs.Versions.{locks_found};
 ghost use Rattle.word_table.specs.Calls.{ClaimedBy, GainsUse, GaveUp, GaveWay, GrantsStay, JudgedBy, LoadedBy, MetOn, ReadsArranged, SameCall, ScannedBy, SharedBy, paid, with_bit};
 ghost use Rattle.word_table.specs.Kinds.{TakenIn};
 ghost use Rattle.word_table.specs.Desks.{AreGoodWords, RuleHolds};
@@ -36,6 +40,8 @@ impl<S: Shape> Desk<S> {
         requires phase { pass.old.view.phase ≡ Phase.Running }
         requires word { a < length pass.old.view.base }
         ensures desk { pass.new.table ≡ pass.old.table }
+        ensures steps { (¬ IsGranted pass.old.view (lock_of_word a))
+            → pass.new.steps + flag (has (lock_of_word a) pass.old.view.bits) ≡ pass.old.steps + 2 }
         ensures step { SharedBy (RuleHolds S.Shape self.now) pass.old.view a result pass.new.view }
         ensures granted { result ≡ Shared.Granted → IsGranted pass.new.view (lock_of_word a) }
         ensures met { (j : ℕ) → result ≡ Shared.Met j → MetOn (RuleHolds S.Shape self.now)
@@ -44,7 +50,7 @@ impl<S: Shape> Desk<S> {
             j }
         ensures bit { (j : ℕ) → result ≡ Shared.Met j → HasBit pass.new.view (lock_of_word a) }
         ensures held { IsGranted pass.old.view (lock_of_word a)
-            → (result ≡ Shared.Granted) × (pass.new.view ≡ pass.old.view) }
+            → (result ≡ Shared.Granted) × (pass.new ≡ pass.old) }
         ensures held_if { pass.new.view ≡ pass.old.view → IsGranted pass.old.view (lock_of_word a) }
         ensures call { SameCall pass.old.view pass.new.view }
         ensures grants { GrantsStay pass.old.view pass.new.view }
@@ -64,6 +70,7 @@ impl<S: Shape> Desk<S> {
         requires word { a < length pass.old.view.base }
         requires free { ¬ IsGranted pass.old.view (lock_of_word a) }
         ensures desk { pass.new.table ≡ pass.old.table }
+        ensures steps { pass.new.steps + flag (has (lock_of_word a) pass.old.view.bits) ≡ pass.old.steps + 2 }
         ensures step { SharedBy (RuleHolds S.Shape self.now) pass.old.view a result pass.new.view }
         ensures granted { result ≡ Shared.Granted → IsGranted pass.new.view (lock_of_word a) }
         ensures met { (j : ℕ) → result ≡ Shared.Met j → MetOn (RuleHolds S.Shape self.now)
@@ -75,8 +82,8 @@ impl<S: Shape> Desk<S> {
         ensures call { SameCall pass.old.view pass.new.view }
         ensures grants { GrantsStay pass.old.view pass.new.view }
     {
-        pass.make_seen(&self.table.shared, a);
-        pass.look(&self.table.shared, a)
+        pass.make_seen(&self.table, a);
+        pass.look(&self.table, a)
     }
 
     /// Claims the lock of word a, to write it. An own claim takes no step. A claim is an exclusive lock once every
@@ -88,13 +95,14 @@ impl<S: Shape> Desk<S> {
         requires phase { pass.old.view.phase ≡ Phase.Running }
         requires word { a < length pass.old.view.base }
         ensures desk { pass.new.table ≡ pass.old.table }
+        ensures steps { (¬ HasClaim pass.old.view (lock_of_word a)) → pass.new.steps ≡ pass.old.steps + 1 }
         ensures step { ClaimedBy (RuleHolds S.Shape self.now) pass.old.view a result pass.new.view }
         ensures pending { result ≡ Claimed.Pending → HasClaim pass.new.view (lock_of_word a) }
         ensures met { (j : ℕ) → result ≡ Claimed.Met j → MetOn (RuleHolds S.Shape self.now)
             (claim_writer_action (number pass.old.view) (lock_of_word a) a)
             pass.old.view pass.old.view pass.new.view (lock_of_word a) j }
         ensures held { HasClaim pass.old.view (lock_of_word a)
-            → (result ≡ Claimed.Pending) × (pass.new.view ≡ pass.old.view) }
+            → (result ≡ Claimed.Pending) × (pass.new ≡ pass.old) }
         ensures held_if { pass.new.view ≡ pass.old.view → HasClaim pass.old.view (lock_of_word a) }
         ensures call { SameCall pass.old.view pass.new.view }
         ensures grants { GrantsStay pass.old.view pass.new.view }
@@ -102,7 +110,7 @@ impl<S: Shape> Desk<S> {
         if pass.has_claim(lock_of(a)) {
             return Claimed::Pending;
         }
-        let found = pass.claim_writer(&self.table.shared, a);
+        let found = pass.claim_writer(&self.table, a);
         claimed_by(found)
     }
 
@@ -113,6 +121,7 @@ impl<S: Shape> Desk<S> {
         requires claim { (k < LOCKS) × HasClaim pass.old.view k }
         requires other { (other < pass.old.view.seats) × (other ≢ number pass.old.view) }
         ensures desk { pass.new.table ≡ pass.old.table }
+        ensures steps { pass.new.steps ≡ pass.old.steps + 1 }
         ensures step { ScannedBy (RuleHolds S.Shape self.now) pass.old.view k other result
             pass.new.view }
         ensures clear { result ≡ Scanned.Clear → IsScanned pass.new.view k other }
@@ -123,7 +132,7 @@ impl<S: Shape> Desk<S> {
         ensures call { SameCall pass.old.view pass.new.view }
         ensures grants { GrantsStay pass.old.view pass.new.view }
     {
-        pass.look_for_bit(&self.table.shared, k, other)
+        pass.look_for_bit(&self.table, k, other)
     }
 
     /// Gives up the own claim on lock k. The call ends with that, unless it gives way. Where the call owes the lock its
@@ -135,13 +144,14 @@ impl<S: Shape> Desk<S> {
         requires undone { (pass.old.view.undo ≡ []) ⊎ (pass.old.view.phase ≡ Phase.Releasing) }
         requires begun { pass.old.view.phase ≢ Phase.Idle }
         ensures desk { pass.new.table ≡ pass.old.table }
+        ensures steps { pass.new.steps ≡ pass.old.steps + 1 + flag (has k pass.old.view.owed) }
         ensures step { pass.new.view
             ≡ (release_writer_action (number pass.old.view) k (paid k pass.old.view)).view 0 }
         ensures taken { GaveUp (RuleHolds S.Shape self.now) k pass.old.view pass.new.view }
         ensures gone { ¬ HasClaim pass.new.view k }
     {
-        pass.pay_version(&self.table.shared, k);
-        pass.release_writer(&self.table.shared, k);
+        pass.pay_version(&self.table, k);
+        pass.release_writer(&self.table, k);
     }
 
     /// Clears the own read bit on lock k. The call ends with that, unless it gives way.
@@ -151,6 +161,7 @@ impl<S: Shape> Desk<S> {
         requires undone { (pass.old.view.undo ≡ []) ⊎ (pass.old.view.phase ≡ Phase.Releasing) }
         requires begun { pass.old.view.phase ≢ Phase.Idle }
         ensures desk { pass.new.table ≡ pass.old.table }
+        ensures steps { pass.new.steps ≡ pass.old.steps + 1 }
         ensures step { pass.new.view
             ≡ (clear_read_bit_action (number pass.old.view) k pass.old.view).view 0 }
         ensures taken { (found : ℕ) × TakenIn (RuleHolds S.Shape self.now)
@@ -158,7 +169,7 @@ impl<S: Shape> Desk<S> {
             pass.new.view }
         ensures gone { ¬ HasBit pass.new.view k × ¬ HasReadGrant pass.new.view k }
     {
-        pass.clear_read_bit(&self.table.shared, k);
+        pass.clear_read_bit(&self.table, k);
     }
 
     /// Begins the pass's next call, and gives its number, from 1. What the pass has seen is the call's floor.
@@ -167,6 +178,7 @@ impl<S: Shape> Desk<S> {
         requires phase { pass.old.view.phase ≡ Phase.Idle }
         requires room { pass.old.view.call < LAST_CALL }
         ensures desk { pass.new.table ≡ pass.old.table }
+        ensures steps { pass.new.steps ≡ pass.old.steps + 1 }
         ensures number { result ≡ pass.old.view.call + 1 }
         ensures step { pass.new.view
             ≡ (begin_call_action (number pass.old.view) pass.old.view).view 0 }
@@ -176,7 +188,7 @@ impl<S: Shape> Desk<S> {
         ensures fits { ReadsArranged (AreGoodWords S.Shape self.now)
             self.now.seats self.now.base pass.new.view }
     {
-        pass.begin_call(&self.table.shared)
+        pass.begin_call(&self.table)
     }
 
     /// Loads the value of word a, under its lock. It is what the call's own events and all that was committed leave
@@ -188,6 +200,8 @@ impl<S: Shape> Desk<S> {
         requires word { a < length pass.old.view.base }
         requires granted { IsGranted pass.old.view (lock_of_word a) }
         ensures desk { pass.new.table ≡ pass.old.table }
+        ensures steps { pass.new.steps + flag (has (lock_of_word a) (locks_found pass.old.view.uses))
+            ≡ pass.old.steps + 2 }
         ensures event { pass.new.view
             ≡ record pass.old.view {
               trace = pass.old.view.trace ++ Read a result ∷ [];
@@ -198,8 +212,8 @@ impl<S: Shape> Desk<S> {
         ensures fits { ReadsArranged (AreGoodWords S.Shape self.now)
             self.now.seats self.now.base pass.new.view }
     {
-        pass.find_version(&self.table.shared, a);
-        pass.load_value(&self.table.shared, a)
+        pass.find_version(&self.table, a);
+        pass.load_value(&self.table, a)
     }
 
     /// Stores a value to word a in place, under its exclusive lock. The call has just read the word, and the value that
@@ -212,6 +226,7 @@ impl<S: Shape> Desk<S> {
         requires read { (before : List Event) × (old : ℕ)
             × (pass.old.view.trace ≡ before ++ Read a old ∷ []) }
         ensures desk { pass.new.table ≡ pass.old.table }
+        ensures steps { pass.new.steps ≡ pass.old.steps + 1 }
         ensures step { pass.new.view
             ≡ (store_value_action (number pass.old.view) a value pass.old.view).view 0 }
         ensures noted { (before : List Event) (old : ℕ)
@@ -221,7 +236,7 @@ impl<S: Shape> Desk<S> {
             (store_value_action (number pass.old.view) a value pass.old.view) pass.old.view found
             pass.new.view }
     {
-        pass.store_value(&self.table.shared, a, value);
+        pass.store_value(&self.table, a, value);
     }
 
     /// Writes the newest note back: word a gets the value that it had before the write. No entry with this write can
@@ -232,6 +247,7 @@ impl<S: Shape> Desk<S> {
         requires word { a < length pass.old.view.base }
         requires newest { (older : Notes) × (pass.old.view.undo ≡ older ++ (a, old) ∷ []) }
         ensures desk { pass.new.table ≡ pass.old.table }
+        ensures steps { pass.new.steps ≡ pass.old.steps + 1 }
         ensures step { pass.new.view
             ≡ (undo_store_action (number pass.old.view) a old pass.old.view).view 0 }
         ensures undone { (older : Notes) → pass.old.view.undo ≡ older ++ (a, old) ∷ []
@@ -240,10 +256,11 @@ impl<S: Shape> Desk<S> {
             (undo_store_action (number pass.old.view) a old pass.old.view) pass.old.view found
             pass.new.view }
     {
-        pass.undo_store(&self.table.shared, a, old);
+        pass.undo_store(&self.table, a, old);
     }
 
-    /// Gives the call its entry: one store to a word of its pass alone, which no other pass writes. Where `kept` is true
+    /// Gives the call its entry: one store to a word of its pass alone, which no other pass writes. The entry knew all that
+    /// the pass had seen, and so stands behind that in every arrangement. Where `kept` is true
     /// the call's writes stand, and the caller owes that they leave good words; where it is false they are undone
     /// already. The locks are released afterwards (strict two-phase locking), each with its next version where the call
     /// wrote it.
@@ -257,13 +274,16 @@ impl<S: Shape> Desk<S> {
             → AreGoodWords S.Shape self.now (after pass.old.view.trace words) }
         requires undone { kept ≡ false → pass.old.view.undo ≡ [] }
         ensures desk { pass.new.table ≡ pass.old.table }
+        ensures steps { pass.new.steps ≡ pass.old.steps + 1 }
         ensures entry { pass.new.view ≡ after_commit kept pass.old.view }
         ensures bounded { AreRestartsBounded self.now.seats (number pass.old.view) pass.old.view }
         ensures taken { (found : ℕ) × TakenIn (RuleHolds S.Shape self.now)
             (commit_call_action (number pass.old.view) kept pass.old.view) pass.old.view found
             pass.new.view }
+        ensures knew { (x : Entry) → IsIn x pass.old.view.seen
+            → Knew (entry_of kept pass.old.view) x }
     {
-        pass.commit_call(&self.table.shared, kept);
+        pass.commit_call(&self.table, kept);
     }
 
     /// Ends the call, once all its locks are released. A call that ends without an entry did nothing.
@@ -275,6 +295,7 @@ impl<S: Shape> Desk<S> {
         requires no_claim { (k : ℕ) → ¬ HasClaim pass.old.view k }
         requires undone { pass.old.view.undo ≡ [] }
         ensures desk { pass.new.table ≡ pass.old.table }
+        ensures steps { pass.new.steps ≡ pass.old.steps + 1 }
         ensures step { pass.new.view
             ≡ (clear_stamp_action (number pass.old.view) pass.old.view).view 0 }
         ensures bounded { AreRestartsBounded self.now.seats (number pass.old.view) pass.old.view }
@@ -282,7 +303,7 @@ impl<S: Shape> Desk<S> {
             (clear_stamp_action (number pass.old.view) pass.old.view) pass.old.view found
             pass.new.view }
     {
-        pass.clear_stamp(&self.table.shared);
+        pass.clear_stamp(&self.table);
     }
 
     /// Draws the call's timestamp from the clock. A call draws one once it met another, and keeps it while it lasts.
@@ -292,13 +313,14 @@ impl<S: Shape> Desk<S> {
         requires unjudged { pass.old.view.met ≢ [] }
         requires unstamped { pass.old.view.stamp ≡ 0 }
         ensures desk { pass.new.table ≡ pass.old.table }
+        ensures steps { pass.new.steps ≡ pass.old.steps + 1 }
         ensures step { pass.new.view
             ≡ record pass.old.view { stamp = result; draws = pass.old.view.draws + 1 } }
         ensures taken { (found : ℕ) × (result ≡ found + 1) × TakenIn (RuleHolds S.Shape self.now)
             (draw_stamp_action (number pass.old.view) pass.old.view) pass.old.view found
             pass.new.view }
     {
-        pass.draw_stamp(&self.table.shared)
+        pass.draw_stamp(&self.table)
     }
 
     /// Shows the call's timestamp to the other seats.
@@ -308,13 +330,14 @@ impl<S: Shape> Desk<S> {
         requires stamped { 0 < pass.old.view.stamp }
         requires unannounced { pass.old.view.announced ≡ false }
         ensures desk { pass.new.table ≡ pass.old.table }
+        ensures steps { pass.new.steps ≡ pass.old.steps + 1 }
         ensures step { pass.new.view
             ≡ (announce_stamp_action (number pass.old.view) pass.old.view).view 0 }
         ensures taken { (found : ℕ) × TakenIn (RuleHolds S.Shape self.now)
             (announce_stamp_action (number pass.old.view) pass.old.view) pass.old.view found
             pass.new.view }
     {
-        pass.announce_stamp(&self.table.shared);
+        pass.announce_stamp(&self.table);
     }
 
     /// Looks at the timestamp of a seat that the call met. The attempt gives way exactly where that is above 0 and
@@ -326,6 +349,7 @@ impl<S: Shape> Desk<S> {
         requires other { other < pass.old.view.seats }
         requires met { has other pass.old.view.met ≡ true }
         ensures desk { pass.new.table ≡ pass.old.table }
+        ensures steps { pass.new.steps ≡ pass.old.steps + 1 }
         ensures step { JudgedBy (RuleHolds S.Shape self.now) pass.old.view other result
             pass.new.view }
         ensures waits { result ≡ Judged.Wait
@@ -337,7 +361,7 @@ impl<S: Shape> Desk<S> {
             → newest (past_causes pass.new.view) ≡ Some (record { seat = other; stamp = stamp }) }
         ensures bounded { AreRestartsBounded self.now.seats (number pass.old.view) pass.new.view }
     {
-        pass.judge_stamp(&self.table.shared, other)
+        pass.judge_stamp(&self.table, other)
     }
 
     /// Whether the cause to which the attempt gave way is gone: its seat shows another timestamp than this. Then the
@@ -352,6 +376,7 @@ impl<S: Shape> Desk<S> {
         requires no_claim { (k : ℕ) → ¬ HasClaim pass.old.view k }
         requires undone { pass.old.view.undo ≡ [] }
         ensures desk { pass.new.table ≡ pass.old.table }
+        ensures steps { pass.new.steps ≡ pass.old.steps + 1 }
         ensures step { (found : ℕ) × (result ≡ not (found == stamp))
             × TakenIn (RuleHolds S.Shape self.now)
             (load_cause_stamp_action (number pass.old.view) other stamp pass.old.view)
@@ -365,7 +390,7 @@ impl<S: Shape> Desk<S> {
             → ReadsArranged (AreGoodWords S.Shape self.now)
             self.now.seats self.now.base pass.new.view }
     {
-        let shown = pass.load_cause_stamp(&self.table.shared, other, stamp);
+        let shown = pass.load_cause_stamp(&self.table, other, stamp);
         shown != stamp
     }
 }

@@ -16,8 +16,7 @@ ghost use Rattle.word_table.specs.Sound.{GroundHolds};
 use super::Pass;
 use crate::answer::{Judged, judged_by};
 use crate::layout::{PLACE_OF_CLOCK, place_of_stamp};
-use crate::rule::TableWords;
-use crate::step::Step;
+use crate::step::{Step, TableWords};
 use crate::{bits, step};
 use history_model::{Phase, Shape};
 
@@ -40,6 +39,7 @@ impl<S: Shape> Pass<S> {
         requires unjudged { self.old.view.met ≢ [] }
         requires unstamped { self.old.view.stamp ≡ 0 }
         ensures table { self.new.table ≡ self.old.table }
+        ensures steps { self.new.steps ≡ self.old.steps + 1 }
         ensures view { self.new.view
             ≡ record self.old.view { stamp = result; draws = self.old.view.draws + 1 } }
         ensures taken { (found : ℕ) × (result ≡ found + 1)
@@ -66,6 +66,7 @@ impl<S: Shape> Pass<S> {
         requires stamped { 0 < self.old.view.stamp }
         requires unannounced { self.old.view.announced ≡ false }
         ensures table { self.new.table ≡ self.old.table }
+        ensures steps { self.new.steps ≡ self.old.steps + 1 }
         ensures view { self.new.view
             ≡ (announce_stamp_action (number self.old.view) self.old.view).view 0 }
         ensures taken { (found : ℕ) × TakenIn (GroundHolds S.word_count S.good table.now.key)
@@ -93,6 +94,7 @@ impl<S: Shape> Pass<S> {
         requires other { other < self.old.view.seats }
         requires met { has other self.old.view.met ≡ true }
         ensures table { self.new.table ≡ self.old.table }
+        ensures steps { self.new.steps ≡ self.old.steps + 1 }
         ensures judged { JudgedBy (GroundHolds S.word_count S.good table.now.key) self.old.view
             other result self.new.view }
         ensures one { self.old.view.who ≡ number self.old.view ∷ [] }
@@ -126,6 +128,7 @@ impl<S: Shape> Pass<S> {
         requires no_claim { (k : ℕ) → ¬ HasClaim self.old.view k }
         requires undone { self.old.view.undo ≡ [] }
         ensures table { self.new.table ≡ self.old.table }
+        ensures steps { self.new.steps ≡ self.old.steps + 1 }
         ensures taken { TakenIn (GroundHolds S.word_count S.good table.now.key)
             (load_cause_stamp_action (number self.old.view) other stamp self.old.view) self.old.view
             result self.new.view }
@@ -158,6 +161,7 @@ impl<S: Shape> Pass<S> {
         requires no_claim { (k : ℕ) → ¬ HasClaim self.old.view k }
         requires undone { self.old.view.undo ≡ [] }
         ensures table { self.new.table ≡ self.old.table }
+        ensures steps { self.new.steps ≡ self.old.steps + 1 }
         ensures view { self.new.view
             ≡ (clear_stamp_action (number self.old.view) self.old.view).view 0 }
         ensures taken { (found : ℕ) × TakenIn (GroundHolds S.word_count S.good table.now.key)

@@ -3,7 +3,7 @@
 
 ghost use Rattle.std.specs.Prelude.{◌≡◌, ◌≢◌, ◌⊎◌, ◌<◌, ◌≤◌, ◌+◌, ℕ, [], ◌∷◌, false};
 ghost use Rattle.history_model.specs.Locks.{lock_of_word};
-ghost use Rattle.history_model.specs.Sets.{has};
+ghost use Rattle.history_model.specs.Sets.{flag, has};
 ghost use Rattle.history_model.specs.Views.{number, HasBit, HasClaim, IsGranted};
 ghost use Rattle.locks_rule.specs.Steps.{released_phase, set_read_bit_action, clear_read_bit_action, load_writer_action, claim_writer_action, scan_row_action, release_writer_action};
 ghost use Rattle.word_table.specs.Calls.{Looked, MakesSeen, ScannedBy, with_bit};
@@ -14,8 +14,7 @@ use super::Pass;
 use crate::answer::{Scanned, Shared, is_unclaimed, scanned_by, shared_by};
 use crate::layout::{place_of_bit, place_of_own_bit, place_of_writer};
 use crate::limits::MOST_PASSES;
-use crate::rule::TableWords;
-use crate::step::Step;
+use crate::step::{Step, TableWords};
 use crate::{bits, step};
 use history_model::{LOCKS, Phase, Shape, lock_of};
 
@@ -37,6 +36,7 @@ impl<S: Shape> Pass<S> {
         requires bit { ¬ IsGranted self.old.view (lock_of_word a)
             × ¬ HasBit self.old.view (lock_of_word a) }
         ensures table { self.new.table ≡ self.old.table }
+        ensures steps { self.new.steps ≡ self.old.steps + 1 }
         ensures view { self.new.view
             ≡ (set_read_bit_action (number self.old.view) (lock_of_word a) a self.old.view).view
             0 }
@@ -66,6 +66,7 @@ impl<S: Shape> Pass<S> {
         requires phase { self.old.view.phase ≡ Phase.Running }
         requires granted { ¬ IsGranted self.old.view (lock_of_word a) }
         ensures table { self.new.table ≡ self.old.table }
+        ensures steps { self.new.steps + flag (has (lock_of_word a) self.old.view.bits) ≡ self.old.steps + 1 }
         ensures view { self.new.view ≡ with_bit (lock_of_word a) a self.old.view }
         ensures seen { MakesSeen (GroundHolds S.word_count S.good table.now.key) self.old.view a }
         ensures phase { self.new.view.phase ≡ Phase.Running }
@@ -83,6 +84,7 @@ impl<S: Shape> Pass<S> {
         requires phase { self.old.view.phase ≡ Phase.Running }
         requires bit { HasBit self.old.view (lock_of_word a) }
         ensures table { self.new.table ≡ self.old.table }
+        ensures steps { self.new.steps ≡ self.old.steps + 1 }
         ensures taken { TakenIn (GroundHolds S.word_count S.good table.now.key)
             (load_writer_action (number self.old.view) (lock_of_word a) a self.old.view)
             self.old.view result self.new.view }
@@ -111,6 +113,7 @@ impl<S: Shape> Pass<S> {
         requires phase { self.old.view.phase ≡ Phase.Running }
         requires bit { HasBit self.old.view (lock_of_word a) }
         ensures table { self.new.table ≡ self.old.table }
+        ensures steps { self.new.steps ≡ self.old.steps + 1 }
         ensures looked { Looked (GroundHolds S.word_count S.good table.now.key) self.old.view a
             result self.new.view }
         ensures one { self.old.view.who ≡ number self.old.view ∷ [] }
@@ -126,6 +129,7 @@ impl<S: Shape> Pass<S> {
         requires phase { self.old.view.phase ≡ Phase.Running }
         requires claim { ¬ HasClaim self.old.view (lock_of_word a) }
         ensures table { self.new.table ≡ self.old.table }
+        ensures steps { self.new.steps ≡ self.old.steps + 1 }
         ensures taken { TakenIn (GroundHolds S.word_count S.good table.now.key)
             (claim_writer_action (number self.old.view) (lock_of_word a) a self.old.view)
             self.old.view result self.new.view }
@@ -160,6 +164,7 @@ impl<S: Shape> Pass<S> {
         requires claim { (k < LOCKS) × HasClaim self.old.view k }
         requires other { (other < self.old.view.seats) × (other ≢ number self.old.view) }
         ensures table { self.new.table ≡ self.old.table }
+        ensures steps { self.new.steps ≡ self.old.steps + 1 }
         ensures taken { TakenIn (GroundHolds S.word_count S.good table.now.key)
             (scan_row_action (number self.old.view) k other self.old.view) self.old.view result
             self.new.view }
@@ -187,6 +192,7 @@ impl<S: Shape> Pass<S> {
         requires claim { (k < LOCKS) × HasClaim self.old.view k }
         requires other { (other < self.old.view.seats) × (other ≢ number self.old.view) }
         ensures table { self.new.table ≡ self.old.table }
+        ensures steps { self.new.steps ≡ self.old.steps + 1 }
         ensures scanned { ScannedBy (GroundHolds S.word_count S.good table.now.key) self.old.view k
             other result self.new.view }
         ensures one { self.old.view.who ≡ number self.old.view ∷ [] }
@@ -203,6 +209,7 @@ impl<S: Shape> Pass<S> {
         requires begun { self.old.view.phase ≢ Phase.Idle }
         requires unowed { has k self.old.view.owed ≡ false }
         ensures table { self.new.table ≡ self.old.table }
+        ensures steps { self.new.steps ≡ self.old.steps + 1 }
         ensures view { self.new.view
             ≡ (release_writer_action (number self.old.view) k self.old.view).view 0 }
         ensures taken { (found : ℕ) × TakenIn (GroundHolds S.word_count S.good table.now.key)
@@ -232,6 +239,7 @@ impl<S: Shape> Pass<S> {
         requires undone { (self.old.view.undo ≡ []) ⊎ (self.old.view.phase ≡ Phase.Releasing) }
         requires begun { self.old.view.phase ≢ Phase.Idle }
         ensures table { self.new.table ≡ self.old.table }
+        ensures steps { self.new.steps ≡ self.old.steps + 1 }
         ensures view { self.new.view
             ≡ (clear_read_bit_action (number self.old.view) k self.old.view).view 0 }
         ensures taken { (found : ℕ) × TakenIn (GroundHolds S.word_count S.good table.now.key)

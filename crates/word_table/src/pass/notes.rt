@@ -5,7 +5,7 @@ ghost use Rattle.locks_rule.specs.Joins.{gains};
 
 use super::Pass;
 use crate::notes::{GivesNote, MeetsNote, Note};
-use crate::rule::TableWords;
+use crate::step::{self, TableWords};
 use history_model::{Phase, Shape};
 use std::marker::PhantomData;
 
@@ -18,7 +18,7 @@ impl<S: Shape> Pass<S> {
         ensures table { result.table ≡ table.now.table_id }
         ensures seen { result.seen ≡ self.old.view.seen }
     {
-        let seat = table.split_seat::<GivesNote>(&mut self.seat);
+        let seat = step::split::<S, GivesNote>(table, &mut self.seat);
         Note {
             seat,
             shape: PhantomData,
@@ -31,10 +31,11 @@ impl<S: Shape> Pass<S> {
         requires note { note.table ≡ table.now.table_id }
         requires phase { self.old.view.phase ≡ Phase.Idle }
         ensures table { self.new.table ≡ self.old.table }
+        ensures steps { self.new.steps ≡ self.old.steps }
         ensures view { self.new.view
             ≡ record self.old.view { seen = gains self.old.view.seen note.seen; met = [] } }
     {
         let Note { seat, shape: _ } = note;
-        table.join_seat::<MeetsNote>(&mut self.seat, seat);
+        step::join::<S, MeetsNote>(table, &mut self.seat, seat);
     }
 }

@@ -1,6 +1,8 @@
 //! The steps of a pass with which a call begins, reads, writes, undoes and gets its entry.
 
 ghost use Rattle.std.specs.Prelude.{◌≡◌, ◌<◌, ◌+◌, ℕ, true, false, length, [], ◌∷◌, ◌++◌, List};
+ghost use Rattle.history_model.specs.declared.entry.Entry.{Entry};
+ghost use Rattle.history_model.specs.Legal.{IsIn};
 ghost use Rattle.history_model.specs.Locks.{lock_of_word};
 ghost use Rattle.history_model.specs.Views.{number, HasWriteGrant, IsGranted};
 ghost use Rattle.history_model.specs.declared.event.Event.{Event};
@@ -11,7 +13,8 @@ ghost use Rattle.history_model.specs.Traces.{after, IsLegalTrace};
 ghost use Rattle.history_model.specs.Undoing.{Notes};
 ghost use Rattle.values_rule.specs.Steps.{undoing_phase, begin_call_action, load_value_action, store_value_action, undo_store_action};
 ghost use Rattle.stamps_rule.specs.Stamps.{AreRestartsBounded};
-ghost use Rattle.values_rule.specs.Steps.{commit_call_action};
+ghost use Rattle.values_rule.specs.Records.{Knew};
+ghost use Rattle.values_rule.specs.Steps.{commit_call_action, entry_of};
 ghost use Rattle.word_table.specs.Calls.{ReadsArranged};
 ghost use Rattle.word_table.specs.Kinds.{TakenIn};
 ghost use Rattle.word_table.specs.Sound.{GroundHolds};
@@ -20,8 +23,7 @@ ghost use Rattle.word_table.specs.Versions.{HasUse};
 use super::Pass;
 use crate::layout::{place_of_calls, place_of_commit, place_of_value};
 use crate::limits::LAST_CALL;
-use crate::rule::TableWords;
-use crate::step::Step;
+use crate::step::{Step, TableWords};
 use crate::{bits, step};
 use history_model::{Phase, Shape, lock_of};
 
@@ -44,6 +46,7 @@ impl<S: Shape> Pass<S> {
         requires phase { self.old.view.phase ≡ Phase.Idle }
         requires room { self.old.view.call < LAST_CALL }
         ensures table { self.new.table ≡ self.old.table }
+        ensures steps { self.new.steps ≡ self.old.steps + 1 }
         ensures number { result ≡ self.old.view.call + 1 }
         ensures view { self.new.view
             ≡ (begin_call_action (number self.old.view) self.old.view).view 0 }
@@ -79,6 +82,7 @@ impl<S: Shape> Pass<S> {
         requires granted { IsGranted self.old.view (lock_of_word a) }
         requires used { HasUse self.old.view (lock_of_word a) }
         ensures table { self.new.table ≡ self.old.table }
+        ensures steps { self.new.steps ≡ self.old.steps + 1 }
         ensures taken { TakenIn (GroundHolds S.word_count S.good table.now.key)
             (load_value_action (number self.old.view) a self.old.view) self.old.view result
             self.new.view }
@@ -106,6 +110,7 @@ impl<S: Shape> Pass<S> {
         requires read { (before : List Event) × (old : ℕ)
             × (self.old.view.trace ≡ before ++ Read a old ∷ []) }
         ensures table { self.new.table ≡ self.old.table }
+        ensures steps { self.new.steps ≡ self.old.steps + 1 }
         ensures view { self.new.view
             ≡ (store_value_action (number self.old.view) a value self.old.view).view 0 }
         ensures taken { (found : ℕ) × TakenIn (GroundHolds S.word_count S.good table.now.key)
@@ -133,6 +138,7 @@ impl<S: Shape> Pass<S> {
         requires word { a < length self.old.view.base }
         requires newest { (older : Notes) × (self.old.view.undo ≡ older ++ (a, old) ∷ []) }
         ensures table { self.new.table ≡ self.old.table }
+        ensures steps { self.new.steps ≡ self.old.steps + 1 }
         ensures view { self.new.view
             ≡ (undo_store_action (number self.old.view) a old self.old.view).view 0 }
         ensures taken { (found : ℕ) × TakenIn (GroundHolds S.word_count S.good table.now.key)
@@ -167,6 +173,7 @@ impl<S: Shape> Pass<S> {
             (after self.old.view.trace words) }
         requires undone { kept ≡ false → self.old.view.undo ≡ [] }
         ensures table { self.new.table ≡ self.old.table }
+        ensures steps { self.new.steps ≡ self.old.steps + 1 }
         ensures view { self.new.view
             ≡ (commit_call_action (number self.old.view) kept self.old.view).view 0 }
         ensures taken { (found : ℕ) × TakenIn (GroundHolds S.word_count S.good table.now.key)
@@ -174,6 +181,8 @@ impl<S: Shape> Pass<S> {
             self.new.view }
         ensures bounded { AreRestartsBounded table.now.key.seats (number self.old.view)
             self.old.view }
+        ensures knew { (x : Entry) → IsIn x self.old.view.seen
+            → Knew (entry_of kept self.old.view) x }
     {
         self.call.phase = Phase::Releasing;
         bits::clear_unless(&mut self.locks.versions.written, kept);

@@ -4,7 +4,7 @@
 ghost use Rattle.std.specs.Prelude.{◌≡◌, ◌≢◌, ◌⊎◌, ◌<◌, ◌+◌, ℕ, true, false, []};
 ghost use Rattle.history_model.specs.Legal.{IsIn};
 ghost use Rattle.history_model.specs.Locks.{lock_of_word};
-ghost use Rattle.history_model.specs.Sets.{has};
+ghost use Rattle.history_model.specs.Sets.{flag, has};
 ghost use Rattle.history_model.specs.Views.{number, HasClaim, IsGranted};
 ghost use Rattle.locks_rule.specs.Versions.{load_version_action, store_version_action};
 ghost use Rattle.word_table.specs.Calls.{FindsVersion, Pays, paid};
@@ -14,8 +14,7 @@ ghost use Rattle.word_table.specs.Versions.{HasUse, locks_found};
 
 use super::Pass;
 use crate::layout::place_of_version;
-use crate::rule::TableWords;
-use crate::step::Step;
+use crate::step::{Step, TableWords};
 use crate::{bits, step};
 use history_model::{LOCKS, Phase, Shape, lock_of};
 
@@ -29,6 +28,7 @@ impl<S: Shape> Pass<S> {
         requires granted { IsGranted self.old.view (lock_of_word a) }
         requires unused { has (lock_of_word a) (locks_found self.old.view.uses) ≡ false }
         ensures table { self.new.table ≡ self.old.table }
+        ensures steps { self.new.steps ≡ self.old.steps + 1 }
         ensures taken { (found : ℕ) × TakenIn (GroundHolds S.word_count S.good table.now.key)
             (load_version_action (number self.old.view) (lock_of_word a) self.old.view)
             self.old.view found self.new.view }
@@ -54,6 +54,8 @@ impl<S: Shape> Pass<S> {
         requires phase { self.old.view.phase ≡ Phase.Running }
         requires granted { IsGranted self.old.view (lock_of_word a) }
         ensures table { self.new.table ≡ self.old.table }
+        ensures steps { self.new.steps + flag (has (lock_of_word a) (locks_found self.old.view.uses))
+            ≡ self.old.steps + 1 }
         ensures view { self.new.view ≡ record self.old.view { uses = self.new.view.uses } }
         ensures used { HasUse self.new.view (lock_of_word a) }
         ensures finds { FindsVersion (GroundHolds S.word_count S.good table.now.key)
@@ -72,6 +74,7 @@ impl<S: Shape> Pass<S> {
         requires phase { self.old.view.phase ≡ Phase.Releasing }
         requires owed { has k self.old.view.owed ≡ true }
         ensures table { self.new.table ≡ self.old.table }
+        ensures steps { self.new.steps ≡ self.old.steps + 1 }
         ensures view { self.new.view ≡ paid k self.old.view }
         ensures taken { (version : ℕ) × (IsIn (k, version) self.old.view.uses × ((found : ℕ)
             × TakenIn (GroundHolds S.word_count S.good table.now.key)
@@ -101,6 +104,7 @@ impl<S: Shape> Pass<S> {
         requires undone { (self.old.view.undo ≡ []) ⊎ (self.old.view.phase ≡ Phase.Releasing) }
         requires begun { self.old.view.phase ≢ Phase.Idle }
         ensures table { self.new.table ≡ self.old.table }
+        ensures steps { self.new.steps ≡ self.old.steps + flag (has k self.old.view.owed) }
         ensures view { self.new.view ≡ paid k self.old.view }
         ensures pays { Pays (GroundHolds S.word_count S.good table.now.key) k self.old.view }
     {

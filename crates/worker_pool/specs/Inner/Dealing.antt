@@ -6,7 +6,7 @@ use Rattle.crossbeam_deque.specs.Handles.{Pass, view, IsPassOf, stealer_deque, s
 use Rattle.worker_pool.specs.declared.rule.Deal.{Deal}
 use Rattle.worker_pool.specs.declared.rule.TheConstants.{ALL_PARTS}
 use Rattle.worker_pool.specs.Counting.{times, once_below}
-use Rattle.worker_pool.specs.Inner.Deals.{deal}
+use Rattle.worker_pool.specs.Deques.{deal}
 
 -- the number where it is deque k's turn, among so many, for caller x; and else 0
 abbrev pub at_turn : ℕ → ℕ → ℕ → ℕ → ℕ

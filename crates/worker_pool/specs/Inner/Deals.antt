@@ -4,10 +4,6 @@ use Rattle.worker_pool.specs.declared.rule.Deal.{Deal}
 use Rattle.worker_pool.specs.declared.rule.TheConstants.{ALL_PARTS}
 use Rattle.worker_pool.specs.Counting.{times}
 
--- so many parts of a deque, and what was dealt to it and taken from it
-abbrev pub deal : ℕ → List ℕ → List ℕ → Deal
-deal parts dealt taken = record { parts = parts; dealt = dealt; taken = taken }
-
 -- how often caller x was taken, and dealt. Who has no part counts for nothing
 abbrev pub took : ℕ → Deal → ℕ
 took x v = if v.parts == 0 then 0 else times x v.taken

@@ -36,7 +36,7 @@ text_of-requires-clause-day g c =
     (day_made c.args.input.now closed c.in_ok-done.done.items c.args.workers shape c.in_ok-closed.field-0.done.items
     c.in_ok-done.ensures
     (record { seats_are = e.closed.1; in_order = e.in_order; once = e.once; entries = e.entries; below = e.below; dealt = e.seats })
-    sized e.closed.2 opening)
+    c.callers-callers.ensures.valid sized e.closed.2 opening)
 
 pub returns-clause-coherent : goal.returns-clause-coherent
 returns-clause-coherent g c =
@@ -60,7 +60,7 @@ returns-clause-day g c =
     day_made c.args.input.now closed c.in_ok-done.done.items c.args.workers shape c.in_ok-closed.field-0.done.items
     c.in_ok-done.ensures
     (record { seats_are = e.closed.1; in_order = e.in_order; once = e.once; entries = e.entries; below = e.below; dealt = e.seats })
-    sized e.closed.2 opening
+    c.callers-callers.ensures.valid sized e.closed.2 opening
 
 pub returns-clause-dealt : goal.returns-clause-dealt
 returns-clause-dealt g c =

@@ -21,6 +21,7 @@ pub returns-clause-run : goal.returns-clause-run
 returns-clause-run g c =
     let run = c.in_ok-closed.ensures in
     record {
+      shape = run.shape;
       began = run.began;
       seats = run.seats;
       coherent = run.coherent;

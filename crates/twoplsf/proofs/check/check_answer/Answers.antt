@@ -1,11 +1,12 @@
-use Rattle.std.proofs.Common.{◌-◌, ◌++◌, ℕ, List, length, take, drop, sym, ap, ◌∙◌, take-append-drop}
+use Rattle.std.proofs.Common.{◌-◌, ◌++◌, ℕ, List, length, take, drop, sym, ap, ◌∙◌, Err, inl, take-append-drop}
 use Rattle.std.proofs.lemmas.List.{take_rest}
 use Rattle.std.proofs.lemmas.Result.{IfOk-weaker}
+use Rattle.script_reader.specs.Faults.{IsFrontFault}
 use Rattle.script_reader.specs.Input.{ClearingInput}
 use Rattle.script_reader.specs.Grammar.{Spells, AreTwoTexts}
-use Rattle.twoplsf.specs.declared.answer.Answer.{Answer}
-use Rattle.twoplsf.specs.declared.answer.Answer.TheVariants.{Agrees, Difference}
-use Rattle.twoplsf.specs.Answer.{IsCheckOf, IsComparison}
+use Rattle.twoplsf.specs.Answer.{IsComparisonOf}
+use Rattle.twoplsf.proofs.Serving.{refusing}
+use Rattle.twoplsf.proofs.Served.{no_front}
 use Rattle.twoplsf.proofs.check.check_answer.Goals as goal
 
 -- what is read of bytes, and the rest of them
@@ -17,14 +18,16 @@ two_texts bytes input end spelled = record {
   bytes_are = sym (take-append-drop end bytes) ∙ ap (λ l. take end bytes ++ l) (sym (take_rest bytes end));
 }
 
--- what is said of the rest of bytes is said of the bytes
-check_of : (bytes : List ℕ) (input : ClearingInput) (end : ℕ) → Spells (take end bytes) input
-    → (answer : Answer) → IsComparison input (take (length bytes - end) (drop end bytes)) answer → IsCheckOf bytes answer
-check_of bytes input end spelled (Agrees text) (output, said) =
-    (record { input = input; text = take (length bytes - end) (drop end bytes); two = two_texts bytes input end spelled; output = output }, said)
-check_of bytes input end spelled (Difference text) (line, wrong, said) =
-    (line, record { input = input; text = take (length bytes - end) (drop end bytes); two = two_texts bytes input end spelled; wrong = wrong }, said)
-check_of bytes input end spelled _ none = absurd none
-
 pub returns : goal.returns
-returns c = IfOk-weaker c.compare.result _ _ (check_of c.args.bytes.now c.in-Ok.front.0 c.in-Ok.front.1 c.in-Ok.ensures.ok.1) c.compare.ensures
+returns c =
+    let bytes = c.args.bytes.now in let input = c.in-Ok.front.0 in let end = c.in-Ok.front.1 in
+    IfOk-weaker c.compare.result _ _
+    (λ answer said. inl ((input, take (length bytes - end) (drop end bytes)), two_texts bytes input end c.in-Ok.ensures.ok.1, said)) c.compare.ensures
+
+pub returns-in-Err-Line : goal.returns-in-Err-Line
+returns-in-Err-Line c =
+    let line = c.in-Err-Line.line in let why = c.in-Err-Line.why in let bytes = c.args.bytes.now in
+    let first = c.read_front.ensures.refused line why (c.in-Err-Line.is ∙ ap Err c.in-Err-Line.field-0-is) in
+    IfOk-weaker c.refusal.result _ _
+    (refusing (λ (bytes : List ℕ) (two : ClearingInput × List ℕ). AreTwoTexts bytes two.0 two.1) IsFrontFault IsComparisonOf bytes line why first
+    (no_front bytes line why first)) c.refusal.ensures

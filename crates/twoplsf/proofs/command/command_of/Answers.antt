@@ -1,14 +1,20 @@
-use Rattle.std.proofs.Common.{ℕ, List, map, inl, inr}
-use Rattle.std.specs.String.{string_bytes}
-use Rattle.twoplsf.specs.Command.{IsMaking, IsReading, IsValidCommand}
-use Rattle.twoplsf.proofs.Commands.{in_none}
+use Rattle.std.proofs.Common.{◌≡◌, rules, arith, length}
+use Rattle.std.proofs.lemmas.Grind.{common_steps}
+use Rattle.script_reader.specs.Text.{number}
+use Rattle.twoplsf.specs.Command.{texts_of}
+use Rattle.twoplsf.proofs.Commands.{five_words, in_none}
 use Rattle.twoplsf.proofs.command.command_of.Goals as goal
 
--- words that are neither a command that reads nor one that does not are none
-neither : (words : List (List ℕ)) → (IsReading words → ⊥) → (IsMaking words → ⊥) → IsValidCommand words → ⊥
-neither words reads makes (inl reading) = reads reading
-neither words reads makes (inr making) = makes making
-
-pub returns-in_err-making-clause-none : goal.returns-in_err-making-clause-none
-returns-in_err-making-clause-none c =
-    in_none c.from_residual.result _ (neither (map string_bytes c.args.words.now) c.in_default.ensures.none c.in_err-making.ensures.none)
+pub returns-in_err-workers-in-drill-len4-clause-none : goal.returns-in_err-workers-in-drill-len4-clause-none
+returns-in_err-workers-in-drill-len4-clause-none c =
+    let words = texts_of c.args.words.now in
+    in_none c.from_residual-in_err-workers-in-drill-len4.result _ (λ valid.
+    let five : length words ≡ 5 = first_of (search rules, grind (arith, common_steps)) in
+    let drill = five_words words five valid in
+    let none = c.in_err-workers-in-drill-len4.ensures.none drill.0 drill.1 drill.2 drill.3 in
+    let are = drill.4.words_are in
+    let w : c.as_bytes-in-drill-len4.result.now ≡ number drill.0 = first_of (search rules, grind (arith, common_steps)) in
+    let s : c.as_bytes-in-drill-len4-2.result.now ≡ number drill.1 = first_of (search rules, grind (arith, common_steps)) in
+    let k : c.as_bytes-in-drill-len4-3.result.now ≡ number drill.2 = first_of (search rules, grind (arith, common_steps)) in
+    let n : c.as_bytes-in-drill-len4-4.result.now ≡ number drill.3 = first_of (search rules, grind (arith, common_steps)) in
+    none w drill.4.workers_range (record { seed_is = s; callers_is = k; scripts_is = n; range = drill.4.range }))

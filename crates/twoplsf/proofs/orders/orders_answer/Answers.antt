@@ -1,10 +1,14 @@
 use Rattle.std.proofs.Common.{Err, ap, ◌∙◌}
+use Rattle.std.proofs.lemmas.Result.{IfOk-weaker}
+use Rattle.order_text.specs.Grammar.{SpellsOrders, IsOrderFault}
+use Rattle.twoplsf.specs.Answer.{IsOrdersRunOf}
+use Rattle.twoplsf.proofs.Serving.{refusing}
+use Rattle.twoplsf.proofs.Served.{no_orders}
 use Rattle.twoplsf.proofs.orders.orders_answer.Goals as goal
 
-pub returns-in_ok-refusal_of-in-Err-Line : goal.returns-in_ok-refusal_of-in-Err-Line
-returns-in_ok-refusal_of-in-Err-Line g c = record {
-  number = c.in-Err-Line.line;
-  why = c.in-Err-Line.why;
-  first = c.read_orders.ensures.refused c.in-Err-Line.line c.in-Err-Line.why (c.in-Err-Line.is ∙ ap Err c.in-Err-Line.field-0-is);
-  text_is = c.in_ok-refusal_of-in-Err-Line.ensures;
-}
+pub returns-in-Err-Line : goal.returns-in-Err-Line
+returns-in-Err-Line g c =
+    let line = c.in-Err-Line.line in let why = c.in-Err-Line.why in let bytes = c.args.bytes.now in
+    let first = c.read_orders.ensures.refused line why (c.in-Err-Line.is ∙ ap Err c.in-Err-Line.field-0-is) in
+    IfOk-weaker c.refusal.result _ _
+    (refusing SpellsOrders IsOrderFault (IsOrdersRunOf c.args.workers) bytes line why first (no_orders bytes line why first)) c.refusal.ensures

@@ -1,8 +1,9 @@
+use Rattle.std.proofs.Common.{inl}
 use Rattle.script_reader.specs.Grammar.{BeginWithInput, IsValidInput}
 use Rattle.twoplsf.specs.Orders.{IsOrdersText}
 use Rattle.twoplsf.specs.Records.{IsRecordsText}
 use Rattle.twoplsf.specs.declared.status.Status.TheVariants as status
-use Rattle.twoplsf.proofs.Endings.{one_status, one_of_two, ends_in_two, ends_in_three, where_ok}
+use Rattle.twoplsf.proofs.Endings.{one_status, one_of_two, ends_in_two, ends_in_three, some_with, where_ok}
 use Rattle.twoplsf.proofs.program.run_program.Goals as goal
 
 pub returns-in-Ok-clause-headline : goal.returns-in-Ok-clause-headline
@@ -32,22 +33,19 @@ returns-in-Ok-clause-complete_orders g c =
     where_ok _ c.in-Ok.is (λ orders. ends_in_two IsOrdersText _ _ c.code.result c.serve.result.status status.Done
     status.OutOfMemory _ c.code.ensures (complete orders))
 
+pub returns-in-Ok-clause-day : goal.returns-in-Ok-clause-day
+returns-in-Ok-clause-day g c =
+    let served = rw c.deref.ensures.value at c.serve.ensures.served in
+    where_ok _ c.in-Ok.is (λ run done.
+    let is = one_status c.code.result c.serve.result.status status.Done c.code.ensures done in
+    some_with c.serve.result.day _ (served.has_day.1 (inl run, is)) (served.day run))
+
 pub returns-in-Ok-clause-served : goal.returns-in-Ok-clause-served
 returns-in-Ok-clause-served g c = where_ok _ c.in-Ok.is (record {
-  is = c.serve.result.status;
+  result = c.serve.result;
   number_is = c.code.ensures;
-  text = rw c.deref.ensures.value at c.serve.ensures.text;
-  read_fault = c.serve.ensures.read_fault;
-  write_fault = c.serve.ensures.write_fault;
-  words_first = rw c.deref.ensures.value at c.serve.ensures.words_first;
-  above_limit = c.serve.ensures.above_limit;
+  served = rw c.deref.ensures.value at c.serve.ensures.served;
 })
-
-pub returns-in-Ok-clause-unread : goal.returns-in-Ok-clause-unread
-returns-in-Ok-clause-unread g c = where_ok _ c.in-Ok.is (rw c.deref.ensures.value at c.serve.ensures.unread)
-
-pub returns-in-Ok-clause-words_source : goal.returns-in-Ok-clause-words_source
-returns-in-Ok-clause-words_source g c = where_ok _ c.in-Ok.is (rw c.deref.ensures.value at c.serve.ensures.words_source)
 
 pub returns-in-Ok-clause-complete : goal.returns-in-Ok-clause-complete
 returns-in-Ok-clause-complete g c =

@@ -1,13 +1,27 @@
-use Rattle.std.proofs.Common.{subst}
+use Rattle.std.proofs.Common.{◌+◌, subst, arith}
 use Rattle.std.specs.Ordering.{nat_cmp}
 use Rattle.std.specs.FinMap as entry_map
+use Rattle.txn_tree_map.proofs.Inserts.SpineSteps.{spine_above}
+use Rattle.txn_books.specs.Layout.{tree_of}
 use Rattle.txn_books.specs.Inner.Reading.{nothing_yet}
+use Rattle.txn_books.proofs.OneState.States.{tree_apart}
 use Rattle.txn_books.specs.Inner.Building.{IsBuilt, above}
 use Rattle.txn_books.proofs.ReadOff.Growing.{number_next, one_less, accounts_first, account_step, accounts_done}
 use Rattle.txn_books.proofs.building.add_accounts.Goals as goal
 
+pub empty_spine-spine-requires : goal.empty_spine-spine-requires
+empty_spine-spine-requires c =
+    let stand = c.requires.nothing.stands in
+    rw (c.tree.ensures, c.deref.ensures.value)
+    (stand.parts.tree_used, (tree_apart c.args.shape.now c.args.words.items (nothing_yet c.args.books.now) stand).map)
+
 pub loop-account-init : goal.loop-account-init
-loop-account-init c = record { done = entry_map.empty; built = c.requires.nothing; left = accounts_first c.args.books.now c.ranges-2.ensures }
+loop-account-init c = record {
+  done = entry_map.empty;
+  built = c.requires.nothing;
+  spine = rw (c.tree.ensures, c.deref.ensures.value) at c.empty_spine-spine.ensures 1;
+  left = accounts_first c.args.books.now c.ranges-2.ensures;
+}
 
 pub add_account-requires-clause-books : goal.add_account-requires-clause-books
 add_account-requires-clause-books c =
@@ -17,6 +31,11 @@ add_account-requires-clause-books c =
       c.in-Some.cash,
     ) c.in-Some.ensures.first in
     (record (nothing_yet c.args.books.now) { accounts = was.done }, was.built, k.absent, k.room)
+
+pub add_account-requires-clause-spine : goal.add_account-requires-clause-spine
+add_account-requires-clause-spine c =
+    spine_above (tree_of c.args.shape.now) (c.loop-account.last + 1) c.in-Some.account c.loop-account.words.items c.loop-account.spine
+    (omega (arith, c.in-Some.ensures.least.0)) c.loop-account.invariant.spine
 
 pub loop-account-smaller : goal.loop-account-smaller
 loop-account-smaller c =
@@ -34,7 +53,8 @@ loop-account-preserved c =
     ) c.in-Some.ensures.first in
     record {
       done = entry_map.insert was.done c.in-Some.account c.in-Some.cash;
-      built = c.in_ok-words.ensures (record (nothing_yet c.args.books.now) { accounts = was.done }) was.built;
+      built = c.in_ok-words.ensures.built (record (nothing_yet c.args.books.now) { accounts = was.done }) was.built;
+      spine = c.in_ok-words.ensures.spine;
       left = k.rest.adds;
     }
 

@@ -1,16 +1,19 @@
-use Rattle.std.proofs.Common.{length}
+use Rattle.std.proofs.Common.{◌+◌, length}
 use Rattle.std.specs.Ordering.{nat_cmp}
 use Rattle.std.specs.FinMap as entry_map
 use Rattle.txn_alloc.specs.EntryMaps.{Entries}
+use Rattle.txn_tree_map.specs.Spines.{HasSpine}
+use Rattle.txn_books.specs.Layout.{tree_of}
 use Rattle.txn_books.specs.Inner.Reading.{AddsUp, nothing_yet}
 use Rattle.txn_books.specs.Inner.Building.{IsBuilt, above}
 use Rattle.txn_books.proofs.building.add_accounts.Given as goal
 
--- the accounts up to the last one are in, and those above it make the rest
+-- the accounts up to the last one are in, the spine is that of their tree, and those above it make the rest
 abbrev pub invariant-loop-account : goal.invariant-loop-account
 invariant-loop-account l = record {
   done : Entries;
   built : IsBuilt l.shape l.words.items (record (nothing_yet l.books) { accounts = done });
+  spine : HasSpine (tree_of l.shape) (l.last + 1) l.words.items l.spine;
   left : AddsUp done (above nat_cmp l.last (entry_map.entries l.books.accounts)) l.books.accounts;
 }
 

@@ -14,7 +14,7 @@ add_position-requires-clause-books c =
     let was = c.loop-account.invariant in
     let k = (position_step c.args.books.now c.ranges-2.ensures was.done c.loop-account.last was.left c.in-Some.account
     c.in-Some.instrument c.in-Some.quantity c.in-Some.ensures.first).0 in
-    (record (with_prices c.args.books.now) { positions = was.done }, was.built, k.owner, k.price, k.room)
+    (record (with_prices c.args.books.now) { positions = was.done }, was.built, k.owner, k.price, k.absent, k.room)
 
 pub add_position-requires-clause-quantity : goal.add_position-requires-clause-quantity
 add_position-requires-clause-quantity c =

@@ -16,7 +16,7 @@ add_price-requires-clause-books c =
     let was = c.loop-instrument.invariant in
     let k = (price_step c.args.books.now c.ranges-2.ensures was.done c.loop-instrument.last was.left
     (c.in-Some.instrument, c.in-Some.price) c.in-Some.ensures.first).0 in
-    (record (with_accounts c.args.books.now) { prices = was.done }, was.built, k.room)
+    (record (with_accounts c.args.books.now) { prices = was.done }, was.built, k.absent, k.room)
 
 pub add_price-requires-clause-instrument : goal.add_price-requires-clause-instrument
 add_price-requires-clause-instrument c =

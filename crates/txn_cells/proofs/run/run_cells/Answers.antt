@@ -82,4 +82,4 @@ pub returns-in-Ok-clause-rounds : goal.returns-in-Ok-clause-rounds
 returns-in-Ok-clause-rounds g c = have_rounds c.args.workers c.args.rounds c.in-Ok.closed (closed g c)
 
 pub returns-in-Ok-clause-sums : goal.returns-in-Ok-clause-sums
-returns-in-Ok-clause-sums g c = summed_up c.args.workers c.args.rounds c.in-Ok.closed (closed g c)
+returns-in-Ok-clause-sums g c = summed_up c.args.workers c.args.rounds c.in-Ok.closed (closed g c) c.requires.workers.1 c.requires.rounds.1

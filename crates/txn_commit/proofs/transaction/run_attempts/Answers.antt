@@ -106,6 +106,7 @@ returns-in-Ok g c = let inv = c.loop-restarts.invariant in let first = c.args.at
           ∙ (ap (λ (p : PassView). length p.view.abandoned) (same_pass ran.desk.now at.desk.now ran.pass.ghost_name
           at.pass.ghost_name ran.began.value at.began.value c.run.ensures.origin ∙ inv.began) ∙ inv.restarts))
           c.in-Ok-settle.ensures.uses
+          c.in-Ok-settle.ensures.knew
           (meant (g.J.Job.means c.args.job.now) g.S.Shape.word_count g.S.Shape.good ran.desk.now.shape
           (g.J.Job.shape c.args.job.now) ran.pass.now.view.trace (is_kept c.in-Ok.verdict) c.decision-kept.result.0
           (answer_of c.in-Ok.verdict) c.decision-kept.result.1

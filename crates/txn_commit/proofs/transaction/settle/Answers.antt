@@ -3,7 +3,7 @@ use Rattle.history_model.specs.declared.view.View.{View}
 use Rattle.history_model.specs.Fitting.{IsGood}
 use Rattle.history_model.specs.Traces.{Trace, IsLegalTrace, after}
 use Rattle.history_model.proofs.Traces.TraceLaws.{length-after}
-use Rattle.txn_commit.proofs.Settling.{lists_since}
+use Rattle.txn_commit.proofs.Settling.{knew_since, lists_since}
 use Rattle.txn_commit.proofs.transaction.settle.Goals as goal
 
 pub commit-requires-clause-leaves_good : goal.commit-requires-clause-leaves_good
@@ -25,3 +25,6 @@ pub returns-clause-uses : goal.returns-clause-uses
 returns-clause-uses g c = let sound = c.requires.sound in
     lists_since c.args.kept c.args.attempt.now.pass.now.view c.undo_unless.new.pass.view c.in-Ok.uses.items c.undo_unless.ensures.undone
     c.in-Ok.ensures.uses sound.fits.0 (sym sound.log_is ∙ sound.noted sound.fits.0 sound.fits.1)
+
+pub returns-clause-knew : goal.returns-clause-knew
+returns-clause-knew g c = knew_since c.args.kept c.args.attempt.now.pass.now.view c.undo_unless.new.pass.view c.undo_unless.ensures.undone c.commit.ensures.knew

@@ -1,13 +1,12 @@
 use Rattle.history_model.specs.Fitting.{IsGood}
-use Rattle.word_table.proofs.Kept.Soundness.{load_allowed}
+use Rattle.word_table.specs.Sound.{GroundHolds}
+use Rattle.word_table.proofs.Kept.Numbered.{step_allowed}
+use Rattle.word_table.proofs.Kept.Soundness.{Tells, load_allowed}
 use Rattle.word_table.proofs.step.load_by.Goals as goal
 
 pub load-requires : goal.load-requires
-load-requires g c = (
-  c.requires.table.0,
-  c.requires.table.1,
-  load_allowed (IsGood (g.S.Shape.word_count c.args.table.now.key.shape)
-      (g.S.Shape.good c.args.table.now.key.shape)) c.args.table.now.key.seats c.args.table.now.key.base.items
-      c.args.table.now.table_id.slots c.args.seat.now.id c.args.seat.now.me c.args.step.now g.A.Kind.step
-      c.requires.kind c.args.word c.requires.action.0 c.requires.may g.A.Kind.sound c.requires.sound c.requires.action.1,
-)
+load-requires g c = let t = c.args.table.now in let s = c.args.seat.now in let own = c.seat.inside.seat in
+    step_allowed (GroundHolds g.S.Shape.word_count g.S.Shape.good) _ t c.table.view_is own.table_id own.id own.me s c.seat.view_is c.args.word
+    (λ k. k) (Tells g.A.Kind.sound g.A.Kind.step) c.requires.table.0 c.requires.table.1
+    (load_allowed (IsGood (g.S.Shape.word_count t.key.shape) (g.S.Shape.good t.key.shape)) t.key.seats t.key.base.items t.table_id.slots s.id s.me
+    c.args.step.now g.A.Kind.step c.requires.kind c.args.word c.requires.action.0 c.requires.may g.A.Kind.sound c.requires.sound c.requires.action.1)

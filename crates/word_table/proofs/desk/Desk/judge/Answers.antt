@@ -19,22 +19,22 @@ may g c = record {
 }
 
 pub returns-clause-waits : goal.returns-clause-waits
-returns-clause-waits g c e = let t = c.self.inside.table.shared in
+returns-clause-waits g c e = let t = c.self.inside.table in
     judged_waits (IsGood (g.S.Shape.word_count t.key.shape) (g.S.Shape.good t.key.shape)) t.key.seats t.key.base.items
     c.args.pass.now.view c.args.other c.judge_stamp.result c.judge_stamp.new.self.view c.judge_stamp.ensures.judged (may g c) e
 
 pub returns-clause-yields : goal.returns-clause-yields
-returns-clause-yields g c stamp e = let t = c.self.inside.table.shared in
+returns-clause-yields g c stamp e = let t = c.self.inside.table in
     judged_yields (IsGood (g.S.Shape.word_count t.key.shape) (g.S.Shape.good t.key.shape)) t.key.seats t.key.base.items
     c.args.pass.now.view c.args.other c.judge_stamp.result c.judge_stamp.new.self.view c.judge_stamp.ensures.judged (may g c) stamp e
 
 pub returns-clause-bounded : goal.returns-clause-bounded
-returns-clause-bounded g c = let t = c.self.inside.table.shared in let v = c.args.pass.now.view in
+returns-clause-bounded g c = let t = c.self.inside.table in let v = c.args.pass.now.view in
     subst (λ (d : DeskView _). AreRestartsBounded d.seats (number v) c.judge_stamp.new.self.view) c.self.view_is
     (judged_bounded (IsGood (g.S.Shape.word_count t.key.shape) (g.S.Shape.good t.key.shape)) t.key.seats
     t.key.base.items v c.args.other c.judge_stamp.result c.judge_stamp.new.self.view c.judge_stamp.ensures.judged (may g c))
 
 pub returns-clause-cause : goal.returns-clause-cause
-returns-clause-cause g c stamp e = let t = c.self.inside.table.shared in
+returns-clause-cause g c stamp e = let t = c.self.inside.table in
     judged_cause (IsGood (g.S.Shape.word_count t.key.shape) (g.S.Shape.good t.key.shape)) t.key.seats t.key.base.items
     c.args.pass.now.view c.args.other c.judge_stamp.result c.judge_stamp.new.self.view c.judge_stamp.ensures.judged (may g c) stamp e

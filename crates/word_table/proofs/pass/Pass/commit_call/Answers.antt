@@ -8,6 +8,7 @@ use Rattle.word_table.specs.declared.copies.LockCopy.{LockCopy}
 use Rattle.word_table.specs.Copies.{PassView}
 use Rattle.word_table.proofs.Copied.After.{copy_stored, steady, lock_copy, busy}
 use Rattle.word_table.proofs.Copied.VersionCopies.{versions_committed}
+use Rattle.word_table.proofs.Calls.Committing.{commit_knew}
 use Rattle.word_table.proofs.Calls.Taken.{taken_in, own_number}
 use Rattle.history_model.specs.Views.{number}
 use Rattle.stamps_rule.proofs.Bounds.{restarts_bounded}
@@ -37,4 +38,12 @@ pub returns-clause-bounded : goal.returns-clause-bounded
 returns-clause-bounded g c = let p = c.self.inside in let t = (returns-clause-taken g c).1 in
     restarts_bounded c.args.table.now.key.seats c.args.table.now.key.base.items t.words t.views t.place
     (number c.args.self.now.view) c.args.self.now.view t.holds.locks t.holds.stamps t.knows
+    (own_number p.call.who p.seat.me.0 p.seat.table_id c.args.self.now c.self.view_is c.self.invariant.call_is.who_is)
+
+pub returns-clause-knew : goal.returns-clause-knew
+returns-clause-knew g c = let p = c.self.inside in let t = (returns-clause-taken g c).1 in
+    commit_knew (IsGood (g.S.Shape.word_count c.args.table.now.key.shape) (g.S.Shape.good c.args.table.now.key.shape))
+    c.args.table.now.key.seats c.args.table.now.key.base.items
+    (commit_call_action (number c.args.self.now.view) c.args.kept c.args.self.now.view) c.args.kept c.args.self.now.view
+    (returns-clause-taken g c).0 c.store.new.seat.me.0 (number c.args.self.now.view) t
     (own_number p.call.who p.seat.me.0 p.seat.table_id c.args.self.now c.self.view_is c.self.invariant.call_is.who_is)
