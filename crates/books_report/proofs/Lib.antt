@@ -6,3 +6,5 @@ pub mod Walking
 pub mod Order
 -- what the check of a text finds
 pub mod Checks
+-- stores of any language: runs of their operations, and their journals
+pub mod AnyStore

@@ -3,4 +3,5 @@ pub mod Output
 pub mod Lines
 pub mod Checking
 pub mod Statements
+pub mod Stores
 pub mod Inner

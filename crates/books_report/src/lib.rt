@@ -8,6 +8,7 @@ pub mod journal;
 pub mod laws;
 pub mod limits;
 pub mod line;
+pub mod stores;
 pub mod words;
 
 pub use books::books_text;

@@ -13,13 +13,13 @@ use Rattle.std.proofs.lemmas.List.Folds.{list_any-append}
 use Rattle.std.proofs.lemmas.List.FromFn.{length-map-range_with_len}
 use Rattle.std.proofs.lemmas.List.Sums.{fold_push}
 use Rattle.script_reader.specs.declared.limits.TheConstants.{MOST_CALLERS, MOST_SCRIPTS}
-use Rattle.script_reader.specs.Inner.OfVersion.{AreCallersOf}
+use Rattle.script_reader.specs.Inner.OfVersion.{IsScriptOf, AreCallersOf}
 use Rattle.script_reader.specs.declared.version.Version.TheVariants.{One}
 use Rattle.script_reader.proofs.Versions.{callers_for, callers_within}
 use Rattle.script_reader.specs.Input.{Caller, Submission, IsName, add_name, first_seen, callers_of}
-use Rattle.script_reader.specs.Inner.Callers.{is_caller}
+use Rattle.script_reader.specs.Inner.Gatherings.{is_caller}
 use Rattle.script_reader.proofs.Grouped.Grouping.{callers_of-push, no-names}
-use Rattle.script_reader.proofs.Texts.Reaching.{scripts_counted, callers_counted, caller_named}
+use Rattle.script_reader.proofs.Grouped.Outside.{scripts_counted, callers_counted, caller_named}
 use Rattle.script_reader.proofs.Grouped.Submitting.{callers_more}
 use Rattle.input_maker.specs.Made.{made_books, caller_name, script_from, made_submission, made_submissions, submissions_to, state_of_script}
 use Rattle.input_maker.specs.Statements.{MadeInputsAreInputs}
@@ -131,7 +131,7 @@ callers_fit seed callers (suc n) some few room =
     subst (λ m. AreCallersOf One made_books (callers_of (submissions_to seed callers m))) (add-one n)
     (subst (λ subs. AreCallersOf One made_books (callers_of subs)) (sym (submissions-more seed callers n))
     (subst (AreCallersOf One made_books) (sym (callers_of-push subs s))
-    (callers_more One made_books (callers_of subs) s (callers_fit seed callers n some few (omega (arith, room)))
+    (callers_more (IsScriptOf One made_books) (callers_of subs) s (callers_fit seed callers n some few (omega (arith, room)))
     (caller_name_is_name (n % callers) (omega (arith, within, few))) (script_fits made.0 (script_from (state_of_script seed n)) made.1)
     (omega (arith, room, scripts_counted subs, submissions_length seed callers n)) space)))
 

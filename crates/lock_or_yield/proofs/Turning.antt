@@ -10,6 +10,7 @@ use Rattle.history_model.specs.Legal.{IsIn}
 use Rattle.history_model.specs.Locks.{lock_of_word}
 use Rattle.history_model.specs.Sets.{has, without, has_pair, flag}
 use Rattle.history_model.specs.Views.{number, IsGranted}
+use Rattle.history_model.proofs.SetLemmas.{pair-join_same, pair-join_old}
 use Rattle.locks_rule.specs.Steps.{load_writer_action}
 use Rattle.stamps_rule.specs.Causes.{newest, past_causes}
 use Rattle.stamps_rule.specs.Stamps.{AreRestartsBounded}
@@ -19,6 +20,7 @@ use Rattle.word_table.specs.declared.answer.Judged.TheVariants as judged
 use Rattle.word_table.specs.declared.answer.Shared.TheVariants as shared
 use Rattle.word_table.specs.Calls.{SameCall, GrantsStay, GaveWay, MetOn, SharedBy, with_bit}
 use Rattle.word_table.specs.Desks.{DeskView, RuleHolds}
+use Rattle.word_table.specs.Waits.{FoundWait}
 use Rattle.lock_or_yield.specs.declared.turn.Intent.{Intent}
 use Rattle.lock_or_yield.specs.declared.turn.Intent.TheVariants as intent
 use Rattle.lock_or_yield.specs.declared.turn.Tried.{Tried}
@@ -37,6 +39,10 @@ pub nobody_met : (old new : View) → SameCall old new → new.met ≡ old.met �
 nobody_met old new same met meetings = same
     ∙ (ap (λ (l : List ℕ). record (with_locks new old) { met = l; meetings = new.meetings }) met
     ∙ ap (λ (l : List (ℕ × ℕ)). record (with_locks new old) { meetings = l }) meetings)
+
+has_last : (k i : ℕ) (ps : List (ℕ × ℕ)) → has_pair k i (ps ++ (k, i) ∷ []) ≡ true
+has_last k i [] = pair-join_same k i []
+has_last k i (p ∷ ps) = pair-join_old k i p.0 p.1 (ps ++ (k, i) ∷ []) (has_last k i ps)
 
 -- the turn met seat i on lock k
 abbrev pub HasMet : ℕ → ℕ → View → View → Type 0
@@ -306,6 +312,7 @@ module _ {S : Type 0} (shapes : Shapes S) (desk : DeskView S) (i : Intent) (a : 
         turn = record {
           granted = λ e. (clear.0, view);
           waits = λ j e. absurd cc;
+          found = λ j e. absurd cc;
           yields = λ cause e. absurd cc;
           met = inl refl;
           held = λ h. (refl, (once.held h).1);
@@ -317,9 +324,10 @@ module _ {S : Type 0} (shapes : Shapes S) (desk : DeskView S) (i : Intent) (a : 
   pub turn_met : (j : ℕ) (met : View) (r : Tried) (new : View) → MeetsFirst i (RuleHolds shapes desk) a j old met
       → JudgesMet (RuleHolds shapes desk) met j r new
       → ((l : ℕ) → r ≡ tried.Wait l → (l ≡ j) × JudgedToWait met new)
+      → ((k : ℕ) → r ≡ tried.Wait j → has_pair k j met.meetings ≡ true → FoundWait (RuleHolds shapes desk) desk.seats k j new)
       → ((cause : Cause) → r ≡ tried.Yield cause → (cause.seat ≡ j) × JudgedToYield cause met new)
       → AreRestartsBounded desk.seats (number met) new → TurnsOnce shapes desk i a old r new
-  turn_met j met r new first judges waits yields bounded =
+  turn_met j met r new first judges waits found yields bounded =
       let once = first.once.asks in let m = first.once.met in
       let t = turned a j judges.answer old met r new first.judged m.seat
       (somebody_met (lock_of_word a) j old met once.call m.met m.meetings first.judged) once.asked once.grants judges.comes_to waits yields in record {
@@ -329,6 +337,10 @@ module _ {S : Type 0} (shapes : Shapes S) (desk : DeskView S) (i : Intent) (a : 
         turn = record {
           granted = λ e. absurd (t.granted e);
           waits = t.waits;
+          found = λ l e. let same : l ≡ j = (waits l e).0 in
+              subst (λ (x : ℕ). FoundWait (RuleHolds shapes desk) desk.seats (lock_of_word a) x new) (sym same)
+              (found (lock_of_word a) (subst (λ (x : ℕ). r ≡ tried.Wait x) same e)
+              (ap (λ (ps : List (ℕ × ℕ)). has_pair (lock_of_word a) j ps) m.meetings ∙ has_last (lock_of_word a) j old.meetings));
           yields = t.yields;
           met = inr (record { seat = j; met = met; meets = m.meets; judges = judges });
           held = λ h. let none = (first.once.held h).0 in absurd cc;

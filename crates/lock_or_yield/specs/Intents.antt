@@ -10,6 +10,7 @@ use Rattle.locks_rule.specs.Actions.{Action}
 use Rattle.stamps_rule.specs.Stamps.{AreRestartsBounded}
 use Rattle.word_table.specs.Calls.{GrantsStay, SameCall}
 use Rattle.word_table.specs.Desks.{DeskView, RuleHolds}
+use Rattle.word_table.specs.Waits.{FoundWait}
 use Rattle.lock_or_yield.specs.declared.turn.Intent.{Intent}
 use Rattle.lock_or_yield.specs.declared.turn.Intent.TheVariants as intent
 use Rattle.lock_or_yield.specs.declared.turn.Tried.{Tried}
@@ -39,6 +40,7 @@ module _ {S : Type 0} (shapes : Shapes S) (desk : DeskView S) (intent : Intent) 
   pub record TakesTurn (r : Tried) (new : View) : Type 0 where
     pub granted : r ≡ tried.Granted → IsHeldTo intent new k × MeetsNobody old new
     pub waits : (j : ℕ) → r ≡ tried.Wait j → MeetsSome ((k, j) ∷ []) old new
+    pub found : (j : ℕ) → r ≡ tried.Wait j → FoundWait (RuleHolds shapes desk) desk.seats k j new
     pub yields : (cause : Cause) → r ≡ tried.Yield cause
         → MeetsAndYields ((k, cause.seat) ∷ []) cause old new
     pub met : (r ≡ tried.Granted) ⊎ MeetsAndJudges (IsStepTo intent) (RuleHolds shapes desk) old k r new

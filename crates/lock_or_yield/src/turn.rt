@@ -2,12 +2,14 @@
 
 ghost use Rattle.std.specs.Prelude.{◌≡◌, ◌≢◌, ◌<◌, ℕ, [], ◌∷◌, length, true, IfSome, IsNone};
 ghost use Rattle.history_model.specs.Locks.{lock_of_word};
+ghost use Rattle.history_model.specs.Sets.{has_pair};
 ghost use Rattle.history_model.specs.Views.{number, HasClaim, HasWriteGrant};
 ghost use Rattle.stamps_rule.specs.Stamps.{AreRestartsBounded};
 ghost use Rattle.lock_or_yield.specs.Asking.{Asks, AsksToRead, AsksToWrite, draws_once};
 ghost use Rattle.lock_or_yield.specs.Intents.{AsksOnce, ComesTo, IsClear, MeetsSeat, TakesTurn, TurnsOnce};
 ghost use Rattle.lock_or_yield.specs.Turns.{JudgedToWait, JudgedToYield, JudgesMet, ScansClear, ScansUpTo};
 ghost use Rattle.word_table.specs.Desks.{RuleHolds};
+ghost use Rattle.word_table.specs.Waits.{FoundWait};
 
 use history_model::{Cause, LOCKS, Phase, Shape, lock_of};
 use word_table::{Claimed, Desk, Judged, Pass, Scanned, Shared};
@@ -75,6 +77,9 @@ pub(crate) fn judge_met<S: Shape>(desk: &Desk<S>, pass: &mut Pass<S>, other: u32
         pass.old.view other result pass.new.view }
     ensures waits { (j : ℕ) → result ≡ Tried.Wait j
         → (j ≡ other) × JudgedToWait pass.old.view pass.new.view }
+    ensures found { (k : ℕ) → result ≡ Tried.Wait other
+        → has_pair k other pass.old.view.meetings ≡ true
+        → FoundWait (RuleHolds S.Shape desk.now) desk.now.seats k other pass.new.view }
     ensures yields { (cause : Cause) → result ≡ Tried.Yield cause → (cause.seat ≡ other)
         × JudgedToYield cause pass.old.view pass.new.view }
     ensures bounded { AreRestartsBounded desk.now.seats (number pass.old.view) pass.new.view }

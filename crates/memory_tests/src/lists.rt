@@ -12,7 +12,7 @@ use io_ends::OutOfMemory;
 use std::alloc::Global;
 use std::sync::Wait;
 use std::thread::Threads;
-use txn_commit::{Lists, Ran, Receipt, run_in_order, run_lists, transact};
+use txn_commit::{Done, Lists, Receipt, run_in_order, run_lists, transact};
 use txn_words::{Job, Stop, Verdict, Words};
 use word_table::{Desk, Pass};
 use worker_gate::{Gate, OpenGate, Point, Stage};
@@ -310,12 +310,12 @@ const EIGHT: &[Add] = &[
 ];
 
 // Whether each job found in both words, and as the versions of their locks, the number of those before it that write.
-fn rise_by_one(done: &[Ran<u64>]) -> bool {
+fn rise_by_one(done: &[Done<u64>]) -> bool {
     let mut next = 0;
     for ran in done {
         let wrote = ran.caller != 4;
         let uses = [used(0, next, wrote), used(1, next, wrote)];
-        if ran.answer != next || ran.uses.as_slice() != uses.as_slice() {
+        if ran.reply != next || ran.uses.as_slice() != uses.as_slice() {
             return false;
         }
         if wrote {

@@ -1,51 +1,74 @@
-//! Transfers on four threads.
+//! Requests of one vault on four threads.
 
-ghost use Rattle.std.specs.Prelude.{◌≡◌, IfOk, vec_len};
+ghost use Rattle.std.specs.Prelude.{◌≡◌, All, IfOk};
+ghost use Rattle.transfer_jobs.specs.Requests.{vault_of};
 
-use io_ends::OutOfMemory;
 use std::alloc::Global;
 use std::sync::Wait;
 use std::thread::Threads;
-use transfers::{Move, run_transfers};
+use transfer_jobs::{Answer, Audit, Look, Request, Transfer, Vault};
+use transfers::run_transfers;
+use txn_commit::RunStop;
 
-// A hundred moves: there, back, there, and so on.
-fn to_and_fro(alloc: Global, there: Move, back: Move) -> Result<Vec<Move>, OutOfMemory>
-    ensures { IfOk result (λ moves. vec_len moves ≡ 100) }
+// A hundred times the same request.
+fn hundred(alloc: Global, request: Request) -> Result<Vec<Request>, RunStop>
+    ensures { IfOk result (λ list. All (λ r. vault_of r ≡ vault_of request) list.items) }
 {
-    let mut moves = vec![in alloc; there; 100]?;
-    for k in 0..50usize {
-        moves[2 * k + 1] = back;
+    Ok(vec![in alloc; request; 100]?)
+}
+
+// A request to move so much.
+fn moved(vault: Vault, from: u64, to: u64, amount: u64) -> Request
+    ensures { vault_of result ≡ vault }
+{
+    Request::Transfer(Transfer {
+        vault,
+        from,
+        to,
+        amount,
+    })
+}
+
+// What the requests of each list are to be answered.
+fn wanted(caller: u32) -> Answer {
+    match caller {
+        0..=2 => Answer::Moved(true),
+        3 => Answer::Moved(false),
+        4 => Answer::Told(300),
+        _ => Answer::Held(None),
     }
-    Ok(moves)
 }
 
-// A move of so much.
-fn moved(from: u64, to: u64, amount: u64) -> Move {
-    Move { from, to, amount }
-}
-
-// What is left of a hundred in each of three words by four lists: two that move one there and back, one that goes round by
-// a move to the same word, and one of moves that are never covered, of more than there is and to a word that is not there.
-fn moved_on_four<R: Threads + Wait + Sync>(
-    rt: &R,
-    alloc: Global,
-    left: &[u64],
-) -> Result<bool, OutOfMemory> {
+// Whether six lists leave a hundred in each of three words, and are answered as they should be: three that move one a
+// hundred times, from each word to the next, one that wants to move more than there is, one of audits, and one that looks
+// for a word that is not there.
+fn go_round<R: Threads + Wait + Sync>(rt: &R, alloc: Global) -> Result<bool, RunStop> {
+    let vault = Vault {
+        words: 3,
+        total: 300,
+    };
     let accounts = Vec::from_slice(alloc, &[100, 100, 100])?;
     let lists = vec![in alloc;
-        to_and_fro(alloc, moved(0, 1, 1), moved(1, 0, 1))?,
-        to_and_fro(alloc, moved(1, 2, 1), moved(2, 1, 1))?,
-        to_and_fro(alloc, moved(2, 2, 1), moved(0, 0, 1))?,
-        to_and_fro(alloc, moved(2, 0, 301), moved(0, 3, 1))?,
+        hundred(alloc, moved(vault, 0, 1, 1))?,
+        hundred(alloc, moved(vault, 1, 2, 1))?,
+        hundred(alloc, moved(vault, 2, 0, 1))?,
+        hundred(alloc, moved(vault, 2, 0, 301))?,
+        hundred(alloc, Request::Audit(Audit { vault }))?,
+        hundred(alloc, Request::Look(Look { vault, place: 3 }))?,
     ]?;
-    let end = run_transfers(rt, alloc, accounts, lists)?;
-    Ok(end.done.len() == 800 && end.closed.words() == left)
+    let end = run_transfers(rt, alloc, vault, accounts, lists.as_slice(), 4)?;
+    for ran in end.done.as_slice() {
+        if ran.reply != wanted(ran.caller) {
+            return Ok(false);
+        }
+    }
+    Ok(end.done.len() == 600 && end.closed.words() == [100, 100, 100].as_slice())
 }
 
-// Both that move one have no more than one on its way each, so that all their moves are covered, and each leaves the
-// words as they were, whatever the threads do when.
+// A word has the hundred that its own list takes from the start on, so that all these moves are covered, and they leave
+// the words as they were, whatever the threads do when.
 #[test]
-fn moves_there_and_back_leave_the_words(rt: HostRuntime) {
-    let same = moved_on_four(&rt, rt.alloc(), &[100, 100, 100]);
+fn moves_in_a_round_leave_the_words(rt: HostRuntime) {
+    let same = go_round(&rt, rt.alloc());
     assert!(rt; matches!(same, Ok(true)));
 }

@@ -8,7 +8,8 @@ use Rattle.order_text.specs.declared.order.Resting.{Resting}
 use Rattle.order_text.specs.declared.script.OrderOp.TheVariants as op
 use Rattle.order_text.specs.declared.reply.OrderValue.TheVariants as value
 use Rattle.order_text.specs.declared.limits.TheConstants.{GREATEST_ORDER}
-use Rattle.order_text.specs.Interpreter.{Gives, with_order}
+use Rattle.books_report.specs.Stores.Interpreter.Step.{Gives}
+use Rattle.order_text.specs.Interpreter.{with_order}
 use Rattle.order_text.specs.Orders.{OrderBook, all_but, order_at}
 use Rattle.order_text.specs.Ranges.{IsBookOf, IsRestingOrder}
 use Rattle.order_text.proofs.Apart.{books_kept}

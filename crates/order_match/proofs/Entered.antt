@@ -8,14 +8,16 @@ use Rattle.order_text.specs.declared.order.Resting.{Resting}
 use Rattle.order_text.specs.declared.reply.OrderValue.TheVariants as value
 use Rattle.order_text.specs.declared.reply.Trade.{Trade}
 use Rattle.order_text.specs.declared.script.OrderOp.TheVariants as op
-use Rattle.order_text.specs.Interpreter.{Gives, LacksRoom, enter, enter_next, entered, incoming}
+use Rattle.books_report.specs.declared.stores.outcome.Outcome.TheVariants as outcome
+use Rattle.books_report.specs.Stores.Interpreter.{Step as step}
+use Rattle.books_report.specs.Stores.Interpreter.Step.{Gives}
+use Rattle.order_text.specs.Interpreter.{enter, enter_next, entered, incoming}
 use Rattle.order_text.specs.Matching.{Matched, match_of, rest_of}
 use Rattle.order_text.specs.Orders.{OrderBook, blocks_of}
 use Rattle.order_text.specs.Ranges.{IsBookOf, IsLimitOrder}
 use Rattle.order_text.proofs.Apart.{books_kept}
 use Rattle.txn_words.specs.Access.{Changes, Tells}
 use Rattle.order_match.specs.declared.shape.OrderShape.{OrderShape}
-use Rattle.order_match.specs.declared.operations.Outcome.TheVariants as outcome
 use Rattle.order_match.specs.Standing.{HasParts, Stands, held_of}
 use Rattle.order_match.specs.Access.{with_last}
 use Rattle.order_match.specs.Trading.{MatchesOrder, RestsOrder, next_number}
@@ -49,13 +51,13 @@ module _ (shape : OrderShape) (buys : Bool) (instrument price quantity : ℕ) (l
 
   -- no number is left
   pub enters_no_number : (x y : List ℕ) → Tells (Stands shape) (λ book. next_number book.last) None x y
-      → EntersOrder shape buys instrument price quantity outcome.LacksRoom x y
+      → EntersOrder shape buys instrument price quantity outcome.Full x y
   enters_no_number x y t = record {
     comes = λ book stand. (
       book,
       ap (λ b. if b || (nat_lt 0 (match_of (incoming book buys instrument price quantity) book.orders).left
           && nat_lt book.blocks (blocks_of (match_of (incoming book buys instrument price quantity) book.orders).orders + 2))
-          then LacksRoom
+          then step.Full
           else Gives (value.Entered (book.last + 1) (match_of (incoming book buys instrument price quantity) book.orders).trades)
           (entered (incoming book buys instrument price quantity) (match_of (incoming book buys instrument price quantity) book.orders) book))
           (none_next book.last stand.book_is.room.last_is (t.told book stand)),
@@ -89,17 +91,17 @@ module _ (shape : OrderShape) (buys : Bool) (instrument price quantity : ℕ) (l
     -- the step, where it is known whether there is room
     step_by : (b : Bool) → (nat_lt 0 left && nat_lt book.blocks (blocks_of matched.orders + 2)) ≡ b
         → enter_next book (incoming book buys instrument price quantity)
-        ≡ (if b then LacksRoom else Gives (value.Entered number trades) (entered order matched book))
+        ≡ (if b then step.Full else Gives (value.Entered number trades) (entered order matched book))
     step_by b e =
         ap (λ (o : Resting). enter o (match_of o book.orders) book) (sym is_next)
-        ∙ (ap (λ t. if t || (nat_lt 0 matched.left && nat_lt book.blocks (blocks_of matched.orders + 2)) then LacksRoom
+        ∙ (ap (λ t. if t || (nat_lt 0 matched.left && nat_lt book.blocks (blocks_of matched.orders + 2)) then step.Full
         else Gives (value.Entered number matched.trades) (entered order matched book)) some_number
-        ∙ ((λ i. if nat_lt 0 (sym left_is i) && nat_lt book.blocks (blocks_of matched.orders + 2) then LacksRoom
+        ∙ ((λ i. if nat_lt 0 (sym left_is i) && nat_lt book.blocks (blocks_of matched.orders + 2) then step.Full
         else Gives (value.Entered number (sym trades_are i)) (entered order matched book))
-        ∙ ap (λ t. if t then LacksRoom else Gives (value.Entered number trades) (entered order matched book)) e))
+        ∙ ap (λ t. if t then step.Full else Gives (value.Entered number trades) (entered order matched book)) e))
 
     pub lacks_room : (nat_lt 0 left && nat_lt book.blocks (blocks_of matched.orders + 2)) ≡ true
-        → enter_next book (incoming book buys instrument price quantity) ≡ LacksRoom
+        → enter_next book (incoming book buys instrument price quantity) ≡ step.Full
     lacks_room e = step_by true e
 
     pub gives : (nat_lt 0 left && nat_lt book.blocks (blocks_of matched.orders + 2)) ≡ false
@@ -118,7 +120,7 @@ module _ (shape : OrderShape) (buys : Bool) (instrument price quantity : ℕ) (l
   -- with no room for what is left
   pub enters_no_room : (number left : ℕ) (trades : List Trade) (x y z w : List ℕ) → Tells (Stands shape) (λ book. next_number book.last) (Some number) x y
       → MatchesOrder shape (order_with number) trades left y z → RestsOrder shape (record (order_with number) { quantity = left }) false z w
-      → EntersOrder shape buys instrument price quantity outcome.LacksRoom x w
+      → EntersOrder shape buys instrument price quantity outcome.Full x w
   enters_no_room number left trades x y z w t m r = record {
     comes = λ book stand.
         let there = subst (λ (l : List ℕ). Stands shape l book) (sym t.same) stand in (

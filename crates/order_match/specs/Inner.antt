@@ -1,3 +1,1 @@
-pub mod Scripts
 pub mod Listing
-pub mod Printing

@@ -4,6 +4,5 @@ pub mod Access
 pub mod Trading
 pub mod Statements
 pub mod Operating
-pub mod Meaning
 pub mod Days
 pub mod Inner

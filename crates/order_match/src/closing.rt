@@ -8,7 +8,7 @@ ghost use Rattle.txn_words.specs.Calls.{IsReady, GoesOn, InEachState, LeadsTo};
 ghost use Rattle.order_match.specs.Layout.{words_of};
 ghost use Rattle.order_match.specs.Standing.{IsGoodFor, Stands};
 ghost use Rattle.order_match.specs.Inner.Listing.{found_order};
-ghost use Rattle.order_match.specs.Inner.Scripts.{HandsOn};
+ghost use Rattle.txn_stores.specs.Standing.{HandsOn};
 
 use crate::layout::{HALF, Side};
 use crate::parts::{last_number, place_of, quantity_on};

@@ -6,62 +6,24 @@
 ghost use Rattle.std.specs.Prelude.{IfOk, OnOk};
 ghost use Rattle.books_model.specs.Ranges.{IsWithin};
 ghost use Rattle.order_text.specs.declared.script.OrderOp.{OrderOp};
-ghost use Rattle.order_text.specs.Ranges.{IsLimitOrder, IsOrderOp};
+ghost use Rattle.order_text.specs.Ranges.{IsLimitOrder};
 ghost use Rattle.txn_words.specs.Calls.{IsReady, GoesOn, InEachState, LeadsTo};
 ghost use Rattle.order_match.specs.Standing.{IsGoodFor};
-ghost use Rattle.order_match.specs.Operating.{EntersOrder, Steps, UnlessLacking};
-ghost use Rattle.order_match.specs.Inner.Scripts.{HandsOn};
+ghost use Rattle.order_match.specs.Operating.{EntersOrder, Steps};
+ghost use Rattle.txn_stores.specs.Standing.{HandsOn, UnlessFull};
 
 use crate::layout::Side;
 use crate::orders::{best_price, cancel_order};
 use crate::parts::set_last_number;
 use crate::shape::OrderShape;
 use crate::trading::{next_number, rest_order, trade_down};
-use order_text::{OrderOp, OrderValue, Resting};
+use order_text::{OrderValue, Resting};
 use std::alloc::Global;
+use txn_stores::Outcome;
 use txn_words::{Stop, Words};
 
-/// What one operation comes to.
-#[derive(Debug, Drop)]
-pub enum Outcome {
-    /// It was done, and tells this.
-    Gives(OrderValue),
-    /// The order does not rest.
-    LacksOrder,
-    /// No number or no blocks are left for the order.
-    LacksRoom,
-}
-
-/// One operation of a script.
-pub fn run_operation<W: Words>(
-    alloc: Global,
-    w: &mut W,
-    shape: &OrderShape,
-    op: OrderOp,
-) -> Result<Outcome, Stop>
-    requires ready { IsReady W.Words w.old }
-    requires stands { InEachState W.Words W.Shape.Shape w.old (IsGoodFor shape.now) }
-    requires range { IsOrderOp shape.now.instruments op }
-    ensures step { IfOk result (λ outcome. LeadsTo W.Words W.Shape.Shape w.old w.new
-        (Steps shape.now op outcome)) }
-    ensures stands { IfOk result (λ outcome. UnlessLacking outcome
-        (InEachState W.Words W.Shape.Shape w.new (IsGoodFor shape.now))) }
-    ensures hands_on { HandsOn W.Words w.old w.new result }
-{
-    match op {
-        OrderOp::Buy(instrument, price, quantity) => {
-            enter(alloc, w, shape, true, instrument, price, quantity)
-        }
-        OrderOp::Sell(instrument, price, quantity) => {
-            enter(alloc, w, shape, false, instrument, price, quantity)
-        }
-        OrderOp::Cancel(number) => cancel(w, shape, number),
-        OrderOp::Best(instrument) => best(w, shape, instrument),
-    }
-}
-
 // The next order trades, and what is left of it rests.
-fn enter<W: Words>(
+pub(crate) fn enter<W: Words>(
     alloc: Global,
     w: &mut W,
     shape: &OrderShape,
@@ -69,18 +31,18 @@ fn enter<W: Words>(
     instrument: u32,
     price: u64,
     quantity: u64,
-) -> Result<Outcome, Stop>
+) -> Result<Outcome<OrderValue>, Stop>
     requires ready { IsReady W.Words w.old }
     requires stands { InEachState W.Words W.Shape.Shape w.old (IsGoodFor shape.now) }
     requires limits { IsLimitOrder shape.now.instruments instrument price quantity }
     ensures enters { IfOk result (λ outcome. LeadsTo W.Words W.Shape.Shape w.old w.new
         (EntersOrder shape.now buys instrument price quantity outcome)) }
-    ensures stands { IfOk result (λ outcome. UnlessLacking outcome
+    ensures stands { IfOk result (λ outcome. UnlessFull outcome
         (InEachState W.Words W.Shape.Shape w.new (IsGoodFor shape.now))) }
     ensures hands_on { HandsOn W.Words w.old w.new result }
 {
     let Some(number) = next_number(w, shape)? else {
-        return Ok(Outcome::LacksRoom);
+        return Ok(Outcome::Full);
     };
     let order = Resting {
         number,
@@ -98,34 +60,42 @@ fn enter<W: Words>(
         set_last_number(w, shape, u64::from(number))?;
         Ok(Outcome::Gives(OrderValue::Entered(number, trades)))
     } else {
-        Ok(Outcome::LacksRoom)
+        Ok(Outcome::Full)
     }
 }
 
 // Takes a resting order out.
-fn cancel<W: Words>(w: &mut W, shape: &OrderShape, number: u32) -> Result<Outcome, Stop>
+pub(crate) fn cancel<W: Words>(
+    w: &mut W,
+    shape: &OrderShape,
+    number: u32,
+) -> Result<Outcome<OrderValue>, Stop>
     requires ready { IsReady W.Words w.old }
     requires stands { InEachState W.Words W.Shape.Shape w.old (IsGoodFor shape.now) }
     ensures step { IfOk result (λ outcome. LeadsTo W.Words W.Shape.Shape w.old w.new
         (Steps shape.now (OrderOp.Cancel number) outcome)) }
-    ensures stands { IfOk result (λ outcome. UnlessLacking outcome
+    ensures stands { IfOk result (λ outcome. UnlessFull outcome
         (InEachState W.Words W.Shape.Shape w.new (IsGoodFor shape.now))) }
     ensures hands_on { HandsOn W.Words w.old w.new result }
 {
     match cancel_order(w, shape, number)? {
         Some(quantity) => Ok(Outcome::Gives(OrderValue::Cancelled(quantity))),
-        None => Ok(Outcome::LacksOrder),
+        None => Ok(Outcome::Absent),
     }
 }
 
 // Tells the best prices of an instrument.
-fn best<W: Words>(w: &mut W, shape: &OrderShape, instrument: u32) -> Result<Outcome, Stop>
+pub(crate) fn best<W: Words>(
+    w: &mut W,
+    shape: &OrderShape,
+    instrument: u32,
+) -> Result<Outcome<OrderValue>, Stop>
     requires ready { IsReady W.Words w.old }
     requires stands { InEachState W.Words W.Shape.Shape w.old (IsGoodFor shape.now) }
     requires instrument { IsWithin 1 shape.now.instruments instrument }
     ensures step { IfOk result (λ outcome. LeadsTo W.Words W.Shape.Shape w.old w.new
         (Steps shape.now (OrderOp.Best instrument) outcome)) }
-    ensures stands { IfOk result (λ outcome. UnlessLacking outcome
+    ensures stands { IfOk result (λ outcome. UnlessFull outcome
         (InEachState W.Words W.Shape.Shape w.new (IsGoodFor shape.now))) }
     ensures hands_on { HandsOn W.Words w.old w.new result }
 {

@@ -10,7 +10,7 @@ ghost use Rattle.txn_words.specs.Calls.{IsReady, GoesOn, InEachState, LeadsTo};
 ghost use Rattle.order_match.specs.Standing.{HasSomeParts, IsGoodFor, Stands};
 ghost use Rattle.order_match.specs.Access.{first_of};
 ghost use Rattle.order_match.specs.Trading.{MatchesOrder, PutsOrder, RestsOrder, after_trade, next_number};
-ghost use Rattle.order_match.specs.Inner.Scripts.{HandsOn};
+ghost use Rattle.txn_stores.specs.Standing.{HandsOn};
 
 use crate::layout::{HALF, Side, number_of};
 use crate::parts::{cut_on, cut_place, first_on, last_number, put_on, put_place};

@@ -1,9 +1,9 @@
 -- Best prices are apart, and books stay books, after each operation and each script.
 use Rattle.std.proofs.Common.{◌≡◌, ◌≢◌, ℕ, ◌+◌, ◌-◌, ◌<◌, ◌≤◌, Bool, true, false, not, ◌&&◌, ◌||◌, ◌==◌, nat_le, nat_lt, ⊎_elim}
-use Rattle.std.proofs.Common.{List, [], ◌∷◌, ◌++◌, All, Option, Some, None, refl, sym, ap, ◌∙◌, subst, arith, eq-eqb, if◌then◌else◌}
+use Rattle.std.proofs.Common.{List, ◌++◌, Option, Some, None, refl, sym, ap, ◌∙◌, subst, arith, eq-eqb, if◌then◌else◌}
 use Rattle.std.proofs.lemmas.Bool.{cases_lt}
 use Rattle.std.proofs.lemmas.Bool.Decides.{nat_tests}
-use Rattle.std.proofs.lemmas.List.Elements.{All-filter, All-tail}
+use Rattle.std.proofs.lemmas.List.Elements.{All-filter}
 use Rattle.order_text.specs.declared.limits.TheConstants.{GREATEST_ORDER}
 use Rattle.order_text.specs.declared.order.Resting.{Resting}
 use Rattle.order_text.specs.declared.script.OrderOp.{OrderOp}
@@ -11,8 +11,10 @@ use Rattle.order_text.specs.declared.script.OrderOp.TheVariants as op
 use Rattle.order_text.specs.declared.reply.OrderValue.{OrderValue}
 use Rattle.order_text.specs.declared.reply.OrderValue.TheVariants as value
 use Rattle.order_text.specs.declared.reply.Trade.{Trade}
-use Rattle.order_text.specs.Interpreter.{Ends, Gives, LacksOrder, LacksRoom, Run, Step, Stops, after_step, after_value, enter_next}
-use Rattle.order_text.specs.Interpreter.{entered, has_no_room, incoming, order_outcome_of, outcome_from, run_from, step_of, with_order}
+use Rattle.books_report.specs.Stores.Interpreter.{Step}
+use Rattle.books_report.specs.Stores.Interpreter.Step.{Gives, Absent, Full}
+use Rattle.books_report.proofs.AnyStore.Kept as kept
+use Rattle.order_text.specs.Interpreter.{enter_next, entered, has_no_room, incoming, order_outcome_of, step_of, with_order}
 use Rattle.order_text.specs.Laws.{BestPricesApart}
 use Rattle.order_text.specs.Matching.{allows, after_trades, has_quantity, match_of, may_trade, orders_after, partners, rest_of, trades_down, volume}
 use Rattle.order_text.specs.Orders.{OrderBook, all_but, blocks_of, empty_book, order_at}
@@ -147,17 +149,15 @@ empty_is blocks instruments range count = (
 )
 
 -- what a step that gives a book says of it
-abbrev StepKeeps : ℕ → OrderBook → Step → Type 0
-StepKeeps instruments book (Gives v next) = IsBookOf instruments next × (AreApart book.orders → AreApart next.orders)
-StepKeeps instruments book LacksOrder = Unit {0}
-StepKeeps instruments book LacksRoom = Unit {0}
+abbrev StepKeeps : ℕ → OrderBook → Step OrderValue OrderBook → Type 0
+StepKeeps instruments book = kept.StepKeeps (λ next. IsBookOf instruments next × (AreApart book.orders → AreApart next.orders))
 
 enter_keeps : (instruments : ℕ) (book : OrderBook) (order : Resting) → IsBookOf instruments book → order.number ≡ book.last + 1
     → IsLimitOrder instruments order.instrument order.price order.quantity → StepKeeps instruments book (enter_next book order)
 enter_keeps instruments book order is next limits = by (has_no_room book (match_of order book.orders)) refl
   where
     by : (b : Bool) → has_no_room book (match_of order book.orders) ≡ b
-        → StepKeeps instruments book (if b then LacksRoom
+        → StepKeeps instruments book (if b then Full
         else Gives (value.Entered order.number (match_of order book.orders).trades) (entered order (match_of order book.orders) book))
     by true e = tt
     by false e = (entered_book instruments book order is next limits e, entered_apart instruments book order is next limits e)
@@ -197,37 +197,17 @@ apart_kept instruments o book next v is range e apart =
     best_apart next.orders ((subst (StepKeeps instruments book) e (step_keeps instruments o book is range)).1
     (all_apart book.orders (priced instruments book is) apart))
 
--- a run keeps both
-abbrev RunKeeps : ℕ → Run → Type 0
-RunKeeps instruments (Ends values book) = IsApartBook instruments book
-RunKeeps instruments (Stops stop) = Unit {0}
-
-value_keeps : (instruments : ℕ) (v : OrderValue) (run : Run) → RunKeeps instruments run → RunKeeps instruments (after_value v run)
-value_keeps instruments v (Ends values book) kept = kept
-value_keeps instruments v (Stops stop) kept = tt
-
-after_keeps : (instruments k : ℕ) (book : OrderBook) (s : Step) (follows : OrderBook → Run) → AreApart book.orders → StepKeeps instruments book s
-    → ((next : OrderBook) → IsApartBook instruments next → RunKeeps instruments (follows next)) → RunKeeps instruments (after_step k s follows)
-after_keeps instruments k book (Gives v next) follows apart kept behind =
-    value_keeps instruments v (follows next) (behind next (record { book_is = kept.0; apart = kept.1 apart }))
-after_keeps instruments k book LacksOrder follows apart kept behind = tt
-after_keeps instruments k book LacksRoom follows apart kept behind = tt
-
-run_keeps : (instruments k : ℕ) (script : List OrderOp) (book : OrderBook) → IsApartBook instruments book → All (IsOrderOp instruments) script
-    → RunKeeps instruments (run_from k script book)
-run_keeps instruments k [] book is ranges = is
-run_keeps instruments k (o ∷ ops) book is ranges = after_keeps instruments k book (step_of o book) (λ next. run_from (k + 1) ops next) is.apart
-    (step_keeps instruments o book is.book_is (ranges 0 o (omega arith)))
-    (λ next kept. run_keeps instruments (k + 1) ops next kept (All-tail (IsOrderOp instruments) o ops ranges))
-
-outcome_keeps : (instruments : ℕ) (book : OrderBook) (run : Run) → IsApartBook instruments book → RunKeeps instruments run
-    → IsApartBook instruments (outcome_from book run).1
-outcome_keeps instruments book (Ends values after) is kept = kept
-outcome_keeps instruments book (Stops stop) is kept = is
+-- a step from a book in which prices are apart keeps both
+apart_step : (instruments : ℕ) (book : OrderBook) (s : Step OrderValue OrderBook) → AreApart book.orders → StepKeeps instruments book s
+    → kept.StepKeeps (IsApartBook instruments) s
+apart_step instruments book (Gives v next) apart step = record { book_is = step.0; apart = step.1 apart }
+apart_step instruments book Absent apart step = tt
+apart_step instruments book Full apart step = tt
 
 pub scripts_keep : (instruments : ℕ) (script : List OrderOp) (book : OrderBook) → IsBookOf instruments book → IsOrderScript instruments script
     → BestPricesApart book.orders → IsBookOf instruments (order_outcome_of script book).1 × BestPricesApart (order_outcome_of script book).1.orders
 scripts_keep instruments script book is ranges apart =
-    let begun : IsApartBook instruments book = record { book_is = is; apart = all_apart book.orders (priced instruments book is) apart } in
-    let kept = outcome_keeps instruments book (run_from 1 script book) begun (run_keeps instruments 1 script book begun ranges.each) in
-    (kept.book_is, best_apart (order_outcome_of script book).1.orders kept.apart)
+    let after = kept.script_keeps (IsApartBook instruments) step_of (IsOrderOp instruments)
+    (λ o b range is. apart_step instruments b (step_of o b) is.apart (step_keeps instruments o b is.book_is range)) script book ranges.each
+    (record { book_is = is; apart = all_apart book.orders (priced instruments book is) apart }) in
+    (after.book_is, best_apart (order_outcome_of script book).1.orders after.apart)

@@ -7,12 +7,13 @@ use Rattle.std.proofs.lemmas.Cmp.{ranked}
 use Rattle.std.proofs.lemmas.List.Elements.{All-tail}
 use Rattle.std.proofs.lemmas.List.Kept.{AllPairs-cons}
 use Rattle.script_reader.specs.Journal.{Place}
+use Rattle.books_report.specs.Stores.Output.{outcome_at, places_run}
 use Rattle.order_text.specs.declared.order.Resting.{Resting}
 use Rattle.order_text.specs.Input.{BookInput, IsBookInput, order_script_at}
 use Rattle.order_text.specs.Journal.{IsOrderPlace}
 use Rattle.order_text.specs.Laws.{BestPricesApart}
 use Rattle.order_text.specs.Orders.{OrderBook, by_number, empty_book}
-use Rattle.order_text.specs.Output.{AreByNumber, IsBefore, OrderRan, book_after, closing_of, outcome_at, places_run}
+use Rattle.order_text.specs.Output.{AreByNumber, IsBefore, OrderRan, book_after, closing_of, order_store}
 use Rattle.order_text.specs.Ranges.{IsBookOf, IsOrderScript}
 use Rattle.order_text.proofs.Apart.{empty_is, scripts_keep}
 use Rattle.order_text.proofs.Members.{of_each, of_one}
@@ -35,7 +36,7 @@ module _ (input : BookInput) (is : IsBookInput input) where
   kept_after (place ∷ places) book there kept apart =
       let next = scripts_keep input.instruments (order_script_at input place.caller place.index) book kept
       (script_at place (there 0 place (omega arith))) apart in
-      kept_after places (outcome_at input book place).1 (All-tail (IsOrderPlace input) place places there) next.0 next.1
+      kept_after places (outcome_at (order_store input) book place).1 (All-tail (IsOrderPlace input) place places there) next.0 next.1
 
   -- what is left of the empty book
   left_after : (places : List Place) → All (IsOrderPlace input) places

@@ -8,8 +8,6 @@ pub mod Serving
 pub mod Trading
 -- the orders of a book go by their numbers, and have their blocks
 pub mod Rooms
--- a run of operations, from any of them on
-pub mod Runs
 -- best prices, and those of all orders
 pub mod Prices
 -- what rests after an order has entered
@@ -18,9 +16,7 @@ pub mod Entering
 pub mod Apart
 -- the ranges of operations are those of their lines, and what a text gives is an input
 pub mod Inputs
--- a fault of a text has one of five reasons
-pub mod Reasons
--- the text of replies and of journal lines, one piece after another
+-- the text of a header, one piece after another
 pub mod Printing
 -- orders are printed by their numbers
 pub mod Closings

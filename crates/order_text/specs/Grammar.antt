@@ -2,8 +2,8 @@
 -- `script_reader/specs/ListLanguage` has them of any.
 use Rattle.std.specs.Prelude.{ℕ, List, [], ◌∷◌}
 use Rattle.script_reader.specs.declared.fault.Fault.{Fault}
-use Rattle.script_reader.specs.declared.fault.Fault.TheVariants as fault
 use Rattle.script_reader.specs.ListLanguage.{IsTextOf, IsFirstFaultIn}
+use Rattle.books_report.specs.Stores.Faults.{IsListReason}
 use Rattle.order_text.specs.Language.{order_language}
 use Rattle.order_text.specs.Input.{BookInput}
 
@@ -17,9 +17,4 @@ IsOrderFault = IsFirstFaultIn order_language
 
 -- the reasons that a fault of such a text can have
 abbrev pub IsOrderReason : Fault → Type 0
-IsOrderReason fault.End = Unit {0}
-IsOrderReason fault.Header = Unit {0}
-IsOrderReason fault.Word = Unit {0}
-IsOrderReason fault.Number = Unit {0}
-IsOrderReason fault.Limit = Unit {0}
-IsOrderReason _ = ⊥
+IsOrderReason = IsListReason

@@ -1,21 +1,16 @@
 -- The sequential interpreter of a limit order book: what a script replies, and the book that it leaves.
-use Rattle.std.specs.Prelude.{ℕ, ◌+◌, Bool, true, false, ◌&&◌, ◌||◌, ◌==◌, nat_lt, if◌then◌else◌, List, [], ◌∷◌, ◌++◌, Option, Some, None}
+use Rattle.std.specs.Prelude.{ℕ, ◌+◌, Bool, true, false, ◌&&◌, ◌||◌, ◌==◌, nat_lt, if◌then◌else◌, List, ◌++◌, Option, Some, None}
 use Rattle.order_text.specs.declared.limits.TheConstants.{GREATEST_ORDER}
 use Rattle.order_text.specs.declared.order.Resting.{Resting}
 use Rattle.order_text.specs.declared.script.OrderOp.{OrderOp}
 use Rattle.order_text.specs.declared.script.OrderOp.TheVariants as op
 use Rattle.order_text.specs.declared.reply.OrderValue.{OrderValue}
 use Rattle.order_text.specs.declared.reply.OrderValue.TheVariants as value
-use Rattle.order_text.specs.declared.reply.OrderReply.{OrderReply}
-use Rattle.order_text.specs.declared.reply.OrderReply.TheVariants as reply
+use Rattle.order_text.specs.Replies.{OrderReply}
 use Rattle.order_text.specs.Orders.{OrderBook, all_but, best_buy, best_sell, blocks_of, order_at}
 use Rattle.order_text.specs.Matching.{Matched, match_of, rest_of}
-
--- how an operation ends: it tells a value and leaves this book, or the order is absent, or there is no room for it
-pub data Step : Type 0 where
-  Gives : OrderValue → OrderBook → Step
-  LacksOrder : Step
-  LacksRoom : Step
+use Rattle.books_report.specs.Stores.Interpreter.{Step, outcome_of}
+use Rattle.books_report.specs.Stores.Interpreter.Step.{Gives, Absent, Full}
 
 -- an incoming order, under the next number, as it would rest
 abbrev pub incoming : OrderBook → Bool → ℕ → ℕ → ℕ → Resting
@@ -37,21 +32,21 @@ abbrev pub entered : Resting → Matched → OrderBook → OrderBook
 entered order matched book =
     record book { last = order.number; orders = matched.orders ++ rest_of order matched.left }
 
-abbrev pub enter : Resting → Matched → OrderBook → Step
+abbrev pub enter : Resting → Matched → OrderBook → Step OrderValue OrderBook
 enter order matched book =
-    if has_no_room book matched then LacksRoom
+    if has_no_room book matched then Full
     else Gives (value.Entered order.number matched.trades) (entered order matched book)
 
-abbrev pub enter_next : OrderBook → Resting → Step
+abbrev pub enter_next : OrderBook → Resting → Step OrderValue OrderBook
 enter_next book order = enter order (match_of order book.orders) book
 
 -- what is done with the order that rests, if it does
-abbrev pub with_order : Option Resting → (Resting → Step) → Step
-with_order None next = LacksOrder
+abbrev pub with_order : Option Resting → (Resting → Step OrderValue OrderBook) → Step OrderValue OrderBook
+with_order None next = Absent
 with_order (Some order) next = next order
 
 -- one case for each operation
-abbrev pub step_of : OrderOp → OrderBook → Step
+abbrev pub step_of : OrderOp → OrderBook → Step OrderValue OrderBook
 step_of (op.Buy instrument price quantity) book = enter_next book (incoming book true instrument price quantity)
 step_of (op.Sell instrument price quantity) book = enter_next book (incoming book false instrument price quantity)
 step_of (op.Cancel number) book =
@@ -60,32 +55,6 @@ step_of (op.Cancel number) book =
 step_of (op.Best instrument) book =
     Gives (value.Prices (best_buy instrument book.orders) (best_sell instrument book.orders)) book
 
--- how operations end: with a value for each and the book after them, or at the first that is refused
-pub data Run : Type 0 where
-  Ends : List OrderValue → OrderBook → Run
-  Stops : OrderReply → Run
-
--- a value in front of those that follow
-abbrev pub after_value : OrderValue → Run → Run
-after_value v (Ends values book) = Ends (v ∷ values) book
-after_value v (Stops stop) = Stops stop
-
--- operation number k took this step; what follows goes on from its book
-abbrev pub after_step : ℕ → Step → (OrderBook → Run) → Run
-after_step k (Gives v book) follows = after_value v (follows book)
-after_step k LacksOrder follows = Stops (reply.Declined k)
-after_step k LacksRoom follows = Stops (reply.Full k)
-
--- operations, the first of which has number k
-abbrev pub run_from : ℕ → List OrderOp → OrderBook → Run
-run_from k [] book = Ends [] book
-run_from k (o ∷ ops) book = after_step k (step_of o book) (λ next. run_from (k + 1) ops next)
-
--- a script that is refused changes nothing
-abbrev pub outcome_from : OrderBook → Run → OrderReply × OrderBook
-outcome_from before (Ends values after) = (reply.Done values, after)
-outcome_from before (Stops stop) = (stop, before)
-
 -- what a script replies, and the book that it leaves
 abbrev pub order_outcome_of : List OrderOp → OrderBook → OrderReply × OrderBook
-order_outcome_of script book = outcome_from book (run_from 1 script book)
+order_outcome_of script book = outcome_of step_of script book

@@ -3,14 +3,16 @@ use Rattle.std.specs.Prelude.{◌≡◌, ◌≢◌, ◌↔◌, ℕ, ◌<◌, Lis
 use Rattle.order_text.specs.declared.order.Resting.{Resting}
 use Rattle.order_text.specs.declared.script.OrderOp.{OrderOp}
 use Rattle.order_text.specs.declared.reply.OrderValue.{OrderValue}
-use Rattle.order_text.specs.declared.reply.OrderReply.TheVariants as reply
+use Rattle.books_report.specs.declared.stores.reply.StoreReply.TheVariants as reply
 use Rattle.order_text.specs.Orders.{OrderBook, best_buy, best_sell, empty_book}
-use Rattle.order_text.specs.Interpreter.{Gives, order_outcome_of, step_of}
+use Rattle.order_text.specs.Interpreter.{order_outcome_of, step_of}
+use Rattle.books_report.specs.Stores.Interpreter.Step.{Gives}
+use Rattle.books_report.specs.Stores.Output.{places_run}
 use Rattle.order_text.specs.Language.{order_language}
 use Rattle.order_text.specs.Input.{BookInput, IsBookInput}
 use Rattle.order_text.specs.Journal.{IsOrderPlace}
 use Rattle.order_text.specs.Grammar.{IsOrderFault, IsOrderReason}
-use Rattle.order_text.specs.Output.{AreByNumber, OrderRan, closing_of, places_run}
+use Rattle.order_text.specs.Output.{AreByNumber, OrderRan, closing_of}
 use Rattle.script_reader.specs.declared.fault.Fault.{Fault}
 use Rattle.script_reader.specs.ListLanguage.{IsOperationIn}
 use Rattle.order_text.specs.Ranges.{IsBlockCount, IsBookOf, IsInstrumentCount, IsOrderOp, IsOrderScript}

@@ -1,5 +1,6 @@
 pub mod Orders
 pub mod Matching
+pub mod Replies
 pub mod Interpreter
 pub mod Ranges
 pub mod Language
@@ -8,6 +9,5 @@ pub mod Grammar
 pub mod Words
 pub mod Journal
 pub mod Output
-pub mod Lines
 pub mod Laws
 pub mod Inner

@@ -1,35 +1,24 @@
 -- The output: a journal of the scripts in the order in which they were run, and the orders that rest then.
-use Rattle.std.specs.Prelude.{◌≡◌, ℕ, ◌+◌, ◌<◌, Bool, if◌then◌else◌, List, [], ◌∷◌, ◌++◌, map, All, AllPairs, codes}
+use Rattle.std.specs.Prelude.{ℕ, ◌<◌, Bool, if◌then◌else◌, List, [], ◌∷◌, AllPairs, codes}
 use Rattle.std.specs.List.{flat_map}
 use Rattle.order_text.specs.declared.order.Resting.{Resting}
-use Rattle.order_text.specs.declared.reply.OrderReply.{OrderReply}
+use Rattle.order_text.specs.declared.script.OrderOp.{OrderOp}
+use Rattle.order_text.specs.declared.reply.OrderValue.{OrderValue}
+use Rattle.order_text.specs.Replies.{OrderReply}
 use Rattle.order_text.specs.Orders.{OrderBook, empty_book}
-use Rattle.order_text.specs.Interpreter.{order_outcome_of}
+use Rattle.order_text.specs.Interpreter.{step_of}
 use Rattle.order_text.specs.Language.{order_language}
-use Rattle.order_text.specs.Input.{BookInput, order_script_at}
-use Rattle.order_text.specs.Journal.{IsOrderJournal}
-use Rattle.order_text.specs.Words.{reply_words}
-use Rattle.script_reader.specs.Text.{number, line, finish_line}
-use Rattle.script_reader.specs.Gathered.{caller_at}
+use Rattle.order_text.specs.Input.{BookInput}
+use Rattle.order_text.specs.Words.{value_word}
+use Rattle.script_reader.specs.Text.{number, line}
 use Rattle.script_reader.specs.Journal.{Place}
 use Rattle.script_reader.specs.ListLanguage.{head_words}
+use Rattle.books_report.specs.Stores.Output as stores
+use Rattle.books_report.specs.Stores.Output.{IsOutputOf, RanOf, StoreOf, state_after, state_left}
 
 -- a script that was run: its place, how often it was restarted, and its reply
-pub record OrderRan : Type 0 where
-  pub place : Place
-  pub restarts : ℕ
-  pub reply : OrderReply
-
--- SERIAL CALLER INDEX RESTARTS REPLY: serial numbers and indexes count from 1 in the text
-abbrev pub journal_line : ℕ → List ℕ → OrderRan → List ℕ
-journal_line serial name ran =
-    line (number serial ∷ name ∷ number (ran.place.index + 1) ∷ number ran.restarts ∷ reply_words ran.reply)
-
--- a line for each script, the first of which has this serial number
-abbrev pub journal_lines : BookInput → ℕ → List OrderRan → List ℕ
-journal_lines input serial [] = []
-journal_lines input serial (ran ∷ scripts) =
-    journal_line serial (caller_at input.callers ran.place.caller).name ran ++ journal_lines input (serial + 1) scripts
+abbrev pub OrderRan : Type 0
+OrderRan = RanOf OrderValue
 
 -- the header of the input's text
 abbrev pub header_line : BookInput → List ℕ
@@ -51,43 +40,37 @@ IsBefore r s = r.number < s.number
 abbrev pub AreByNumber : List Resting → Type 0
 AreByNumber closing = AllPairs IsBefore closing
 
+-- the store of an input: it begins with an empty book
+abbrev pub order_store : BookInput → StoreOf OrderOp OrderValue OrderBook
+order_store input = record {
+  callers = input.callers;
+  begins = empty_book input.blocks;
+  step = step_of;
+  value_word = value_word;
+  header = header_line input;
+  closing = λ book. flat_map order_line book.orders;
+}
+
 -- the whole text of a journal and of closing orders
 abbrev pub text_of : BookInput → List OrderRan → List Resting → List ℕ
-text_of input scripts closing =
-    line (codes "journal" ∷ []) ++ journal_lines input 1 scripts ++ header_line input ++ flat_map order_line closing ++ finish_line
+text_of input scripts closing = stores.text_of (order_store input) scripts (flat_map order_line closing)
 
--- what the sequential interpreter comes to for the script at a place: its reply, and the book that it leaves
-abbrev pub outcome_at : BookInput → OrderBook → Place → OrderReply × OrderBook
-outcome_at input book place = order_outcome_of (order_script_at input place.caller place.index) book
-
--- what it replies to the scripts at these places, run one after the other from this book
+-- what the interpreter replies to the scripts at these places, run one after the other from this book
 abbrev pub replies_of : BookInput → OrderBook → List Place → List OrderReply
-replies_of input book [] = []
-replies_of input book (place ∷ places) =
-    (outcome_at input book place).0 ∷ replies_of input (outcome_at input book place).1 places
+replies_of input = stores.replies_of (order_store input)
 
 -- the book that they leave
 abbrev pub book_after : BookInput → OrderBook → List Place → OrderBook
-book_after input book [] = book
-book_after input book (place ∷ places) = book_after input (outcome_at input book place).1 places
+book_after input = state_after (order_store input)
 
--- the places of scripts that were run
-abbrev pub places_run : List OrderRan → List Place
-places_run scripts = map (λ ran. ran.place) scripts
-
--- the scripts are those of the input, run in some order in which each stands once and each caller's in rising index, with
--- each number of restarts below the limit and each reply that of the interpreter, run down the order from an empty book
-pub record AreRun (input : BookInput) (limit : ℕ) (scripts : List OrderRan) : Type 0 where
-  pub journal : IsOrderJournal input (places_run scripts)
-  pub below : All (λ ran. ran.restarts < limit) scripts
-  pub replies : map (λ ran. ran.reply) scripts ≡ replies_of input (empty_book input.blocks) (places_run scripts)
+-- the scripts are those of the input, run one after the other in some order from an empty book
+abbrev pub AreRun : BookInput → ℕ → List OrderRan → Type 0
+AreRun input = stores.AreRun (order_store input)
 
 -- the orders that rest after scripts of which the first met an empty book
 abbrev pub closing_of : BookInput → List OrderRan → List Resting
-closing_of input scripts = (book_after input (empty_book input.blocks) (places_run scripts)).orders
+closing_of input scripts = (state_left (order_store input) scripts).orders
 
 -- the text is an output of the input: the journal of its scripts, as they were run, and then the orders that rest
-pub record IsOrderOutput (input : BookInput) (limit : ℕ) (text : List ℕ) : Type 0 where
-  pub scripts : List OrderRan
-  pub run : AreRun input limit scripts
-  pub text_is : text ≡ text_of input scripts (closing_of input scripts)
+abbrev pub IsOrderOutput : BookInput → ℕ → List ℕ → Type 0
+IsOrderOutput input = IsOutputOf (order_store input)

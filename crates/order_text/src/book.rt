@@ -2,7 +2,7 @@
 
 ghost use Rattle.std.specs.Prelude.{◌≡◌, ◌≤◌, ◌+◌, ◌*◌, ◌++◌, ◌&&◌, nat_lt, IfOk};
 ghost use Rattle.std.specs.Slice.Iter.{iter_rest};
-ghost use Rattle.order_text.specs.Inner.Steps.{step_with};
+ghost use Rattle.books_report.specs.Stores.Steps.{step_with};
 ghost use Rattle.order_text.specs.Interpreter.{enter_next, incoming, step_of};
 ghost use Rattle.order_text.specs.Matching.{rest_of};
 ghost use Rattle.order_text.specs.Orders.{all_but, best_buy, best_sell, empty_book, order_at};
@@ -13,21 +13,11 @@ use crate::matching::match_order;
 use crate::order::Resting;
 use crate::reply::OrderValue;
 use crate::script::OrderOp;
+use books_report::stores::{Outcome, PlainStore};
 use io_ends::OutOfMemory;
 use std::alloc::Global;
 use std::marker::Model;
 use std::slice;
-
-// What one operation comes to.
-#[derive(Drop)]
-pub(crate) enum Outcome {
-    // It was done, and tells this.
-    Gives(OrderValue),
-    // The order does not rest.
-    LacksOrder,
-    // No number or no blocks are left for the order.
-    LacksRoom,
-}
 
 /// A limit order book: how many blocks it has, two for each resting order, the last order number, and the resting
 /// orders by rising number.
@@ -163,13 +153,13 @@ impl Book {
         instrument: u32,
         price: u64,
         quantity: u64,
-    ) -> Result<Outcome, OutOfMemory>
+    ) -> Result<Outcome<OrderValue>, OutOfMemory>
         ensures step { IfOk result (λ outcome.
             enter_next self.old (incoming self.old buys instrument price quantity)
             ≡ step_with outcome self.new) }
     {
         if self.last == GREATEST_ORDER {
-            return Ok(Outcome::LacksRoom);
+            return Ok(Outcome::Full);
         }
         let order = Resting {
             number: self.last + 1,
@@ -180,7 +170,7 @@ impl Book {
         };
         let matched = match_order(self.alloc, &order, &self.orders)?;
         if lacks_blocks(self.blocks, matched.left, matched.orders.len()) {
-            return Ok(Outcome::LacksRoom);
+            return Ok(Outcome::Full);
         }
         self.orders = with_rest(matched.orders, &order, matched.left)?;
         self.last = order.number;
@@ -198,7 +188,7 @@ impl Book {
     }
 
     // Takes a resting order out, if it is there.
-    fn cancel(&mut self, number: u32) -> Outcome
+    fn cancel(&mut self, number: u32) -> Outcome<OrderValue>
         ensures step { step_of (OrderOp.Cancel number) self.old ≡ step_with result self.new }
     {
         match self.order_at(number) {
@@ -206,15 +196,34 @@ impl Book {
                 take_out(&mut self.orders, number);
                 Outcome::Gives(OrderValue::Cancelled(order.quantity))
             }
-            None => Outcome::LacksOrder,
+            None => Outcome::Absent,
         }
     }
+}
 
-    // Runs one operation.
-    pub(crate) fn run(&mut self, operation: OrderOp) -> Result<Outcome, OutOfMemory>
-        ensures step { IfOk result (λ outcome.
-            step_of operation self.old ≡ step_with outcome self.new) }
-    {
+impl PlainStore for Book {
+    ghost use Rattle.order_text.specs.Interpreter.{step_of};
+    ghost use Rattle.order_text.specs.Orders.{OrderBook};
+
+    type Op = OrderOp;
+
+    type Value = OrderValue;
+
+    ghost Fixed = { Unit {0} };
+
+    ghost State = { OrderBook };
+
+    ghost fixed = { λ _. tt };
+
+    ghost state = { λ book. book };
+
+    ghost step = { λ _. step_of };
+
+    fn copy(&self) -> Result<Book, OutOfMemory> {
+        Book::copy(self)
+    }
+
+    fn run(&mut self, operation: OrderOp) -> Result<Outcome<OrderValue>, OutOfMemory> {
         match operation {
             OrderOp::Buy(instrument, price, quantity) => {
                 self.enter(true, instrument, price, quantity)

@@ -47,6 +47,13 @@ impl OrderInput {
         }
     }
 
+    /// The callers with their scripts, as they were gathered.
+    pub fn gathered(&self) -> &Gathered<OrderScript>
+        ensures { result.now ≡ self.now.callers }
+    {
+        &self.callers
+    }
+
     /// How many blocks the book has.
     pub fn blocks(&self) -> u32
         ensures { result ≡ self.now.blocks }

@@ -3,6 +3,7 @@
 ghost use Rattle.std.specs.Prelude.{◌≡◌, ◌<◌, ◌↔◌, [], ◌∷◌, ◌++◌, length, IsTrue, Some, OnOk, OnErr, slice_get};
 ghost use Rattle.std.specs.Slice.Iter.{iter_rest};
 
+use books_report::stores::{StoreReply, StoreValues};
 use io_ends::OutOfMemory;
 use std::alloc::Global;
 use std::marker::Model;
@@ -92,76 +93,8 @@ pub enum OrderValue {
 }
 
 /// The values of operations, in order.
-#[derive(Debug, Drop)]
-pub struct OrderValues {
-    values: Vec<OrderValue>,
-}
+pub type OrderValues = StoreValues<OrderValue>;
 
-impl Model for OrderValues {
-    ghost use Rattle.std.specs.Prelude.{List};
-    ghost use Rattle.order_text.specs.declared.reply.OrderValue.{OrderValue};
-
-    ghost Value = { List OrderValue };
-
-    ghost view = { λ v. v.values.items };
-}
-
-impl OrderValues {
-    /// No values. It takes no memory.
-    pub fn new(alloc: Global) -> OrderValues
-        ensures { result ≡ [] }
-    {
-        OrderValues {
-            values: Vec::new(alloc),
-        }
-    }
-
-    /// Adds a value at the end.
-    pub fn push(&mut self, value: OrderValue) -> Result<(), OutOfMemory>
-        ensures ok { OnOk result (self.new ≡ self.old ++ value ∷ []) }
-        ensures err { OnErr result (self.new ≡ self.old) }
-    {
-        self.values.push(value)?;
-        Ok(())
-    }
-
-    /// How many values there are.
-    pub fn len(&self) -> usize
-        ensures { result ≡ length self.now }
-    {
-        self.values.len()
-    }
-
-    /// Whether there is no value.
-    pub fn is_empty(&self) -> bool
-        ensures { IsTrue result ↔ (self.now ≡ []) }
-    {
-        self.values.is_empty()
-    }
-
-    /// The values in order.
-    pub fn iter(&self) -> slice::Iter<'_, OrderValue>
-        ensures { iter_rest result ≡ self.now }
-    {
-        self.values.iter()
-    }
-
-    /// The value at a place, from 0.
-    pub fn at(&self, i: usize) -> &OrderValue
-        requires { i < length self.now }
-        ensures { slice_get self.now i ≡ Some result.now }
-    {
-        &self.values[i]
-    }
-}
-
-/// What a script replies. Operations are numbered from 1.
-#[derive(Debug, Drop)]
-pub enum OrderReply {
-    /// It came to its end, and each operation tells a value.
-    Done(OrderValues),
-    /// The operation with this number is on an order that does not rest, and the script changed nothing.
-    Declined(u32),
-    /// The operation with this number found no number or no blocks for its order, and the script changed nothing.
-    Full(u32),
-}
+/// What a script replies: if it is declined an order does not rest, and if it is full there is no number or there are no
+/// blocks for an order.
+pub type OrderReply = StoreReply<OrderValue>;

@@ -8,17 +8,13 @@ pub mod Places
 pub mod Kept
 -- identifiers are listed
 pub mod Listing
--- a run of operations, from any of them on
-pub mod Runs
 -- a record is taken out
 pub mod Removals
 -- a record is put
 pub mod Puts
 -- the ranges of operations are those of their lines
 pub mod Inputs
--- a fault of a text has one of five reasons
-pub mod Reasons
--- the text of replies and of journal lines, one piece after another
+-- the text of identifiers and of headers, one piece after another
 pub mod Printing
 -- records are printed in the order of the index
 pub mod Ranked

@@ -11,7 +11,8 @@ use Rattle.record_text.specs.declared.script.RecordOp.TheVariants as op
 use Rattle.record_text.specs.declared.reply.RecordValue.{RecordValue}
 use Rattle.record_text.specs.declared.reply.RecordValue.TheVariants as value
 use Rattle.record_text.specs.Records.{RecordStore, blocks_of, is_full}
-use Rattle.record_text.specs.Interpreter.{Step, Gives, LacksBlocks, step_of}
+use Rattle.record_text.specs.Interpreter.{step_of}
+use Rattle.books_report.specs.Stores.Interpreter.Step.{Gives, Full}
 use Rattle.record_text.specs.Ranges.{HasRoom}
 
 -- the value of a record that is put, by whether it was there
@@ -25,11 +26,11 @@ contains_tree tree store id found view is = ap (λ records. finite.contains_key 
     ∙ ap is_some (get-lookup nat_cmp_total tree.entries id) ∙ sym is
 
 -- the two ends of a step, by its test
-by_test : (b : Bool) (x y : Step) → b ≡ true → (if b then x else y) ≡ x
+by_test : {X : Type 0} (b : Bool) (x y : X) → b ≡ true → (if b then x else y) ≡ x
 by_test true x y e = refl
 by_test false x y e = absurd (cc)
 
-by_other : (b : Bool) (x y : Step) → b ≡ false → (if b then x else y) ≡ y
+by_other : {X : Type 0} (b : Bool) (x y : X) → b ≡ false → (if b then x else y) ≡ y
 by_other true x y e = absurd (cc)
 by_other false x y e = refl
 
@@ -40,12 +41,12 @@ module _ (store : RecordStore) (id rank content : ℕ) where
   abbrev there : Bool
   there = finite.contains_key store.records id
 
-  pub lacks_blocks : lacks ≡ true → step_of store.blocks (op.Put id rank content) store.records ≡ LacksBlocks
-  lacks_blocks e = by_test lacks LacksBlocks (Gives (put_value there) (finite.insert store.records id (rank, content))) e
+  pub lacks_blocks : lacks ≡ true → step_of store.blocks (op.Put id rank content) store.records ≡ Full
+  lacks_blocks e = by_test lacks Full (Gives (put_value there) (finite.insert store.records id (rank, content))) e
 
   pub is_put : lacks ≡ false → step_of store.blocks (op.Put id rank content) store.records
       ≡ Gives (put_value there) (finite.insert store.records id (rank, content))
-  is_put e = by_other lacks LacksBlocks (Gives (put_value there) (finite.insert store.records id (rank, content))) e
+  is_put e = by_other lacks Full (Gives (put_value there) (finite.insert store.records id (rank, content))) e
 
   -- how many blocks the records take after it
   longer : (found : Option (ℕ × ℕ)) → finite.get store.records id ≡ found → (not (is_some found) && is_full store.blocks store.records) ≡ false

@@ -2,8 +2,8 @@
 -- `script_reader/specs/ListLanguage` has them of any.
 use Rattle.std.specs.Prelude.{ℕ, List, [], ◌∷◌}
 use Rattle.script_reader.specs.declared.fault.Fault.{Fault}
-use Rattle.script_reader.specs.declared.fault.Fault.TheVariants as fault
 use Rattle.script_reader.specs.ListLanguage.{IsTextOf, IsFirstFaultIn}
+use Rattle.books_report.specs.Stores.Faults.{IsListReason}
 use Rattle.record_text.specs.Language.{record_language}
 use Rattle.record_text.specs.Input.{StoreInput}
 
@@ -17,9 +17,4 @@ IsRecordFault = IsFirstFaultIn record_language
 
 -- the reasons that a fault of such a text can have
 abbrev pub IsRecordReason : Fault → Type 0
-IsRecordReason fault.End = Unit {0}
-IsRecordReason fault.Header = Unit {0}
-IsRecordReason fault.Word = Unit {0}
-IsRecordReason fault.Number = Unit {0}
-IsRecordReason fault.Limit = Unit {0}
-IsRecordReason _ = ⊥
+IsRecordReason = IsListReason

@@ -1,17 +1,13 @@
 -- The orders in which the scripts of an input may be run.
-use Rattle.std.specs.Prelude.{◌≡◌, ◌<◌, ◌&&◌, ◌==◌, List, length, count_by, All, AllPairs}
+use Rattle.std.specs.Prelude.{List}
 use Rattle.record_text.specs.Input.{StoreInput}
-use Rattle.script_reader.specs.Gathered.{caller_at}
 use Rattle.script_reader.specs.Journal.{Place}
+use Rattle.books_report.specs.Stores.Output.{IsJournalOf, IsPlaceOf}
 
 -- the input has a script at this place
 abbrev pub IsRecordPlace : StoreInput → Place → Type 0
-IsRecordPlace input place =
-    (place.caller < length input.callers) × (place.index < length (caller_at input.callers place.caller).scripts)
+IsRecordPlace input = IsPlaceOf input.callers
 
 -- the order has each script of the input once, and each caller's in rising index
-pub record IsRecordJournal (input : StoreInput) (order : List Place) : Type 0 where
-  pub only : All (IsRecordPlace input) order
-  pub once : (place : Place) → IsRecordPlace input place
-      → count_by (λ p. p.caller == place.caller && p.index == place.index) order ≡ 1
-  pub rising : AllPairs (λ p q. p.caller ≡ q.caller → p.index < q.index) order
+abbrev pub IsRecordJournal : StoreInput → List Place → Type 0
+IsRecordJournal input = IsJournalOf input.callers

@@ -3,7 +3,7 @@ use Rattle.std.specs.Prelude.{◌≡◌, ◌≢◌, ◌↔◌, ℕ, ◌≤◌, �
 use Rattle.std.specs.FinMap as finite
 use Rattle.record_text.specs.declared.script.RecordOp.{RecordOp}
 use Rattle.record_text.specs.declared.reply.RecordValue.{RecordValue}
-use Rattle.record_text.specs.declared.reply.RecordReply.TheVariants as reply
+use Rattle.books_report.specs.declared.stores.reply.StoreReply.TheVariants as reply
 use Rattle.record_text.specs.Records.{Records, blocks_of, index_of}
 use Rattle.record_text.specs.Interpreter.{record_outcome_of}
 use Rattle.record_text.specs.Ranges.{IsRecordOp}

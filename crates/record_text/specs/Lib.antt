@@ -1,4 +1,5 @@
 pub mod Records
+pub mod Replies
 pub mod Interpreter
 pub mod Ranges
 pub mod Language
@@ -7,6 +8,5 @@ pub mod Grammar
 pub mod Words
 pub mod Journal
 pub mod Output
-pub mod Lines
 pub mod Laws
 pub mod Inner

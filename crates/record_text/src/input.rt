@@ -39,6 +39,13 @@ impl RecordInput {
         RecordInput { blocks, callers }
     }
 
+    /// The callers with their scripts, as they were gathered.
+    pub fn gathered(&self) -> &Gathered<RecordScript>
+        ensures { result.now ≡ self.now.callers }
+    {
+        &self.callers
+    }
+
     /// How many blocks the store has.
     pub fn blocks(&self) -> u32
         ensures { result ≡ self.now.blocks }

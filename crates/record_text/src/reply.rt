@@ -3,6 +3,7 @@
 ghost use Rattle.std.specs.Prelude.{◌≡◌, ◌<◌, ◌↔◌, [], ◌∷◌, ◌++◌, length, IsTrue, Some, OnOk, OnErr, slice_get};
 ghost use Rattle.std.specs.Slice.Iter.{iter_rest};
 
+use books_report::stores::{StoreReply, StoreValues};
 use io_ends::OutOfMemory;
 use std::alloc::Global;
 use std::marker::Model;
@@ -87,76 +88,7 @@ pub enum RecordValue {
 }
 
 /// The values of operations, in order.
-#[derive(Debug, Drop)]
-pub struct RecordValues {
-    values: Vec<RecordValue>,
-}
+pub type RecordValues = StoreValues<RecordValue>;
 
-impl Model for RecordValues {
-    ghost use Rattle.std.specs.Prelude.{List};
-    ghost use Rattle.record_text.specs.declared.reply.RecordValue.{RecordValue};
-
-    ghost Value = { List RecordValue };
-
-    ghost view = { λ v. v.values.items };
-}
-
-impl RecordValues {
-    /// No values. It takes no memory.
-    pub fn new(alloc: Global) -> RecordValues
-        ensures { result ≡ [] }
-    {
-        RecordValues {
-            values: Vec::new(alloc),
-        }
-    }
-
-    /// Adds a value at the end.
-    pub fn push(&mut self, value: RecordValue) -> Result<(), OutOfMemory>
-        ensures ok { OnOk result (self.new ≡ self.old ++ value ∷ []) }
-        ensures err { OnErr result (self.new ≡ self.old) }
-    {
-        self.values.push(value)?;
-        Ok(())
-    }
-
-    /// How many values there are.
-    pub fn len(&self) -> usize
-        ensures { result ≡ length self.now }
-    {
-        self.values.len()
-    }
-
-    /// Whether there is no value.
-    pub fn is_empty(&self) -> bool
-        ensures { IsTrue result ↔ (self.now ≡ []) }
-    {
-        self.values.is_empty()
-    }
-
-    /// The values in order.
-    pub fn iter(&self) -> slice::Iter<'_, RecordValue>
-        ensures { iter_rest result ≡ self.now }
-    {
-        self.values.iter()
-    }
-
-    /// The value at a place, from 0.
-    pub fn at(&self, i: usize) -> &RecordValue
-        requires { i < length self.now }
-        ensures { slice_get self.now i ≡ Some result.now }
-    {
-        &self.values[i]
-    }
-}
-
-/// What a script replies. Operations are numbered from 1.
-#[derive(Debug, Drop)]
-pub enum RecordReply {
-    /// It came to its end, and each operation tells a value.
-    Done(RecordValues),
-    /// The operation with this number asks for a record that is absent, and the script changed nothing.
-    Declined(u32),
-    /// The operation with this number found no blocks for a record more, and the script changed nothing.
-    Full(u32),
-}
+/// What a script replies: if it is declined a record is absent, and if it is full there are no blocks for a record more.
+pub type RecordReply = StoreReply<RecordValue>;

@@ -3,27 +3,17 @@
 ghost use Rattle.std.specs.Prelude.{◌≡◌, IfOk};
 ghost use Rattle.std.specs.FinMap as finite;
 ghost use Rattle.record_text.specs.Interpreter.{step_of};
-ghost use Rattle.record_text.specs.Inner.Steps.{step_with};
+ghost use Rattle.books_report.specs.Stores.Steps.{step_with};
 ghost use Rattle.record_text.specs.Ranges.{IsBlockCount};
 ghost use Rattle.record_text.specs.Records.{ids_from, index_of, is_full};
 
 use crate::reply::{Ids, RecordValue};
 use crate::script::RecordOp;
+use books_report::stores::{Outcome, PlainStore};
 use io_ends::OutOfMemory;
 use std::alloc::Global;
 use std::collections::BTreeMap;
 use std::marker::Model;
-
-// What one operation comes to.
-#[derive(Drop)]
-pub(crate) enum Outcome {
-    // It was done, and tells this.
-    Gives(RecordValue),
-    // The record is absent.
-    LacksRecord,
-    // No blocks are left for a record more.
-    LacksBlocks,
-}
 
 /// Records by identifier, each with its rank and data, and how many blocks there are for them. Two are taken by each.
 #[derive(Debug, Drop)]
@@ -120,7 +110,7 @@ impl Store {
     }
 
     // Puts a record, whether or not it was there.
-    fn put(&mut self, id: u32, rank: u32, content: u64) -> Result<Outcome, OutOfMemory>
+    fn put(&mut self, id: u32, rank: u32, content: u64) -> Result<Outcome<RecordValue>, OutOfMemory>
         ensures step { IfOk result (λ outcome.
             step_of self.old.blocks (RecordOp.Put id rank content) self.old.records
             ≡ step_with outcome self.new.records) }
@@ -128,7 +118,7 @@ impl Store {
     {
         let is_there = self.records.contains_key(&id);
         if !is_there && self.is_full() {
-            return Ok(Outcome::LacksBlocks);
+            return Ok(Outcome::Full);
         }
         self.records.insert(id, (rank, content))?;
         Ok(Outcome::Gives(if is_there {
@@ -139,30 +129,48 @@ impl Store {
     }
 
     // Takes a record out, if it is there.
-    fn remove(&mut self, id: u32) -> Outcome
+    fn remove(&mut self, id: u32) -> Outcome<RecordValue>
         ensures step { step_of self.old.blocks (RecordOp.Remove id) self.old.records
             ≡ step_with result self.new.records }
         ensures blocks { self.new.blocks ≡ self.old.blocks }
     {
         match self.records.remove(&id) {
             Some(_) => Outcome::Gives(RecordValue::Gone),
-            None => Outcome::LacksRecord,
+            None => Outcome::Absent,
         }
     }
+}
 
-    // Runs one operation. Where it is refused the records stay.
-    pub(crate) fn run(&mut self, operation: RecordOp) -> Result<Outcome, OutOfMemory>
-        ensures step { IfOk result (λ outcome.
-            step_of self.old.blocks operation self.old.records
-            ≡ step_with outcome self.new.records) }
-        ensures blocks { self.new.blocks ≡ self.old.blocks }
-    {
+impl PlainStore for Store {
+    ghost use Rattle.std.specs.Prelude.{ℕ};
+    ghost use Rattle.record_text.specs.Interpreter.{step_of};
+    ghost use Rattle.record_text.specs.Records.{Records};
+
+    type Op = RecordOp;
+
+    type Value = RecordValue;
+
+    ghost Fixed = { ℕ };
+
+    ghost State = { Records };
+
+    ghost fixed = { λ s. s.blocks };
+
+    ghost state = { λ s. s.records };
+
+    ghost step = { step_of };
+
+    fn copy(&self) -> Result<Store, OutOfMemory> {
+        Store::copy(self)
+    }
+
+    fn run(&mut self, operation: RecordOp) -> Result<Outcome<RecordValue>, OutOfMemory> {
         match operation {
             RecordOp::Put(id, rank, content) => self.put(id, rank, content),
             RecordOp::Remove(id) => Ok(self.remove(id)),
             RecordOp::Find(id) => match self.get(id) {
                 Some((rank, content)) => Ok(Outcome::Gives(RecordValue::Found(rank, content))),
-                None => Ok(Outcome::LacksRecord),
+                None => Ok(Outcome::Absent),
             },
             RecordOp::Ranked(rank, most) => {
                 Ok(Outcome::Gives(RecordValue::Ids(self.ids_from(rank, most)?)))

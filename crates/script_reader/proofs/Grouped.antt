@@ -6,3 +6,5 @@ pub mod Grouping
 pub mod Besides
 -- callers with one more script, and the scripts of callers
 pub mod Submitting
+-- what is wrong with a line between scripts, by the callers before it
+pub mod Outside

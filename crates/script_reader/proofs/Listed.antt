@@ -1,11 +1,3 @@
--- callers with scripts of any type, gathered one script at a time
-pub mod Gathering
--- the callers of a text's scripts are those that are gathered one script at a time
-pub mod Grouping
--- callers by their numbers
-pub mod Besides
--- callers with one more script, and the scripts of callers
-pub mod Submitting
 -- numbers in their ranges, and the words of a header
 pub mod Numbers
 -- headers of one size and of two, by their places

@@ -1,9 +1,8 @@
 -- Callers with scripts of any type, as the scripts of a text give them.
-use Rattle.std.specs.Prelude.{ℕ, ◌≤◌, List, [], map, slice_index_or, filter, length, sum_by, All}
-use Rattle.std.specs.List.{IsDistinct}
+use Rattle.std.specs.Prelude.{◌≡◌, ℕ, ◌≤◌, Bool, true, ◌&&◌, nat_le, List, [], ◌∷◌, ◌++◌, map, slice_index_or, filter, fold, length, sum_by, All, if◌then◌else◌}
+use Rattle.std.specs.List.{list_any, list_all, IsDistinct}
 use Rattle.std.specs.Str.{bytes_eq}
-use Rattle.script_reader.specs.declared.limits.TheConstants.{MOST_CALLERS, MOST_SCRIPTS}
-use Rattle.script_reader.specs.Input.{IsName, first_seen}
+use Rattle.script_reader.specs.declared.limits.TheConstants.{MOST_CALLERS, MOST_SCRIPTS, LONGEST_NAME}
 
 -- a caller: its name, and its scripts in the order in which they were given
 pub record CallerOf (S : Type 0) : Type 0 where
@@ -14,6 +13,22 @@ pub record CallerOf (S : Type 0) : Type 0 where
 pub record SubmissionOf (S : Type 0) : Type 0 where
   pub caller : List ℕ
   pub script : S
+
+-- whether a name is some letters from `a` to `z`
+abbrev pub is_name : List ℕ → Bool
+is_name name =
+    nat_le 1 (length name) && nat_le (length name) LONGEST_NAME && list_all (λ c. nat_le 97 c && nat_le c 122) name
+
+abbrev pub IsName : List ℕ → Type 0
+IsName name = is_name name ≡ true
+
+-- the names seen so far, and this one behind them where it is new
+abbrev pub add_name : List (List ℕ) → List ℕ → List (List ℕ)
+add_name seen name = if list_any (bytes_eq name) seen then seen else seen ++ name ∷ []
+
+-- names in the order in which they are first seen, each once
+abbrev pub first_seen : List (List ℕ) → List (List ℕ)
+first_seen names = fold add_name [] names
 
 module _ {S : Type 0} where
   -- the scripts of one caller, in order

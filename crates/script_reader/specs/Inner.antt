@@ -3,8 +3,6 @@ pub mod Codes
 pub mod LinesAsWords
 pub mod Rows
 pub mod BooksRows
-pub mod Placed
-pub mod Callers
 pub mod Scripts
 pub mod Cuts
 pub mod Branches

@@ -1,16 +1,14 @@
 -- An input: opening books, and callers with their scripts.
-use Rattle.std.specs.Prelude.{◌≡◌, ℕ, ◌≤◌, Bool, true, ◌&&◌, nat_le, List, [], ◌∷◌, ◌++◌, map, filter, fold, length, sum_by, All, if◌then◌else◌, slice_index_or}
-use Rattle.std.specs.List.{list_any, list_all, IsDistinct}
-use Rattle.std.specs.Str.{bytes_eq}
+use Rattle.std.specs.Prelude.{ℕ, List, [], slice_index_or}
 use Rattle.books_model.specs.declared.script.Part.{Part}
 use Rattle.books_model.specs.Books.{ClearingBooks}
 use Rattle.books_model.specs.Ranges.{AreInRange, IsScriptFor}
-use Rattle.script_reader.specs.declared.limits.TheConstants.{MOST_CALLERS, MOST_SCRIPTS, LONGEST_NAME}
+use Rattle.script_reader.specs.Gathered.{CallerOf, SubmissionOf, AreCallers}
+pub use Rattle.script_reader.specs.Gathered.{is_name, IsName, add_name, first_seen, scripts_by, callers_of, count_scripts}
 
--- a caller: its name, and its scripts in the order in which they were given
-pub record Caller : Type 0 where
-  pub name : List ℕ
-  pub scripts : List (List Part)
+-- a caller with scripts on books
+abbrev pub Caller : Type 0
+Caller = CallerOf (List Part)
 
 -- opening books, and the callers in the order in which they were first seen
 pub record ClearingInput : Type 0 where
@@ -25,47 +23,13 @@ caller_at input c = slice_index_or input.callers c (record { name = []; scripts 
 abbrev pub script_at : ClearingInput → ℕ → ℕ → List Part
 script_at input c i = slice_index_or (caller_at input c).scripts i []
 
--- a script as it stands in a text, with the name of its caller
-pub record Submission : Type 0 where
-  pub caller : List ℕ
-  pub script : List Part
-
--- whether a name is some letters from `a` to `z`
-abbrev pub is_name : List ℕ → Bool
-is_name name =
-    nat_le 1 (length name) && nat_le (length name) LONGEST_NAME && list_all (λ c. nat_le 97 c && nat_le c 122) name
-
-abbrev pub IsName : List ℕ → Type 0
-IsName name = is_name name ≡ true
-
--- the names seen so far, and this one behind them where it is new
-abbrev pub add_name : List (List ℕ) → List ℕ → List (List ℕ)
-add_name seen name = if list_any (bytes_eq name) seen then seen else seen ++ name ∷ []
-
--- names in the order in which they are first seen, each once
-abbrev pub first_seen : List (List ℕ) → List (List ℕ)
-first_seen names = fold add_name [] names
-
--- the scripts of one caller, in order
-abbrev pub scripts_by : List ℕ → List Submission → List (List Part)
-scripts_by name submissions = map (λ s. s.script) (filter (λ s. bytes_eq name s.caller) submissions)
-
--- the callers of the scripts of a text
-abbrev pub callers_of : List Submission → List Caller
-callers_of submissions =
-    map (λ name. record { name = name; scripts = scripts_by name submissions }) (first_seen (map (λ s. s.caller) submissions))
-
-abbrev pub count_scripts : List Caller → ℕ
-count_scripts callers = sum_by (λ c. length c.scripts) callers
+-- a script on books as it stands in a text, with the name of its caller
+abbrev pub Submission : Type 0
+Submission = SubmissionOf (List Part)
 
 -- callers that the grammar can give, each with at least one script, and all their scripts for the books
-pub record AreCallersFor (books : ClearingBooks) (callers : List Caller) : Type 0 where
-  pub few : length callers ≤ MOST_CALLERS
-  pub few_scripts : count_scripts callers ≤ MOST_SCRIPTS
-  pub names : All (λ c. IsName c.name) callers
-  pub names_differ : IsDistinct bytes_eq (map (λ c. c.name) callers)
-  pub scripts : All (λ c. All (IsScriptFor books) c.scripts) callers
-  pub some_scripts : All (λ c. 1 ≤ length c.scripts) callers
+abbrev pub AreCallersFor : ClearingBooks → List Caller → Type 0
+AreCallersFor books = AreCallers (IsScriptFor books)
 
 -- an input that the grammar can give
 pub record IsInput (input : ClearingInput) : Type 0 where

@@ -10,6 +10,7 @@ ghost use Rattle.script_reader.specs.Faults.{IsFaultyBehind, IsFrontFault, IsFir
 
 use crate::books::books_of;
 use crate::fault::{Fault, InputFault, Refusal};
+use crate::gathered::Gathered;
 use crate::input::Input;
 use crate::lines::Lines;
 use crate::scripts::scripts_of;
@@ -73,7 +74,7 @@ fn input_of(alloc: Global, lines: &mut Lines<'_>) -> Result<Input, Refusal>
 {
     let (version, books) = books_of(alloc, lines)?;
     let callers = scripts_of(alloc, lines, version, &books)?;
-    Ok(Input::new(books, callers))
+    Ok(Input::new(books, Gathered::new(callers)))
 }
 
 // The number of the line with a fault, from 1, where so many lines were read. A line that is missing is the next.

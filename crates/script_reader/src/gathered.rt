@@ -1,6 +1,6 @@
 //! Callers with scripts of any type, in the order in which they were first seen, each with its scripts in their order.
 
-ghost use Rattle.std.specs.Prelude.{◌≡◌, ◌<◌, Some, length, slice_get};
+ghost use Rattle.std.specs.Prelude.{◌≡◌, ◌≢◌, ℕ, ◌<◌, Some, IfSome, IfNone, length, slice_get};
 
 use crate::gathering::Gathering;
 use std::marker::Model;
@@ -48,6 +48,19 @@ impl<S: Drop> Gathered<S> {
         ensures { result.now ≡ (caller_at self.now caller).name }
     {
         self.gathering.names[caller].as_str()
+    }
+
+    /// The number of the caller with a name.
+    pub fn caller_named(&self, name: &str) -> Option<usize>
+        ensures found { IfSome result (λ caller. (caller < length self.now)
+            × ((caller_at self.now caller).name ≡ name.now)) }
+        ensures none { IfNone result ((caller : ℕ) → caller < length self.now
+            → (caller_at self.now caller).name ≢ name.now) }
+    {
+        match self.gathering.names.get_index_of(name) {
+            Some(place) => Some(place),
+            None => None,
+        }
     }
 
     /// How many scripts a caller has.

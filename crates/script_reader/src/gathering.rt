@@ -1,9 +1,12 @@
 //! Callers with scripts of any type, while they are gathered.
 
-ghost use Rattle.std.specs.Prelude.{◌≡◌, ◌<◌, [], length, map, OnOk};
+ghost use Rattle.std.specs.Prelude.{◌≡◌, ◌<◌, [], length, map, IfOk, OnOk};
+ghost use Rattle.std.specs.List.{position_or_len};
+ghost use Rattle.std.specs.Str.{bytes_eq};
+ghost use Rattle.std.specs.String.{string_bytes};
+ghost use Rattle.script_reader.specs.Gathered.{add_name};
 ghost use Rattle.script_reader.specs.Inner.Gatherings.{put_script};
 
-use crate::callers::place_of;
 use crate::limits::{MOST_CALLERS, MOST_SCRIPTS};
 use indexmap::IndexSet;
 use io_ends::OutOfMemory;
@@ -19,8 +22,7 @@ pub(crate) struct Gathering<S> {
 
 impl<S: Drop> Gathering<S> {
     ghost use Rattle.script_reader.specs.Gathered.{count_scripts};
-    ghost use Rattle.script_reader.specs.Inner.Gatherings.{callers_in, IsEven, add_submission};
-    ghost use Rattle.script_reader.specs.Inner.ListScripts.{is_beyond_in};
+    ghost use Rattle.script_reader.specs.Inner.Gatherings.{callers_in, IsEven, add_submission, is_beyond_in};
 
     // No callers.
     pub(crate) fn new(alloc: Global) -> Gathering<S>
@@ -58,6 +60,24 @@ impl<S: Drop> Gathering<S> {
         self.count += 1;
         Ok(())
     }
+}
+
+// The place of a name, behind the others where it is new. A name that is known takes no memory.
+pub(crate) fn place_of(
+    alloc: Global,
+    names: &mut IndexSet<String>,
+    name: &str,
+) -> Result<usize, OutOfMemory>
+    ensures names { OnOk result
+        (map string_bytes names.new.keys ≡ add_name (map string_bytes names.old.keys) name.now) }
+    ensures place { IfOk result (λ place. place
+        ≡ position_or_len (bytes_eq name.now) (map string_bytes names.old.keys)) }
+{
+    if let Some(place) = names.get_index_of(name) {
+        return Ok(place);
+    }
+    let (place, _) = names.insert_full(String::from_str(alloc, name)?)?;
+    Ok(place)
 }
 
 // Puts a script behind those at a place, or as the first one at a new place behind all.

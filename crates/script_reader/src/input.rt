@@ -2,7 +2,7 @@
 
 ghost use Rattle.std.specs.Prelude.{◌≡◌, ◌≢◌, ℕ, ◌<◌, length, IfSome, IfNone};
 
-use crate::callers::Callers;
+use crate::gathered::Gathered;
 use books_model::{Books, Script};
 use std::marker::Model;
 
@@ -10,33 +10,29 @@ use std::marker::Model;
 #[derive(Drop)]
 pub struct Input {
     books: Books,
-    callers: Callers,
+    callers: Gathered<Script>,
 }
 
 impl Model for Input {
     ghost use Rattle.script_reader.specs.Input.{ClearingInput, IsInput};
     ghost use Rattle.script_reader.specs.Inner.Codes.{input_code};
-    ghost use Rattle.script_reader.specs.Inner.Callers.{callers_in, IsEven};
 
     ghost Value = { ClearingInput };
 
     ghost coded = { input_code };
 
-    ghost view = { λ i. record { books = i.books; callers = callers_in i.callers } };
+    ghost view = { λ i. record { books = i.books; callers = i.callers } };
 
-    ghost invariant = { λ i. IsInput (record { books = i.books; callers = callers_in i.callers })
-        × IsEven i.callers };
+    ghost invariant = { λ i. IsInput (record { books = i.books; callers = i.callers }) };
 }
 
 impl Input {
     ghost use Rattle.script_reader.specs.Input.{IsInput, caller_at, script_at, count_scripts};
-    ghost use Rattle.script_reader.specs.Inner.Callers.{callers_in, IsEven};
 
     // The input of books and of callers that were gathered.
-    pub(crate) fn new(books: Books, callers: Callers) -> Input
-        requires valid { IsInput (record { books = books; callers = callers_in callers }) }
-        requires even { IsEven callers }
-        ensures { result ≡ record { books = books; callers = callers_in callers } }
+    pub(crate) fn new(books: Books, callers: Gathered<Script>) -> Input
+        requires { IsInput (record { books = books; callers = callers }) }
+        ensures { result ≡ record { books = books; callers = callers } }
     {
         Input { books, callers }
     }
@@ -54,7 +50,7 @@ impl Input {
         // What holds of all inputs.
         ensures valid { IsInput self.now }
     {
-        self.callers.names.len() as u32
+        self.callers.callers() as u32
     }
 
     /// The name of a caller, by its number from 0.
@@ -62,7 +58,7 @@ impl Input {
         requires { caller < length self.now.callers }
         ensures { result.now ≡ (caller_at self.now caller).name }
     {
-        self.callers.names[caller as usize].as_str()
+        self.callers.name(caller as usize)
     }
 
     /// The number of the caller with a name, from 0.
@@ -72,7 +68,7 @@ impl Input {
         ensures none { IfNone result ((caller : ℕ) → caller < length self.now.callers
             → (caller_at self.now caller).name ≢ name.now) }
     {
-        match self.callers.names.get_index_of(name) {
+        match self.callers.caller_named(name) {
             Some(place) => Some(place as u32),
             None => None,
         }
@@ -83,7 +79,7 @@ impl Input {
         requires { caller < length self.now.callers }
         ensures { result ≡ length (caller_at self.now caller).scripts }
     {
-        self.callers.scripts[caller as usize].len() as u32
+        self.callers.scripts_of(caller as usize) as u32
     }
 
     /// A script of a caller, both by their numbers from 0.
@@ -92,13 +88,13 @@ impl Input {
         requires index { index < length (caller_at self.now caller).scripts }
         ensures { result.now ≡ script_at self.now caller index }
     {
-        &self.callers.scripts[caller as usize][index as usize]
+        self.callers.script(caller as usize, index as usize)
     }
 
     /// How many scripts there are of all callers.
     pub fn scripts(&self) -> u32
         ensures { result ≡ count_scripts self.now.callers }
     {
-        self.callers.count as u32
+        self.callers.scripts() as u32
     }
 }

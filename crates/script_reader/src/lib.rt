@@ -2,7 +2,6 @@
 #![tactic(auto)]
 
 mod books;
-mod callers;
 pub mod fault;
 mod front;
 pub mod gathered;

@@ -13,12 +13,12 @@ ghost use Rattle.script_reader.specs.Forms.{is_only};
 ghost use Rattle.script_reader.specs.Inner.LinesAsWords.{BetweenParts, InFirst, lines_so_far, lines_inside, parts_with};
 ghost use Rattle.script_reader.specs.Inner.OfVersion.{IsOperationOf, IsScriptOf};
 ghost use Rattle.script_reader.specs.Inner.Branches.{branch_with, closing_word};
-ghost use Rattle.script_reader.specs.Inner.Callers.{callers_in, IsEven};
+ghost use Rattle.script_reader.specs.Inner.Gatherings.{callers_in, IsEven};
 ghost use Rattle.script_reader.specs.Faults.{IsFaultyBehind};
 ghost use Rattle.script_reader.specs.Inner.Scripts.{IsReadOf, IsAdded};
 
-use crate::callers::Callers;
 use crate::fault::{Fault, Refusal};
+use crate::gathering::Gathering;
 use crate::lines::Lines;
 use crate::names::caller_of;
 use crate::operations::operation_of;
@@ -206,7 +206,7 @@ fn add_script(
     lines: &mut Lines<'_>,
     version: Version,
     books: &Books,
-    callers: &mut Callers,
+    callers: &mut Gathering<Script>,
     words: &Words<'_>,
 ) -> Result<(), Refusal>
     requires even { IsEven callers.old }
@@ -235,7 +235,7 @@ fn gather(
     lines: &mut Lines<'_>,
     version: Version,
     books: &Books,
-    callers: &mut Callers,
+    callers: &mut Gathering<Script>,
 ) -> Result<(), Refusal>
     requires none { callers_in callers.old ≡ [] }
     requires even { IsEven callers.old }
@@ -261,14 +261,14 @@ pub(crate) fn scripts_of(
     lines: &mut Lines<'_>,
     version: Version,
     books: &Books,
-) -> Result<Callers, Refusal>
+) -> Result<Gathering<Script>, Refusal>
     ensures even { IfOk result (λ callers. IsEven callers) }
     ensures found { IfOk result
         (λ callers. IsReadOf version books.now (callers_in callers) lines.old lines.new) }
     ensures fault { (why : AnyFault) → result ≡ Err (Refusal.LineFault why)
         → IsFaultyBehind (lines_so_far version books.now []) lines.old lines.new why }
 {
-    let mut callers = Callers::new(alloc);
+    let mut callers = Gathering::new(alloc);
     gather(alloc, lines, version, books, &mut callers)?;
     Ok(callers)
 }

@@ -11,7 +11,6 @@ ghost use Rattle.order_match.specs.Standing.{IsGoodFor};
 use books_model::limits::{GREATEST_PRICE, GREATEST_QUANTITY, MOST_OPERATIONS};
 use io_ends::OutOfMemory;
 use order_match::lay::empty_words;
-use order_match::on_plain::run_on_plain;
 use order_match::shape::OrderShape;
 use order_text::limits::GREATEST_ORDER;
 use order_text::{
@@ -19,6 +18,7 @@ use order_text::{
 };
 use std::alloc::Global;
 use std::process::Abort;
+use txn_stores::run_on_plain;
 
 // What an operation is to tell.
 #[derive(Clone, Copy)]

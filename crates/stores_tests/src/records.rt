@@ -18,8 +18,8 @@ use record_text::{
 use std::alloc::Global;
 use std::process::Abort;
 use txn_records::lay::empty_words;
-use txn_records::on_plain::run_on_plain;
 use txn_records::shape::RecordShape;
+use txn_stores::run_on_plain;
 
 // What an operation is to tell.
 #[derive(Clone, Copy)]

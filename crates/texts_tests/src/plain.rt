@@ -156,7 +156,7 @@ fn run_orders(
         let script = input.script(0, index);
         if script.len() <= MOST_OPERATIONS {
             let reply = order_text::run_plain(alloc, script, book)?;
-            order_text::words::write_reply(replies, &reply)?;
+            books_report::stores::write_reply(replies, &reply)?;
             replies.push('\n')?;
         }
     }
@@ -289,7 +289,7 @@ fn run_records(
         let script = input.script(0, index);
         if script.len() <= MOST_OPERATIONS {
             let reply = record_text::run_plain(alloc, script, store)?;
-            record_text::words::write_reply(replies, &reply)?;
+            books_report::stores::write_reply(replies, &reply)?;
             replies.push('\n')?;
         }
     }

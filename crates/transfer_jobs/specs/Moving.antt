@@ -1,5 +1,5 @@
 -- Lists of words with a sum, and what a transfer means on one.
-use Rattle.std.specs.Prelude.{◌≡◌, ◌≢◌, ◌↔◌, ℕ, ◌+◌, ◌-◌, ◌<◌, ◌≤◌, ◌^◌, List, Bool, true, length, slice_index, slice_set}
+use Rattle.std.specs.Prelude.{◌≡◌, ◌≢◌, ◌↔◌, ℕ, ◌+◌, ◌-◌, ◌<◌, ◌≤◌, ◌^◌, List, Bool, true, Option, length, slice_get, slice_index, slice_set}
 use Rattle.std.specs.List.{sum}
 
 -- the words' sum is the total, and fits 64 bits
@@ -27,4 +27,10 @@ pub record Moves (from to amount : ℕ) (s : List ℕ) (kept : Bool) (t : List �
 pub record TellsSum (s : List ℕ) (kept : Bool) (answer : ℕ) (t : List ℕ) : Type 0 where
   pub keeps : kept ≡ true
   pub tells : answer ≡ sum s
+  pub same : t ≡ s
+
+-- the answer is the word at the place, if there is one, and nothing changes
+pub record TellsWord (place : ℕ) (s : List ℕ) (kept : Bool) (held : Option ℕ) (t : List ℕ) : Type 0 where
+  pub keeps : kept ≡ true
+  pub tells : held ≡ slice_get s place
   pub same : t ≡ s

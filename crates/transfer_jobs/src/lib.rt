@@ -1,14 +1,19 @@
-//! An example's jobs: transfers among the words of a vault, and an audit of their sum.
+//! An example's jobs: transfers among the words of a vault, audits of their sum, and looks at one of them.
 //!
 //! `Vault` says which word lists are good: those with a certain sum. `Transfer` moves an amount from one word to another,
-//! and `Audit` tells the sum. The crate `transfers` runs them on threads.
+//! `Audit` tells the sum, and `Look` tells one word. `Request` is a job of any of these kinds. The crate `transfers` runs
+//! lists of them on threads.
 #![tactic(auto)]
 
 pub mod audit;
+pub mod look;
+pub mod request;
 pub mod transfer;
 pub mod vault;
 
 pub use audit::Audit;
+pub use look::Look;
+pub use request::{Answer, Request};
 pub use transfer::Transfer;
 pub use vault::Vault;
 

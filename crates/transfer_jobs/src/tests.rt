@@ -1,6 +1,6 @@
-//! Transfers and audits on a plain list, with words computed by hand.
+//! Transfers, audits and looks on a plain list, with words computed by hand.
 
-use crate::{Audit, Transfer, Vault};
+use crate::{Answer, Audit, Look, Request, Transfer, Vault};
 use std::test::Fail;
 use txn_words::{Verdict, run_on_plain};
 
@@ -24,5 +24,9 @@ fn an_amount_is_moved_and_the_sum_told_on_a_plain_list(rt: HostRuntime) -> Resul
     let (verdict, plain) = run_on_plain(rt.alloc(), vault, words, &Audit { vault })?;
     assert_eq!(rt; verdict, Verdict::Keep(13));
     assert_eq!(rt; plain.words(), [1, 7, 5].as_slice());
+    let look = Request::Look(Look { vault, place: 1 });
+    let words = Vec::from_slice(rt.alloc(), &[1, 7, 5])?;
+    let (verdict, _) = run_on_plain(rt.alloc(), vault, words, &look)?;
+    assert_eq!(rt; verdict, Verdict::Keep(Answer::Held(Some(7))));
     Ok(())
 }

@@ -1,58 +1,49 @@
-//! Lists of transfers, each on a thread of its own.
+//! Lists of requests, on threads.
 
-ghost use Rattle.std.specs.Prelude.{◌≡◌, ◌<◌, ◌≤◌, ◌*◌, ◌^◌, All, length, IfOk};
-ghost use Rattle.std.specs.List.{sum, sum_by};
-ghost use Rattle.word_table.specs.Closing.{AreRecords, IsCoherent, IsLegalInEachOrder};
-ghost use Rattle.word_table.specs.declared.limits.TheConstants.{LAST_CALL, MOST_PASSES, MOST_WORDS};
-ghost use Rattle.transfers.specs.Making.{moves_of, HaveSumOf};
-ghost use Rattle.transfers.specs.Serving.{AreServed};
+ghost use Rattle.std.specs.Prelude.{◌≡◌, ◌↔◌, ◌<◌, ◌≤◌, All, Err, length, IfOk};
+ghost use Rattle.history_model.specs.Fitting.{IsGood};
+ghost use Rattle.word_table.specs.declared.limits.TheConstants.{MOST_WORDS};
+ghost use Rattle.transfer_jobs.specs.Moving.{HasSum};
+ghost use Rattle.transfer_jobs.specs.Requests.{vault_of, Does};
+ghost use Rattle.txn_commit.specs.Jobs.{count_at, means_at, AreTooMany};
+ghost use Rattle.txn_commit.specs.Lists.{AreOnceInOrder};
+ghost use Rattle.txn_commit.specs.Ordered.{IsSerial};
+ghost use Rattle.transfers.specs.Telling.{AreTold};
 
-use crate::move_lists::MoveLists;
-use crate::moves::Move;
-use io_ends::OutOfMemory;
 use std::alloc::Global;
 use std::sync::Wait;
 use std::thread::Threads;
-use transfer_jobs::Vault;
-use txn_commit::{ListsEnd, run_lists};
+use transfer_jobs::{Request, Vault};
+use txn_commit::{JobsEnd, RunStop, run_jobs};
 
-/// Makes the moves of each list in their order, the lists on threads at the same time, over these accounts, with an audit
-/// after each move. Each move is one transaction, and changes nothing where it is not covered; each audit is one too.
+/// Does what the requests ask of the vault with these accounts, those of each list in their order, with so many threads at
+/// the same time. Each request is one transaction.
 ///
-/// It answers the closed table, and an item for each move and for each audit, whose caller is the place of its list. Which
-/// moves are covered depends on the order in which the threads come to them; the sum does not.
+/// It answers the closed table, and what each request was answered, in an order in which one thread alone would have
+/// answered the same. Which transfers are covered depends on that order; the sum does not.
 pub fn run_transfers<R: Threads + Wait + Sync>(
     rt: &R,
     alloc: Global,
+    vault: Vault,
     accounts: Vec<u64>,
-    lists: Vec<Vec<Move>>,
-) -> Result<ListsEnd<MoveLists>, OutOfMemory>
+    lists: &[Vec<Request>],
+    threads: u32,
+) -> Result<JobsEnd<Request>, RunStop>
     requires words { (1 ≤ length accounts.items) × (length accounts.items ≤ MOST_WORDS) }
-    requires total { sum accounts.items < 2 ^ 64 }
-    requires lists { (1 ≤ length lists.items) × (length lists.items ≤ MOST_PASSES) }
-    // There are two calls for each move.
-    requires room { sum_by (λ list. 2 * length list.items) lists.items ≤ LAST_CALL }
-    ensures count { IfOk result (λ end. length end.closed.words ≡ length accounts.items) }
-    ensures total { IfOk result (λ end. sum end.closed.words ≡ sum accounts.items) }
-    // All that was committed, with the attempts that gave way, has an arrangement. In every arrangement each item finds
-    // words with that sum, on which its trace is legal, and the words at the end are what the last leaves.
-    ensures began { IfOk result (λ end. (end.closed.base ≡ accounts.items)
-        × (end.closed.seats ≡ length lists.items)) }
-    ensures coherent { IfOk result (λ end. IsCoherent (HaveSumOf accounts.items) end.closed) }
-    ensures legal { IfOk result (λ end.
-        IsLegalInEachOrder (HaveSumOf accounts.items) end.closed) }
-    ensures records { IfOk result (λ end. AreRecords end.closed) }
-    // All moves were made, each list's in its order, and each audit told that sum.
-    ensures served { IfOk result (λ end. AreServed accounts.items end.closed.records
-        (moves_of lists.items) end.done.items) }
-    ensures below { IfOk result (λ end. All (λ ran. ran.restarts < length lists.items)
-        end.done.items) }
+    requires good { IsGood vault.words (HasSum vault.total) accounts.items }
+    requires vault { All (λ list. All (λ request. vault_of request ≡ vault) list.items) lists.now }
+    ensures too_many { (result ≡ Err RunStop.TooMany) ↔ AreTooMany lists.now threads }
+    // The vault has its words and its total at the end.
+    ensures good { IfOk result (λ end. IsGood vault.words (HasSum vault.total) end.closed.words) }
+    // Each request was done once, and those of a list stand in their order.
+    ensures once { IfOk result (λ end.
+        AreOnceInOrder (length lists.now) (count_at lists.now) end.done.items) }
+    // They were done as if one after another, from the accounts that were handed in to the words at the end.
+    ensures served { IfOk result (λ end. IsSerial (IsGood vault.words (HasSum vault.total))
+        (means_at Does lists.now) accounts.items end.closed.words end.done.items) }
+    // Whatever was done before it, each audit told the total.
+    ensures told { IfOk result (λ end. AreTold vault.total lists.now end.done.items) }
+    ensures few { IfOk result (λ end. All (λ ran. ran.restarts < threads) end.done.items) }
 {
-    let vault = Vault {
-        words: accounts.len() as u64,
-        total: accounts.iter().sum(),
-    };
-    let workers = lists.len() as u32;
-    let moves = MoveLists { vault, lists };
-    run_lists(rt, alloc, &moves, accounts, workers)
+    run_jobs(rt, alloc, vault, accounts, lists, threads)
 }

@@ -10,10 +10,11 @@ use Rattle.books_report.specs.declared.line.Line.{Line}
 use Rattle.books_report.specs.Output.{Ran, places_run, replies_of, books_after, text_of, output_of, IsOutput}
 use Rattle.books_report.specs.Lines.{scripts_of}
 use Rattle.books_report.specs.Lines as lines
-use Rattle.worker_pool.specs.declared.done.Done.{Done}
+use Rattle.txn_stores.specs.Journals.{line_of_done}
+use Rattle.worker_pool.specs.Days.{Done}
 use Rattle.worker_pool.specs.declared.done.DayEnd.{DayEnd}
 use Rattle.worker_pool.specs.Days as days
-use Rattle.twoplsf.specs.Day.{ran_of_item, line_of, journal_of, closing_books, IsDayOf}
+use Rattle.twoplsf.specs.Day.{ran_of_item, journal_of, closing_books, IsDayOf}
 
 -- the places of a journal are those of its items
 places_same : (done : List Done) → places_run (map ran_of_item done) ≡ days.places_of_items done
@@ -26,18 +27,18 @@ replies_same [] = refl
 replies_same (item ∷ done) = ap (λ replies. item.reply ∷ replies) (replies_same done)
 
 -- the lines of items, each with its reply beside it
-pub beside : (done : List Done) → scripts_of (map line_of done) (map (λ (item : Done). item.reply) done) ≡ map ran_of_item done
+pub beside : (done : List Done) → scripts_of (map line_of_done done) (map (λ (item : Done). item.reply) done) ≡ map ran_of_item done
 beside [] = refl
 beside (item ∷ done) = ap (λ rans. ran_of_item item ∷ rans) (beside done)
 
-pub as_many : (done : List Done) → length (map line_of done) ≡ length (map (λ (item : Done). item.reply) done)
+pub as_many : (done : List Done) → length (map line_of_done done) ≡ length (map (λ (item : Done). item.reply) done)
 as_many [] = refl
 as_many (item ∷ done) = ap (λ n. suc n) (as_many done)
 
 module _ (input : ClearingInput) (workers : ℕ) (day : DayEnd) (is : IsDayOf input workers day) where
   -- each line is of a script of the input
-  pub lines_places : All (λ (l : Line). IsPlace input (lines.place_of_line l)) (map line_of day.done.items)
-  lines_places = All-map (λ (l : Line). IsPlace input (lines.place_of_line l)) line_of day.done.items
+  pub lines_places : All (λ (l : Line). IsPlace input (lines.place_of_line l)) (map line_of_done day.done.items)
+  lines_places = All-map (λ (l : Line). IsPlace input (lines.place_of_line l)) line_of_done day.done.items
       (All-from_map day.done.items is.is_day.journal.only)
     where
       All-from_map : (done : List Done) → All (IsPlace input) (days.places_of_items done) → All (λ (item : Done). IsPlace input (days.place_of_item item)) done
@@ -46,7 +47,7 @@ module _ (input : ClearingInput) (workers : ℕ) (day : DayEnd) (is : IsDayOf in
 
   -- the books that it left close the output
   pub text_is : (text : List ℕ) (lines : List Line) (replies : List Reply) (closing : ClearingBooks)
-      → lines ≡ map line_of day.done.items → replies ≡ map (λ (item : Done). item.reply) day.done.items → closing ≡ closing_books input day
+      → lines ≡ map line_of_done day.done.items → replies ≡ map (λ (item : Done). item.reply) day.done.items → closing ≡ closing_books input day
       → text ≡ text_of input (scripts_of lines replies) closing → text ≡ output_of input (journal_of day)
   text_is text lines replies closing lines_are replies_are closed told =
       let scripts : scripts_of lines replies ≡ journal_of day = (λ i. scripts_of (lines_are i) (replies_are i)) ∙ beside day.done.items in

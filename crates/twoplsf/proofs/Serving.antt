@@ -15,8 +15,8 @@ use Rattle.input_maker.specs.Made.{made_input_text}
 use Rattle.record_text.specs.Input.{StoreInput}
 use Rattle.order_text.specs.Input.{BookInput}
 use Rattle.worker_pool.specs.declared.done.DayEnd.{DayEnd}
-use Rattle.txn_records.specs.declared.done.RecordDay.{RecordDay}
-use Rattle.order_match.specs.declared.done.OrderDay.{OrderDay}
+use Rattle.txn_records.specs.Days.{RecordDay}
+use Rattle.order_match.specs.Days.{OrderDay}
 use Rattle.record_text.specs.Grammar.{SpellsRecords, IsRecordFault}
 use Rattle.order_text.specs.Grammar.{SpellsOrders, IsOrderFault}
 use Rattle.txn_cells.specs.declared.coded.Coded.{Ghosts as Codes}

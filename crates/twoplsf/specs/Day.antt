@@ -2,24 +2,18 @@
 use Rattle.std.specs.Prelude.{◌≡◌, ℕ, List, map}
 use Rattle.history_model.specs.Fitting.{IsGood}
 use Rattle.script_reader.specs.Input.{ClearingInput}
-use Rattle.books_report.specs.declared.line.Line.{Line}
 use Rattle.books_model.specs.Books.{ClearingBooks}
 use Rattle.books_report.specs.Output.{Ran, books_after}
 use Rattle.txn_books.specs.Layout.{words_of}
 use Rattle.txn_books.specs.Standing.{Stands, IsGoodFor}
 use Rattle.word_table.specs.Closing.{AreRecords, IsCoherent, IsLegalInEachOrder}
-use Rattle.worker_pool.specs.declared.done.Done.{Done}
 use Rattle.worker_pool.specs.declared.done.DayEnd.{DayEnd}
-use Rattle.worker_pool.specs.Days.{place_of_item, AreCallersWhole, IsDay}
+use Rattle.worker_pool.specs.Days.{place_of_item, AreCallersWhole, Done, IsDay}
 use Rattle.worker_pool.specs.Days as days
 
 -- what the journal says of an item
 abbrev pub ran_of_item : Done → Ran
 ran_of_item item = record { place = place_of_item item; restarts = item.restarts; reply = item.reply }
-
--- the line of an item, without its reply
-abbrev pub line_of : Done → Line
-line_of item = record { caller = item.caller; index = item.index; restarts = item.restarts }
 
 -- what the journal says of all items, in their order
 abbrev pub journal_of : DayEnd → List Ran

@@ -6,8 +6,9 @@ use Rattle.order_text.specs.Grammar.{SpellsOrders}
 use Rattle.order_text.specs.Input.{BookInput}
 use Rattle.order_text.specs.Orders.{empty_book}
 use Rattle.order_text.specs.Output.{IsOrderOutput, closing_of, text_of}
-use Rattle.order_match.specs.declared.done.OrderDay.{OrderDay}
-use Rattle.order_match.specs.Days.{AreDealtInTurn, IsOrderDay, scripts_done, shape_of}
+use Rattle.txn_commit.specs.Lists.{AreDealt}
+use Rattle.txn_stores.specs.Journals.{scripts_done}
+use Rattle.order_match.specs.Days.{shape_of, IsOrderDay, OrderDay}
 use Rattle.order_match.specs.Layout.{words_of}
 use Rattle.order_match.specs.Standing.{IsGoodFor, Stands}
 use Rattle.word_table.specs.Closing.{AreRecords, IsCoherent, IsLegalInEachOrder}
@@ -26,7 +27,7 @@ pub record IsOrdersDayOf (input : BookInput) (workers : ℕ) (day : OrderDay) : 
   pub legal : IsLegalInEachOrder (IsGood (words_of day.closed.shape) (IsGoodFor day.closed.shape)) day.closed
   pub records : AreRecords day.closed
   pub is_day : IsOrderDay input day.closed day.done.items
-  pub dealt : AreDealtInTurn workers day.done.items
+  pub dealt : AreDealt workers day.done.items
   pub text_is : day.text.items
       ≡ text_of input (scripts_done day.done.items) (closing_of input (scripts_done day.done.items))
   pub output : IsOrderOutput input workers day.text.items

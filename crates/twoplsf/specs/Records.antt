@@ -6,8 +6,9 @@ use Rattle.history_model.specs.Fitting.{IsGood}
 use Rattle.record_text.specs.Grammar.{SpellsRecords}
 use Rattle.record_text.specs.Input.{StoreInput}
 use Rattle.record_text.specs.Output.{IsRecordOutput, closing_of, text_of}
-use Rattle.txn_records.specs.declared.done.RecordDay.{RecordDay}
-use Rattle.txn_records.specs.Days.{AreDealtInTurn, IsRecordDay, scripts_done}
+use Rattle.txn_commit.specs.Lists.{AreDealt}
+use Rattle.txn_stores.specs.Journals.{scripts_done}
+use Rattle.txn_records.specs.Days.{IsRecordDay, RecordDay}
 use Rattle.txn_records.specs.Layout.{words_of}
 use Rattle.txn_records.specs.Standing.{IsGoodFor, Stands}
 use Rattle.word_table.specs.Closing.{AreRecords, IsCoherent, IsLegalInEachOrder}
@@ -26,7 +27,7 @@ pub record IsRecordsDayOf (input : StoreInput) (workers : ℕ) (day : RecordDay)
   pub legal : IsLegalInEachOrder (IsGood (words_of day.closed.shape) (IsGoodFor day.closed.shape)) day.closed
   pub records : AreRecords day.closed
   pub is_day : IsRecordDay input day.closed day.done.items
-  pub dealt : AreDealtInTurn workers day.done.items
+  pub dealt : AreDealt workers day.done.items
   pub text_is : day.text.items
       ≡ text_of input (scripts_done day.done.items) (closing_of input (scripts_done day.done.items))
   pub output : IsRecordOutput input workers day.text.items

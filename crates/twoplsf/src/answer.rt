@@ -1,19 +1,18 @@
 //! The answer to the bytes of an input.
 
-ghost use Rattle.std.specs.Prelude.{◌≡◌, map, IfOk};
+ghost use Rattle.std.specs.Prelude.{◌≡◌, IfOk};
 ghost use Rattle.books_model.specs.Ranges.{IsWithin};
-ghost use Rattle.books_report.specs.Lines.{lent};
 ghost use Rattle.books_report.specs.Output.{output_of};
 ghost use Rattle.script_reader.specs.declared.limits.TheConstants.{MOST_WORKERS};
 ghost use Rattle.script_reader.specs.Faults.{IsFirstFault};
 ghost use Rattle.script_reader.specs.Grammar.{Spells};
 ghost use Rattle.twoplsf.specs.Answer.{Answers, IsRunOf, IsText, refused_line, status_of, text_of_answer};
-ghost use Rattle.twoplsf.specs.Day.{IsDayOf, closing_books, journal_of, line_of};
+ghost use Rattle.twoplsf.specs.Day.{IsDayOf, closing_books, journal_of};
 
 use crate::day::run_day;
 use crate::status::Status;
-use books_model::{Books, Reply};
-use books_report::{Line, journal_text};
+use books_model::Books;
+use books_report::journal_text;
 use io_ends::OutOfMemory;
 use order_match::OrderDay;
 use script_reader::{Fault, Input, InputFault, read_input};
@@ -24,9 +23,10 @@ use txn_books::laws::one_books;
 use txn_books::{BooksShape, read_books};
 use txn_cells::CellsShape;
 use txn_records::RecordDay;
+use txn_stores::{lines_of, replies_of};
 use word_table::Closed;
 use worker_gate::Gate;
-use worker_pool::{DayEnd, Done};
+use worker_pool::DayEnd;
 
 /// What a command has to say, and what was done for it.
 #[derive(Drop)]
@@ -87,32 +87,6 @@ pub(crate) fn refusal(alloc: Global, line: u32, why: Fault) -> Result<Answer, Ou
         status: Status::BadInput,
         text: text.into_bytes(),
     })
-}
-
-// The lines of a journal.
-fn lines_of(alloc: Global, done: &[Done]) -> Result<Vec<Line>, OutOfMemory>
-    ensures { IfOk result (λ lines. lines.items ≡ map line_of done.now) }
-{
-    let mut lines = Vec::new(alloc);
-    for item in done {
-        lines.push(Line {
-            caller: item.caller,
-            index: item.index,
-            restarts: item.restarts,
-        })?;
-    }
-    Ok(lines)
-}
-
-// The replies beside them, which the day lends.
-fn replies_of(alloc: Global, done: &[Done]) -> Result<Vec<&Reply>, OutOfMemory>
-    ensures { IfOk result (λ replies. lent replies.items ≡ map (λ item. item.reply) done.now) }
-{
-    let mut replies = Vec::new(alloc);
-    for item in done {
-        replies.push(&item.reply)?;
-    }
-    Ok(replies)
 }
 
 // The books for which the closed words of a day stand: those that the interpreter leaves.

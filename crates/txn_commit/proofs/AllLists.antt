@@ -24,7 +24,7 @@ use Rattle.values_rule.proofs.Told.ItemsIn.{entry_from, in_flat_map, IsAttemptOf
 use Rattle.word_table.specs.Closing.{AreRecords, AreSeenBy, ClosedView, IsCoherent, IsLegalInEachOrder, items_of_closed}
 use Rattle.word_table.specs.Copies.{PassView}
 use Rattle.word_table.specs.Desks.{DeskView}
-use Rattle.txn_commit.specs.declared.lists.Ran.{Ran}
+use Rattle.txn_commit.specs.declared.lists.Done.{Done}
 use Rattle.txn_commit.specs.Lists.{calls_of, indexes_of, AreCounted, AreDealt, AreMeant, AreOnceInOrder, HaveRecords}
 use Rattle.txn_commit.specs.Ordered.{AreRun}
 use Rattle.txn_commit.specs.Inner.ListWork.{HasRun, IsMade, IsMadeBy, Made, RanFirst}
@@ -49,23 +49,23 @@ good_before good closed coherent legal order arranged (suc q) le =
 
 -- what all workers ran, over the closed table
 pub record AreWhole {S A : Type 0} (good : List ℕ → Type 0) (means : ℕ → ℕ → List ℕ → Bool → A → List ℕ → Type 0) (callers : ℕ) (jobs : ℕ → ℕ)
-    (workers : ℕ) (closed : ClosedView S) (ran : List (Ran A)) : Type 0 where
+    (workers : ℕ) (closed : ClosedView S) (ran : List (Done A)) : Type 0 where
   pub once : AreOnceInOrder callers jobs ran
   pub dealt : AreDealt workers ran
   pub recorded : HaveRecords closed.records ran
   pub counted : AreCounted ran
-  pub below : All (λ (x : Ran A). x.restarts < workers) ran
+  pub below : All (λ (x : Done A). x.restarts < workers) ran
   pub meant : AreMeant means closed ran
   pub run : AreRun good means closed ran
 
 module _ {S A X : Type 0} (good : List ℕ → Type 0) (means : ℕ → ℕ → List ℕ → Bool → A → List ℕ → Type 0) (callers : ℕ) (jobs : ℕ → ℕ) (workers : ℕ)
-    (closed : ClosedView S) (items_of : X → List (Ran A)) (clients : List X) (passes : List PassView)
+    (closed : ClosedView S) (items_of : X → List (Done A)) (clients : List X) (passes : List PassView)
     (some : 0 < workers) (many : length clients ≡ workers) (count : length passes ≡ length clients)
     (each : (k : ℕ) (x : X) (p : PassView) → slice_get clients k ≡ Some x → slice_get passes k ≡ Some p
     → HasRun good means workers k p.view (items_of x) × RanFirst jobs workers k callers (items_of x))
     (seen : AreSeenBy passes closed.records) (records : AreRecords closed)
     (coherent : IsCoherent good closed) (legal : IsLegalInEachOrder good closed) where
-  abbrev done : List (Ran A)
+  abbrev done : List (Done A)
   done = flat_map items_of clients
 
   abbrev entries : List Entry
@@ -81,32 +81,32 @@ module _ {S A X : Type 0} (good : List ℕ → Type 0) (means : ℕ → ℕ → 
     abbrev first : RanFirst jobs workers k callers (items_of x)
     first = (each k x its_pass.0 at its_pass.1).1
 
-    its_made : (ran : Ran A) → IsIn ran (items_of x) → (made : Made A) × (made.ran ≡ ran) × IsMade good means workers k made
+    its_made : (ran : Done A) → IsIn ran (items_of x) → (made : Made A) × (made.ran ≡ ran) × IsMade good means workers k made
     its_made ran t =
-        let there : IsIn ran (map (λ (y : Made A). y.ran) run.made) = subst (λ (l : List (Ran A)). IsIn ran l) run.items_are t in
+        let there : IsIn ran (map (λ (y : Made A). y.ran) run.made) = subst (λ (l : List (Done A)). IsIn ran l) run.items_are t in
         let m = map_at (λ (y : Made A). y.ran) run.made there.0 ran there.1 in
         (m.0, m.2, of_in (IsMade good means workers k) run.made run.each m.0 (there.0, m.1))
 
-    its_seat : (ran : Ran A) → IsIn ran (items_of x) → ran.seat ≡ k
-    its_seat ran t = let m = its_made ran t in ap (λ (y : Ran A). y.seat) (sym m.1) ∙ m.2.seat_is
+    its_seat : (ran : Done A) → IsIn ran (items_of x) → ran.seat ≡ k
+    its_seat ran t = let m = its_made ran t in ap (λ (y : Done A). y.seat) (sym m.1) ∙ m.2.seat_is
 
-    its_few : (ran : Ran A) → IsIn ran (items_of x) → ran.restarts < workers
-    its_few ran t = let m = its_made ran t in subst (λ (y : Ran A). y.restarts < workers) m.1 m.2.few
+    its_few : (ran : Done A) → IsIn ran (items_of x) → ran.restarts < workers
+    its_few ran t = let m = its_made ran t in subst (λ (y : Done A). y.restarts < workers) m.1 m.2.few
 
-    its_turn : (ran : Ran A) → IsIn ran (items_of x) → (ran.caller < callers) × (ran.caller % workers ≡ k)
-    its_turn = of_in (λ (ran : Ran A). (ran.caller < callers) × (ran.caller % workers ≡ k)) (items_of x) first.only
+    its_turn : (ran : Done A) → IsIn ran (items_of x) → (ran.caller < callers) × (ran.caller % workers ≡ k)
+    its_turn = of_in (λ (ran : Done A). (ran.caller < callers) × (ran.caller % workers ≡ k)) (items_of x) first.only
 
   -- what is so of each item of each worker
-  of_each : (P : Ran A → Type 0) → ((k : ℕ) (x : X) → slice_get clients k ≡ Some x → (ran : Ran A) → IsIn ran (items_of x) → P ran) → All P done
+  of_each : (P : Done A → Type 0) → ((k : ℕ) (x : X) → slice_get clients k ≡ Some x → (ran : Done A) → IsIn ran (items_of x) → P ran) → All P done
   of_each P its = all_in P done (λ ran t. let r = in_flat items_of clients ran t in its r.0 r.1 r.2 ran r.3)
 
   all_dealt : AreDealt workers done
-  all_dealt = of_each (λ (ran : Ran A). ran.seat ≡ ran.caller % workers) (λ k x at ran t. its_seat k x at ran t ∙ sym (its_turn k x at ran t).1)
+  all_dealt = of_each (λ (ran : Done A). ran.seat ≡ ran.caller % workers) (λ k x at ran t. its_seat k x at ran t ∙ sym (its_turn k x at ran t).1)
 
-  all_below : All (λ (ran : Ran A). ran.restarts < workers) done
-  all_below = of_each (λ (ran : Ran A). ran.restarts < workers) its_few
+  all_below : All (λ (ran : Done A). ran.restarts < workers) done
+  all_below = of_each (λ (ran : Done A). ran.restarts < workers) its_few
 
-  flat_values : (key value : Ran A → ℕ) (c : ℕ) (xs : List X) → values_of key value c (flat_map items_of xs)
+  flat_values : (key value : Done A → ℕ) (c : ℕ) (xs : List X) → values_of key value c (flat_map items_of xs)
       ≡ flat_map (λ x. values_of key value c (items_of x)) xs
   flat_values key value c [] = refl
   flat_values key value c (x ∷ xs) = ap (values_of key value c) (flat_map-cons items_of x xs)
@@ -115,42 +115,42 @@ module _ {S A X : Type 0} (good : List ℕ → Type 0) (means : ℕ → ℕ → 
 
   all_once : AreOnceInOrder callers jobs done
   all_once = record {
-    of_callers = of_each (λ (ran : Ran A). ran.caller < callers) (λ k x at ran t. (its_turn k x at ran t).0);
+    of_callers = of_each (λ (ran : Done A). ran.caller < callers) (λ k x at ran t. (its_turn k x at ran t).0);
     each = λ c lt.
         let j : ℕ = c % workers in
         let x = below_get j clients (omega (arith, many, mod_below c workers some)) in
         flat_values caller_of index_of c clients
         ∙ one_flat (λ y. indexes_of c (items_of y)) clients j x.0 x.1 (λ k y at off.
-        no_values caller_of index_of c (items_of y) (All-weaker (λ (r : Ran A). (r.caller < callers) × (r.caller % workers ≡ k)) (λ (r : Ran A). r.caller ≢ c)
+        no_values caller_of index_of c (items_of y) (All-weaker (λ (r : Done A). (r.caller < callers) × (r.caller % workers ≡ k)) (λ (r : Done A). r.caller ≢ c)
         (λ r t same. off (sym t.1 ∙ ap (λ n. n % workers) same)) (items_of y) (first k y at).only))
         ∙ (first j x.0 x.1).own c lt refl;
   }
 
   -- all items of a worker are of its seat, and no others
-  abbrev seat_of : Ran A → ℕ
+  abbrev seat_of : Done A → ℕ
   seat_of ran = ran.seat
 
-  abbrev call_of : Ran A → ℕ
+  abbrev call_of : Done A → ℕ
   call_of ran = ran.call
 
   all_counted : AreCounted done
   all_counted seat = dite (dec_lt seat workers)
       (λ lt.
       let x = below_get seat clients (omega (arith, lt, many)) in
-      let its : List (Ran A) = items_of x.0 in
+      let its : List (Done A) = items_of x.0 in
       let own : calls_of seat done ≡ map call_of its = flat_values seat_of call_of seat clients
       ∙ one_flat (λ y. calls_of seat (items_of y)) clients seat x.0 x.1 (λ k y at off. no_values seat_of call_of seat (items_of y)
-      (all_in (λ (r : Ran A). r.seat ≢ seat) (items_of y) (λ r t same. off (sym (its_seat k y at r t) ∙ same))))
-      ∙ own_values seat_of call_of seat its (all_in (λ (r : Ran A). r.seat ≡ seat) its (its_seat seat x.0 x.1)) in
+      (all_in (λ (r : Done A). r.seat ≢ seat) (items_of y) (λ r t same. off (sym (its_seat k y at r t) ∙ same))))
+      ∙ own_values seat_of call_of seat its (all_in (λ (r : Done A). r.seat ≡ seat) its (its_seat seat x.0 x.1)) in
       own ∙ (run seat x.0 x.1).counted ∙ ap (range_with_len 1) (sym (ap (λ l. length l) own ∙ length-map its call_of)))
       (λ no.
-      let none : calls_of seat done ≡ [] = no_values seat_of call_of seat done (of_each (λ (r : Ran A). r.seat ≢ seat)
+      let none : calls_of seat done ≡ [] = no_values seat_of call_of seat done (of_each (λ (r : Done A). r.seat ≢ seat)
       (λ k x at r t same. no (omega (arith, slice_get_within clients k x at, many, its_seat k x at r t, same)))) in
       subst (λ l. l ≡ range_with_len 1 (length l)) (sym none) refl)
 
   -- of one seat they are later and later calls
-  later_call : AllPairs (λ (x y : Ran A). x.seat ≡ y.seat → x.call < y.call) done
-  later_call = pairs_flat (λ (x y : Ran A). x.seat ≡ y.seat → x.call < y.call) items_of clients
+  later_call : AllPairs (λ (x y : Done A). x.seat ≡ y.seat → x.call < y.call) done
+  later_call = pairs_flat (λ (x y : Done A). x.seat ≡ y.seat → x.call < y.call) items_of clients
       (λ k x at i j d lt short seat.
       let at_place = λ (p : ℕ) (within : p < length (items_of x)).
       in_range call_of 1 (length (items_of x)) (items_of x) (run k x at).counted p (get_or (items_of x) p d)
@@ -198,7 +198,7 @@ module _ {S A X : Type 0} (good : List ℕ → Type 0) (means : ℕ → ℕ → 
       (made.is_of.seat_is ∙ seat ∙ ap (λ (z : Item). z.who) (sym its)) (made.is_of.call_is ∙ call ∙ ap (λ (z : Item). z.call) (sym its)) in
       let s = replay_items closed.base (take p order) in
       let item_is : item_of_entry m.0 ≡ x = ap item_of_entry one ∙ its in
-      subst (λ (z : Item). means ran.caller ran.index s z.kept ran.answer (after z.trace s)) item_is (made.meaning s
+      subst (λ (z : Item). means ran.caller ran.index s z.kept ran.reply (after z.trace s)) item_is (made.meaning s
       (good_before good closed coherent legal order arranged p (omega (arith, slice_get_within order p x at)))
       (subst (λ (z : Item). IsLegalTrace z.trace s) (sym item_is) (legal.placed order arranged p x at).legal))
 
@@ -207,7 +207,7 @@ module _ {S A X : Type 0} (good : List ℕ → Type 0) (means : ℕ → ℕ → 
 
 -- the same of workers who did their work
 module _ {S A X L : Type 0} (good : S → List ℕ → Type 0) (means : L → ℕ → ℕ → List ℕ → Bool → A → List ℕ → Type 0) (callers : L → ℕ)
-    (jobs : L → ℕ → ℕ) (lists_of : X → L) (workers_of : X → ℕ) (items_of : X → List (Ran A)) where
+    (jobs : L → ℕ → ℕ) (lists_of : X → L) (workers_of : X → ℕ) (items_of : X → List (Done A)) where
   abbrev pub Works : DeskView S → X → X → PassView → PassView → Type 0
   Works desk old new before now = HasRun (good desk.shape) (means (lists_of old)) desk.seats (number before.view) now.view (items_of new)
       × RanFirst (jobs (lists_of old)) (workers_of old) (number before.view) (callers (lists_of old)) (items_of new)
@@ -231,7 +231,7 @@ module _ {S A X L : Type 0} (good : S → List ℕ → Type 0) (means : L → �
             (λ i. (h.0 i, h.1 i, named i, here i)) w.done.1,
       )
 
-  pub all_whole : (closed : ClosedView S) (shape : S) (old new : List X) (lists : L) (workers : ℕ) (ran : List (Ran A)) → closed.shape ≡ shape
+  pub all_whole : (closed : ClosedView S) (shape : S) (old new : List X) (lists : L) (workers : ℕ) (ran : List (Done A)) → closed.shape ≡ shape
       → closed.seats ≡ length old → length old ≡ workers → 0 < workers
       → All (λ x. (lists_of x ≡ lists) × (workers_of x ≡ workers) × (items_of x ≡ [])) old
       → HaveWorked Works closed old new → AreRecords closed → IsCoherent (good shape) closed → IsLegalInEachOrder (good shape) closed

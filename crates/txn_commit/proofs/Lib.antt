@@ -22,3 +22,5 @@ pub mod ListWork
 pub mod AllLists
 -- what was run, in the order that is rebuilt from what it used
 pub mod Orders
+-- how many jobs lists of jobs of one type have, and which
+pub mod JobCounts

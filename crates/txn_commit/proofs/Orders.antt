@@ -10,3 +10,5 @@ pub mod Stores
 pub mod Once
 -- what was run, put in that order
 pub mod FromRun
+-- and so as if one job ran after another
+pub mod Serial

@@ -5,20 +5,20 @@ use Rattle.history_model.specs.declared.entry.Entry.{Entry}
 use Rattle.history_model.specs.Legal.{IsIn}
 use Rattle.history_model.proofs.ListPlaces.{below_get}
 use Rattle.word_table.specs.Closing.{AreRecords, ClosedView}
-use Rattle.txn_commit.specs.declared.lists.Ran.{Ran}
+use Rattle.txn_commit.specs.declared.lists.Done.{Done}
 use Rattle.txn_commit.specs.Lists.{HaveRecords, IsEntryOf}
 use Rattle.word_table.proofs.Joined.Counting.{no_more_than}
 
-module _ {A S : Type 0} (closed : ClosedView S) (done : List (Ran A)) (entries : List Entry) (as_many : length done ≡ length entries)
-    (of_items : (k : ℕ) (ran : Ran A) (e : Entry) → slice_get done k ≡ Some ran → slice_get entries k ≡ Some e → IsEntryOf ran e)
+module _ {A S : Type 0} (closed : ClosedView S) (done : List (Done A)) (entries : List Entry) (as_many : length done ≡ length entries)
+    (of_items : (k : ℕ) (ran : Done A) (e : Entry) → slice_get done k ≡ Some ran → slice_get entries k ≡ Some e → IsEntryOf ran e)
     (of_records : (e : Entry) → IsIn e entries ↔ IsIn e closed.records)
-    (apart : AllPairs (λ (x y : Ran A). x.seat ≡ y.seat → x.call ≢ y.call) done) (records : AreRecords closed) where
-  some_entry : (ran : Ran A) → IsIn ran done → (e : Entry) × IsIn e closed.records × IsEntryOf ran e
+    (apart : AllPairs (λ (x y : Done A). x.seat ≡ y.seat → x.call ≢ y.call) done) (records : AreRecords closed) where
+  some_entry : (ran : Done A) → IsIn ran done → (e : Entry) × IsIn e closed.records × IsEntryOf ran e
   some_entry ran t =
       let e = below_get t.0 entries (omega (arith, slice_get_within done t.0 ran t.1, as_many)) in
       (e.0, (of_records e.0).0 (t.0, e.1), of_items t.0 ran e.0 t.1 e.1)
 
-  some_item : (e : Entry) → IsIn e closed.records → (ran : Ran A) × IsIn ran done × IsEntryOf ran e
+  some_item : (e : Entry) → IsIn e closed.records → (ran : Done A) × IsIn ran done × IsEntryOf ran e
   some_item e t =
       let there = (of_records e).1 t in
       let ran = below_get there.0 done (omega (arith, slice_get_within entries there.0 e there.1, as_many)) in
@@ -28,9 +28,9 @@ module _ {A S : Type 0} (closed : ClosedView S) (done : List (Ran A)) (entries :
   have_records = record {
     as_many = omega (
       arith,
-      no_more_than (λ (ran : Ran A) (e : Entry). IsEntryOf ran e) done closed.records some_entry
+      no_more_than (λ (ran : Done A) (e : Entry). IsEntryOf ran e) done closed.records some_entry
           (λ i j d lt short e a b. apart i j d lt short (sym a.seat_is ∙ b.seat_is) (sym a.call_is ∙ b.call_is)),
-      no_more_than (λ (e : Entry) (ran : Ran A). IsEntryOf ran e) closed.records done some_item
+      no_more_than (λ (e : Entry) (ran : Done A). IsEntryOf ran e) closed.records done some_item
           (λ i j d lt short ran a b.
           let x = get_or closed.records i d in
           let y = get_or closed.records j d in

@@ -9,7 +9,7 @@ ghost use Rattle.txn_commit.specs.Lists.{jobs_of_first, AreCounted, AreDealt, Ar
 ghost use Rattle.txn_commit.specs.Ordered.{AreRun};
 
 use crate::list_worker::ListWorker;
-use crate::lists::{Lists, ListsEnd, Ran};
+use crate::lists::{Done, Lists, ListsEnd};
 use io_ends::OutOfMemory;
 use std::alloc::Global;
 use std::sync::Wait;
@@ -41,7 +41,7 @@ fn hire<L: Lists>(
 fn join_all<L: Lists>(
     alloc: Global,
     workers: Vec<ListWorker<'_, L>>,
-) -> Result<Vec<Ran<L::Answer>>, OutOfMemory>
+) -> Result<Vec<Done<L::Answer>>, OutOfMemory>
     ensures { IfOk result (λ done.
         done.items ≡ flat_map (λ worker. worker.done.items) workers.entry.items) }
 {

@@ -9,7 +9,7 @@ ghost use Rattle.word_table.specs.Desks.{AreGoodWords};
 ghost use Rattle.txn_commit.specs.Lists.{jobs_of_first};
 ghost use Rattle.txn_commit.specs.Inner.ListWork.{HasRun, RanFirst, RanList, RanOne};
 
-use crate::lists::{Lists, Ran};
+use crate::lists::{Done, Lists};
 use io_ends::OutOfMemory;
 use std::alloc::Global;
 use std::sync::Wait;
@@ -22,7 +22,7 @@ pub(crate) struct ListWorker<'a, L: Lists> {
     pub lists: &'a L,
     pub workers: u32,
     /// What it has run, in the order in which it did.
-    pub done: Vec<Ran<L::Answer>>,
+    pub done: Vec<Done<L::Answer>>,
 }
 
 // One job of a caller: its item.
@@ -34,7 +34,7 @@ fn run_job<L: Lists, R: Wait>(
     pass: &mut Pass<L::Shape>,
     caller: u32,
     index: u32,
-) -> Result<Ran<L::Answer>, OutOfMemory>
+) -> Result<Done<L::Answer>, OutOfMemory>
     requires caller { caller < L.callers lists.now }
     requires index { index < L.jobs lists.now caller }
     requires shape { desk.now.shape ≡ L.shape lists.now }
@@ -47,14 +47,14 @@ fn run_job<L: Lists, R: Wait>(
         (L.means lists.now) desk.now.seats pass.old.view pass.new.view) }
 {
     let receipt = lists.run(rt, alloc, desk, pass, caller, index)?;
-    Ok(Ran {
+    Ok(Done {
         caller,
         index,
         seat: pass.who(),
         call: receipt.call,
         uses: receipt.uses,
         restarts: receipt.restarts,
-        answer: receipt.answer,
+        reply: receipt.answer,
     })
 }
 
@@ -65,7 +65,7 @@ fn run_list<L: Lists, R: Wait>(
     lists: &L,
     desk: &Desk<L::Shape>,
     pass: &mut Pass<L::Shape>,
-    done: &mut Vec<Ran<L::Answer>>,
+    done: &mut Vec<Done<L::Answer>>,
     caller: u32,
 ) -> Result<(), OutOfMemory>
     requires caller { caller < L.callers lists.now }
@@ -95,7 +95,7 @@ fn run_own<L: Lists, R: Wait>(
     lists: &L,
     desk: &Desk<L::Shape>,
     pass: &mut Pass<L::Shape>,
-    done: &mut Vec<Ran<L::Answer>>,
+    done: &mut Vec<Done<L::Answer>>,
     workers: u32,
 ) -> Result<(), OutOfMemory>
     requires workers { 0 < workers }

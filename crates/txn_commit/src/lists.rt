@@ -75,7 +75,7 @@ pub trait Lists {
 
 /// One job that was run.
 #[derive(Debug, PartialEq, Eq, Drop)]
-pub struct Ran<A> {
+pub struct Done<R> {
     /// The caller whose job it is, from 0.
     pub caller: u32,
     /// Which of the caller's jobs it is, from 0.
@@ -88,11 +88,11 @@ pub struct Ran<A> {
     pub uses: Vec<LockUse>,
     /// How often it gave way before it was committed.
     pub restarts: u32,
-    /// What the job answers.
-    pub answer: A,
+    /// What the job answered.
+    pub reply: R,
 }
 
-impl<A> Placed for Ran<A> {
+impl<R> Placed for Done<R> {
     ghost use Rattle.history_model.specs.declared.placed.Spot.{Spot};
 
     ghost spot = { λ ran. record { caller = ran.caller; index = ran.index; uses = ran.uses.items } };
@@ -114,5 +114,5 @@ impl<A> Placed for Ran<A> {
 #[derive(Drop)]
 pub struct ListsEnd<L: Lists> {
     pub closed: Closed<L::Shape>,
-    pub done: Vec<Ran<L::Answer>>,
+    pub done: Vec<Done<L::Answer>>,
 }

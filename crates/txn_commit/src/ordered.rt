@@ -5,7 +5,7 @@ ghost use Rattle.history_model.specs.Fitting.{IsGood};
 ghost use Rattle.word_table.specs.declared.limits.TheConstants.{LAST_CALL, MOST_PASSES, MOST_WORDS};
 ghost use Rattle.word_table.specs.Closing.{AreRecords, IsCoherent, IsLegalInEachOrder};
 ghost use Rattle.txn_commit.specs.Lists.{jobs_of_first, AreDealt, AreOnceInOrder, HaveRecords};
-ghost use Rattle.txn_commit.specs.Ordered.{AreAt, IsRunInOrder};
+ghost use Rattle.txn_commit.specs.Ordered.{AreAt, IsRunInOrder, IsSerial};
 
 use crate::list_run::run_lists;
 use crate::lists::{Lists, ListsEnd};
@@ -86,6 +86,10 @@ where
     ensures in_order { IfOk result (λ end. IsRunInOrder
         (IsGood (L.Shape.word_count (L.shape lists.now)) (L.Shape.good (L.shape lists.now)))
         (L.means lists.now) end.closed end.done.items) }
+    // So they ran as if one after another, from the words that were handed in to the closed ones.
+    ensures serial { IfOk result (λ end. IsSerial
+        (IsGood (L.Shape.word_count (L.shape lists.now)) (L.Shape.good (L.shape lists.now)))
+        (L.means lists.now) words.items end.closed.words end.done.items) }
 {
     let ListsEnd { closed, done } = run_lists(rt, alloc, lists, words, workers)?;
     let places = order_of(alloc, done.as_slice())?;

@@ -1,6 +1,6 @@
 //! One transaction.
 
-ghost use Rattle.std.specs.Prelude.{◌≡◌, ℕ, ◌+◌, ◌<◌, [], List, length, true, false, None, Some, Ok, IfOk, OnErr, OnOk, ◌⊎◌};
+ghost use Rattle.std.specs.Prelude.{◌≡◌, ℕ, ◌+◌, ◌<◌, ◌≤◌, [], List, length, true, false, None, Some, Ok, IfOk, OnErr, OnOk, ◌⊎◌};
 ghost use Rattle.history_model.specs.declared.entry.Entry.{Entry};
 ghost use Rattle.history_model.specs.Counts.{is_attempt};
 ghost use Rattle.history_model.specs.Fitting.{Fits};
@@ -19,7 +19,8 @@ ghost use Rattle.txn_commit.specs.Uses.{ListsUses};
 ghost use Rattle.txn_commit.specs.Inner.Releasing.{Undoes};
 ghost use Rattle.txn_commit.specs.Attempts.{IsSoundAttempt, StaysInCall, stop_of};
 ghost use Rattle.txn_commit.specs.Transactions.{AsksItsFootprint, EndsWithoutEntry, GetsEntry, IsMeant, LeavesFootprint, SameSeat};
-ghost use Rattle.word_table.specs.Desks.{AreGoodWords};
+ghost use Rattle.word_table.specs.Desks.{AreGoodWords, RuleHolds};
+ghost use Rattle.word_table.specs.Waits.{WaitedForCause};
 
 use crate::attempt::{Attempt, Caller, Halt, UNDO_ROOM, tell};
 use crate::release::release_all;
@@ -64,6 +65,9 @@ fn wait_out<R: Wait, S: Shape>(rt: &R, desk: &Desk<S>, pass: &mut Pass<S>, cause
       uses = [];
       waits = pass.new.view.waits;
     } }
+    ensures found { (waits : ℕ) → pass.old.view.waits ≤ waits → waits < pass.new.view.waits
+        → WaitedForCause (RuleHolds S.Shape desk.now) desk.now.seats cause
+        (record pass.old.view { waits = waits }) }
     ensures fits { ReadsArranged (AreGoodWords S.Shape desk.now)
         desk.now.seats desk.now.base pass.new.view }
 {

@@ -20,5 +20,3 @@ pub mod Listed
 pub mod Scripted
 -- the words of a store with no record
 pub mod Emptied
--- a day, from what was run in order
-pub mod Days

@@ -1,74 +1,21 @@
 -- What all workers of a record store did together.
-use Rattle.std.specs.Prelude.{◌≡◌, ◌≢◌, ◌↔◌, ◌<◌, ◌≤◌, ◌%◌, ℕ, List, map, length, take, All, AllPairs, Some, slice_get}
-use Rattle.std.specs.FinMap as finite
-use Rattle.history_model.specs.declared.entry.Entry.{Entry}
-use Rattle.history_model.specs.declared.placed.Spot.{Spot}
-use Rattle.history_model.specs.Histories.{replay}
-use Rattle.history_model.specs.Legal.{IsIn}
-use Rattle.history_model.specs.Traces.{IsLegalTrace}
+use Rattle.std.specs.Prelude.{List}
 use Rattle.word_table.specs.Closing.{ClosedView}
-use Rattle.txn_commit.specs.declared.lists.Ran.{Ran}
-use Rattle.txn_commit.specs.Lists.{IsEntryOf}
-use Rattle.txn_commit.specs.Ordered.{IsRebuilt}
-use Rattle.script_reader.specs.Journal.{Place}
-use Rattle.record_text.specs.declared.reply.RecordReply.{RecordReply}
+use Rattle.txn_commit.specs.declared.lists.Done.{Done}
+use Rattle.txn_stores.specs.declared.run.StoreDay.{StoreDay}
+use Rattle.txn_stores.specs.Days.{IsDay}
+use Rattle.record_text.specs.declared.reply.RecordValue.{RecordValue}
 use Rattle.record_text.specs.Input.{StoreInput}
-use Rattle.record_text.specs.Journal.{IsRecordJournal}
-use Rattle.record_text.specs.Output.{RecordRan, records_after, replies_of}
-use Rattle.txn_records.specs.declared.done.RecordDone.{RecordDone}
+use Rattle.record_text.specs.Output.{record_store}
+use Rattle.record_text.specs.Replies.{RecordReply}
 use Rattle.txn_records.specs.declared.shape.RecordShape.{RecordShape}
 use Rattle.txn_records.specs.Standing.{Stands}
 
--- the place of the script that an item is about
-abbrev pub place_of_done : RecordDone → Place
-place_of_done item = record { caller = item.caller; index = item.index }
+-- a day of the input, over a table that is closed: the scripts that were run are a journal with the replies of the
+-- interpreter, run down it from an empty store, and before and after each the words stand for its records
+abbrev pub IsRecordDay : StoreInput → ClosedView RecordShape → List (Done RecordReply) → Type 0
+IsRecordDay input = IsDay (record_store input) Stands
 
--- the places of items
-abbrev pub places_of_done : List RecordDone → List Place
-places_of_done done = map place_of_done done
-
--- the items as they are printed
-abbrev pub scripts_done : List RecordDone → List RecordRan
-scripts_done done =
-    map (λ item. record { place = place_of_done item; restarts = item.restarts; reply = item.reply }) done
-
--- what the order of items is made by: an item's caller, its place among the caller's scripts, and its uses
-abbrev pub spot_of_done : RecordDone → Spot
-spot_of_done item = record { caller = item.caller; index = item.index; uses = item.uses.items }
-
--- the item as a job that was run
-abbrev pub ran_of_done : RecordDone → Ran RecordReply
-ran_of_done item = record {
-  caller = item.caller;
-  index = item.index;
-  seat = item.seat;
-  call = item.call;
-  uses = item.uses;
-  restarts = item.restarts;
-  answer = item.reply;
-}
-
--- each caller was run by the seat of its number modulo the workers
-abbrev pub AreDealtInTurn : ℕ → List RecordDone → Type 0
-AreDealtInTurn workers done = All (λ item. item.seat ≡ item.caller % workers) done
-
--- a day of the input, over a table that is closed: its items, in the order that is rebuilt from their uses, are a journal
--- with the replies of the interpreter, run down it from an empty store; the closed records are their entries, one for
--- each; down these each trace is legal, and before and after each item the words stand for the records of the interpreter
-pub record IsRecordDay (input : StoreInput) (closed : ClosedView RecordShape) (done : List RecordDone) : Type 0 where
-  pub rebuilt : IsRebuilt spot_of_done done
-  pub entries : List Entry
-  pub as_many : length done ≡ length entries
-  pub of_items : (k : ℕ) (item : RecordDone) (e : Entry) → slice_get done k ≡ Some item → slice_get entries k ≡ Some e
-      → IsEntryOf (ran_of_done item) e
-  pub of_records : (e : Entry) → IsIn e entries ↔ IsIn e closed.records
-  pub apart : AllPairs (λ x y. x.seat ≡ y.seat → x.call ≢ y.call) done
-  pub legal : (k : ℕ) (e : Entry) → slice_get entries k ≡ Some e
-      → IsLegalTrace e.trace (replay closed.base (take k entries))
-  pub words : closed.words ≡ replay closed.base entries
-  pub journal : IsRecordJournal input (places_of_done done)
-  pub below : All (λ item. item.restarts < closed.seats) done
-  pub replies : map (λ item. item.reply) done ≡ replies_of input finite.empty (places_of_done done)
-  pub stands : (k : ℕ) → k ≤ length done → Stands closed.shape (replay closed.base (take k entries))
-      (records_after input finite.empty (places_of_done (take k done)))
-  pub left : Stands closed.shape closed.words (records_after input finite.empty (places_of_done done))
+-- what a day came to
+abbrev pub RecordDay : Type 0
+RecordDay = StoreDay RecordValue RecordShape

@@ -3,6 +3,5 @@ pub mod Standing
 pub mod Access
 pub mod Statements
 pub mod Operating
-pub mod Meaning
 pub mod Days
 pub mod Inner

@@ -9,7 +9,7 @@ ghost use Rattle.txn_words.specs.Calls.{IsReady, GoesOn, InEachState, LeadsTo};
 ghost use Rattle.txn_records.specs.Layout.{id_in, rank_in_key, words_of};
 ghost use Rattle.txn_records.specs.Standing.{IsGoodFor, Stands};
 ghost use Rattle.txn_records.specs.Inner.Listing.{first_entry};
-ghost use Rattle.txn_records.specs.Inner.Scripts.{HandsOn};
+ghost use Rattle.txn_stores.specs.Standing.{HandsOn};
 
 use crate::layout::{Order, id_of, rank_of};
 use crate::shape::RecordShape;

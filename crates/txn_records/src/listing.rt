@@ -6,7 +6,7 @@ ghost use Rattle.txn_words.specs.Access.{Tells};
 ghost use Rattle.txn_words.specs.Calls.{IsReady, GoesOn, InEachState, LeadsTo};
 ghost use Rattle.txn_records.specs.Standing.{IsGoodFor, Stands};
 ghost use Rattle.txn_records.specs.Inner.Listing.{first_key};
-ghost use Rattle.txn_records.specs.Inner.Scripts.{HandsOn};
+ghost use Rattle.txn_stores.specs.Standing.{HandsOn};
 
 use crate::layout::{Order, id_of, index_key};
 use crate::shape::RecordShape;

@@ -6,63 +6,29 @@
 ghost use Rattle.std.specs.Prelude.{◌≤◌, IfOk, OnOk};
 ghost use Rattle.record_text.specs.declared.limits.TheConstants.{GREATEST_DATA};
 ghost use Rattle.record_text.specs.declared.script.RecordOp.{RecordOp};
-ghost use Rattle.record_text.specs.Ranges.{IsId, IsRank, IsRecordOp};
+ghost use Rattle.record_text.specs.Ranges.{IsId, IsRank};
 ghost use Rattle.txn_words.specs.Calls.{IsReady, GoesOn, InEachState, LeadsTo};
 ghost use Rattle.txn_records.specs.Standing.{IsGoodFor};
-ghost use Rattle.txn_records.specs.Operating.{Steps, UnlessLacking};
-ghost use Rattle.txn_records.specs.Inner.Scripts.{HandsOn};
+ghost use Rattle.txn_records.specs.Operating.{Steps};
+ghost use Rattle.txn_stores.specs.Standing.{HandsOn, UnlessFull};
 
 use crate::listing::ids_from;
 use crate::records::{drop_record, put_record, record_of};
 use crate::shape::RecordShape;
-use record_text::{RecordOp, RecordValue};
+use record_text::RecordValue;
 use std::alloc::Global;
 use txn_alloc::Put;
+use txn_stores::Outcome;
 use txn_words::{Stop, Words};
 
-/// What one operation comes to.
-#[derive(Debug, Drop)]
-pub enum Outcome {
-    /// It was done, and tells this.
-    Gives(RecordValue),
-    /// The record is absent.
-    LacksRecord,
-    /// No two blocks are left for a record more.
-    LacksBlocks,
-}
-
-/// One operation of a script.
-pub fn run_operation<W: Words>(
-    alloc: Global,
-    w: &mut W,
-    shape: &RecordShape,
-    op: RecordOp,
-) -> Result<Outcome, Stop>
-    requires ready { IsReady W.Words w.old }
-    requires stands { InEachState W.Words W.Shape.Shape w.old (IsGoodFor shape.now) }
-    requires range { IsRecordOp op }
-    ensures step { IfOk result (λ outcome. LeadsTo W.Words W.Shape.Shape w.old w.new
-        (Steps shape.now op outcome)) }
-    ensures stands { IfOk result (λ outcome. UnlessLacking outcome
-        (InEachState W.Words W.Shape.Shape w.new (IsGoodFor shape.now))) }
-    ensures hands_on { HandsOn W.Words w.old w.new result }
-{
-    match op {
-        RecordOp::Put(id, rank, content) => put(w, shape, id, rank, content),
-        RecordOp::Remove(id) => remove(w, shape, id),
-        RecordOp::Find(id) => find(w, shape, id),
-        RecordOp::Ranked(rank, most) => list(alloc, w, shape, rank, most),
-    }
-}
-
 // Puts a record.
-fn put<W: Words>(
+pub(crate) fn put<W: Words>(
     w: &mut W,
     shape: &RecordShape,
     id: u32,
     rank: u32,
     content: u64,
-) -> Result<Outcome, Stop>
+) -> Result<Outcome<RecordValue>, Stop>
     requires ready { IsReady W.Words w.old }
     requires stands { InEachState W.Words W.Shape.Shape w.old (IsGoodFor shape.now) }
     requires id { IsId id }
@@ -70,63 +36,71 @@ fn put<W: Words>(
     requires content { content ≤ GREATEST_DATA }
     ensures step { IfOk result (λ outcome. LeadsTo W.Words W.Shape.Shape w.old w.new
         (Steps shape.now (RecordOp.Put id rank content) outcome)) }
-    ensures stands { IfOk result (λ outcome. UnlessLacking outcome
+    ensures stands { IfOk result (λ outcome. UnlessFull outcome
         (InEachState W.Words W.Shape.Shape w.new (IsGoodFor shape.now))) }
     ensures hands_on { HandsOn W.Words w.old w.new result }
 {
     match put_record(w, shape, id, rank, content)? {
         Put::New => Ok(Outcome::Gives(RecordValue::New)),
         Put::Old(_) => Ok(Outcome::Gives(RecordValue::Old)),
-        Put::Full => Ok(Outcome::LacksBlocks),
+        Put::Full => Ok(Outcome::Full),
     }
 }
 
 // Takes a record out.
-fn remove<W: Words>(w: &mut W, shape: &RecordShape, id: u32) -> Result<Outcome, Stop>
+pub(crate) fn remove<W: Words>(
+    w: &mut W,
+    shape: &RecordShape,
+    id: u32,
+) -> Result<Outcome<RecordValue>, Stop>
     requires ready { IsReady W.Words w.old }
     requires stands { InEachState W.Words W.Shape.Shape w.old (IsGoodFor shape.now) }
     ensures step { IfOk result (λ outcome. LeadsTo W.Words W.Shape.Shape w.old w.new
         (Steps shape.now (RecordOp.Remove id) outcome)) }
-    ensures stands { IfOk result (λ outcome. UnlessLacking outcome
+    ensures stands { IfOk result (λ outcome. UnlessFull outcome
         (InEachState W.Words W.Shape.Shape w.new (IsGoodFor shape.now))) }
     ensures hands_on { HandsOn W.Words w.old w.new result }
 {
     if drop_record(w, shape, id)? {
         Ok(Outcome::Gives(RecordValue::Gone))
     } else {
-        Ok(Outcome::LacksRecord)
+        Ok(Outcome::Absent)
     }
 }
 
 // Tells the rank and the data of a record.
-fn find<W: Words>(w: &mut W, shape: &RecordShape, id: u32) -> Result<Outcome, Stop>
+pub(crate) fn find<W: Words>(
+    w: &mut W,
+    shape: &RecordShape,
+    id: u32,
+) -> Result<Outcome<RecordValue>, Stop>
     requires ready { IsReady W.Words w.old }
     requires stands { InEachState W.Words W.Shape.Shape w.old (IsGoodFor shape.now) }
     ensures step { IfOk result (λ outcome. LeadsTo W.Words W.Shape.Shape w.old w.new
         (Steps shape.now (RecordOp.Find id) outcome)) }
-    ensures stands { IfOk result (λ outcome. UnlessLacking outcome
+    ensures stands { IfOk result (λ outcome. UnlessFull outcome
         (InEachState W.Words W.Shape.Shape w.new (IsGoodFor shape.now))) }
     ensures hands_on { HandsOn W.Words w.old w.new result }
 {
     match record_of(w, shape, id)? {
         Some((rank, content)) => Ok(Outcome::Gives(RecordValue::Found(rank, content))),
-        None => Ok(Outcome::LacksRecord),
+        None => Ok(Outcome::Absent),
     }
 }
 
 // Lists identifiers by rank.
-fn list<W: Words>(
+pub(crate) fn list<W: Words>(
     alloc: Global,
     w: &mut W,
     shape: &RecordShape,
     rank: u32,
     most: u32,
-) -> Result<Outcome, Stop>
+) -> Result<Outcome<RecordValue>, Stop>
     requires ready { IsReady W.Words w.old }
     requires stands { InEachState W.Words W.Shape.Shape w.old (IsGoodFor shape.now) }
     ensures step { IfOk result (λ outcome. LeadsTo W.Words W.Shape.Shape w.old w.new
         (Steps shape.now (RecordOp.Ranked rank most) outcome)) }
-    ensures stands { IfOk result (λ outcome. UnlessLacking outcome
+    ensures stands { IfOk result (λ outcome. UnlessFull outcome
         (InEachState W.Words W.Shape.Shape w.new (IsGoodFor shape.now))) }
     ensures hands_on { HandsOn W.Words w.old w.new result }
 {

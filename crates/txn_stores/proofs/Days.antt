@@ -1,163 +1,148 @@
--- A day of a store, from jobs that were run in order: whatever its items are called, its state is, and its interpreter.
-use Rattle.std.proofs.Common.{◌≡◌, ◌≢◌, ℕ, ◌<◌, ◌≤◌, ◌%◌, Bool, List, [], ◌∷◌, All, AllPairs, map, length, take, get_or}
-use Rattle.std.proofs.Common.{slice_get, Some, refl, sym, ap, ◌∙◌, subst, arith}
-use Rattle.std.specs.Prelude.{◌↔◌}
+-- A day of a store, from jobs that were run in order, and what is printed of it.
+use Rattle.std.proofs.Common.{◌≡◌, ℕ, ◌<◌, ◌≤◌, Bool, List, [], ◌∷◌, All, map, length, take, refl, sym, ap, ◌∙◌, subst, arith}
 use Rattle.std.specs.List.{zip}
 use Rattle.std.proofs.Math.ListN.{get_or-map}
-use Rattle.std.proofs.lemmas.List.{length-map, take-map}
-use Rattle.std.proofs.lemmas.Option.{slice_get-get_or}
+use Rattle.std.proofs.lemmas.List.{length-map}
+use Rattle.std.proofs.lemmas.List.Elements.{All-map}
 use mathlib.Core.List.{map-map}
-use Rattle.history_model.specs.declared.entry.Entry.{Entry}
 use Rattle.history_model.specs.Histories.{replay}
-use Rattle.history_model.specs.Legal.{IsIn}
-use Rattle.history_model.specs.Traces.{IsLegalTrace}
-use Rattle.history_model.proofs.ListPlaces.{at_map}
 use Rattle.word_table.specs.Closing.{ClosedView}
-use Rattle.txn_commit.specs.declared.lists.Ran.{Ran}
-use Rattle.txn_commit.specs.Lists.{AreDealt, AreOnceInOrder, HaveRecords, IsEntryOf}
-use Rattle.txn_commit.specs.Ordered.{answers_down, spot_of, state_down, IsRebuilt, IsRunInOrder, IsStep}
-use Rattle.txn_commit.proofs.Orders.Arranged.{by_place}
-use Rattle.txn_commit.proofs.Orders.InPlace.{rebuilt_of}
+use Rattle.txn_commit.specs.declared.lists.Done.{Done}
+use Rattle.txn_commit.specs.Lists.{AreOnceInOrder, HaveRecords}
+use Rattle.txn_commit.specs.Ordered.{answers_down, state_down, IsRunInOrder, IsStep}
 use Rattle.txn_commit.proofs.Orders.Stores.{all_answers, at_the_end, runs_to}
-use Rattle.script_reader.specs.Gathered.{CallerOf}
 use Rattle.script_reader.specs.Journal.{Place}
-use Rattle.txn_stores.specs.Journals.{place_of_ran, script_count, IsJournalOf}
+use Rattle.books_report.specs.declared.line.Line.{Line}
+use Rattle.books_report.specs.declared.stores.reply.StoreReply.{StoreReply}
+use Rattle.books_report.specs.Lines.{place_of_line}
+use Rattle.books_report.specs.Stores.Interpreter.{Step, run_from}
+use Rattle.books_report.specs.Stores.Lines.{ran_of_line, scripts_of}
+use Rattle.books_report.specs.Stores.Output.{outcome_at, places_run, replies_of, script_at, state_after, state_left, text_of}
+use Rattle.books_report.specs.Stores.Output.{AreRun, IsJournalOf, IsOutputOf, IsPlaceOf, RanOf, StoreOf}
+use Rattle.txn_stores.specs.Days.{IsDay}
+use Rattle.txn_stores.specs.Journals.{line_of_done, place_of_done, places_of_done, script_count, scripts_done}
+use Rattle.txn_stores.specs.Standing.{is_done, ScriptMeans}
 use Rattle.txn_stores.proofs.Journals.{jobs_are_journal}
+use Rattle.txn_stores.proofs.Scripted.{run_stays}
 
 -- what holds of images
-pairs_of : {X Y : Type 0} (R : Y → Y → Type 0) (f : X → Y) (xs : List X) → AllPairs R (map f xs) → AllPairs (λ x y. R (f x) (f y)) xs
-pairs_of R f xs pairs i j d lt short =
-    by_place R (map f xs) pairs i j (f (get_or xs i d)) (f (get_or xs j d))
-    (at_map f xs i (get_or xs i d) (slice_get-get_or xs i d (omega (arith, lt, short))))
-    (at_map f xs j (get_or xs j d) (slice_get-get_or xs j d short)) lt
-
 pub all_of : {X Y : Type 0} (P : Y → Type 0) (f : X → Y) (xs : List X) → All P (map f xs) → All (λ x. P (f x)) xs
 all_of P f xs all k d lt = subst P (get_or-map f xs k d) (all k (f d) (omega (arith, lt, length-map xs f)))
 
 -- two images of each item, side by side
-pub side_by_side : {X Y Z W : Type 0} (join : Y → Z → W) (f : X → Y) (g : X → Z) (xs : List X)
+side_by_side : {X Y Z W : Type 0} (join : Y → Z → W) (f : X → Y) (g : X → Z) (xs : List X)
     → map (λ pair. join pair.0 pair.1) (zip (map f xs) (map g xs)) ≡ map (λ x. join (f x) (g x)) xs
 side_by_side join f g [] = refl
 side_by_side join f g (x ∷ xs) = ap (λ l. join (f x) (g x) ∷ l) (side_by_side join f g xs)
 
--- replies down places, and the state that is left, go by the steps of an interpreter
-pub record RunsDown {A X : Type 0} (outcome : X → Place → A × X) (replies : X → List Place → List A)
-    (last : X → List Place → X) : Type 0 where
-  pub no_reply : (x : X) → replies x [] ≡ []
-  pub one_reply : (x : X) (place : Place) (places : List Place)
-      → replies x (place ∷ places) ≡ (outcome x place).0 ∷ replies (outcome x place).1 places
-  pub no_step : (x : X) → last x [] ≡ x
-  pub one_step : (x : X) (place : Place) (places : List Place) → last x (place ∷ places) ≡ last (outcome x place).1 places
+module _ {O V X S : Type 0} (store : StoreOf O V X) (stands : S → List ℕ → X → Type 0) where
+  -- what a script of the input means on words of this shape
+  abbrev pub means_on : (S → O → X → Step V X) → S → ℕ → ℕ → List ℕ → Bool → StoreReply V → List ℕ → Type 0
+  means_on step shape c i = ScriptMeans (stands shape) (step shape) (script_at store c i)
 
--- its reply at a place, and what it leaves
-abbrev pub reply_by : {A X : Type 0} → (X → Place → A × X) → ℕ → ℕ → X → A
-reply_by outcome c i x = (outcome x (record { caller = c; index = i })).0
+  -- the interpreter's reply at a place, and what it leaves
+  abbrev reply_at : ℕ → ℕ → X → StoreReply V
+  reply_at c i x = (outcome_at store x (record { caller = c; index = i })).0
 
-abbrev pub left_by : {A X : Type 0} → (X → Place → A × X) → ℕ → ℕ → X → X
-left_by outcome c i x = (outcome x (record { caller = c; index = i })).1
+  abbrev left_at : ℕ → ℕ → X → X
+  left_at c i x = (outcome_at store x (record { caller = c; index = i })).1
 
--- what jobs came to that so many workers ran in one order over a table: as `run_in_order` tells it
-pub record CameTo {A S Script : Type 0} (good : List ℕ → Type 0) (means : ℕ → ℕ → List ℕ → Bool → A → List ℕ → Type 0)
-    (callers : List (CallerOf Script)) (workers : ℕ) (closed : ClosedView S) (jobs : List (Ran A)) : Type 0 where
-  pub seats_are : closed.seats ≡ workers
-  pub in_order : IsRunInOrder good means closed jobs
-  pub once : AreOnceInOrder (length callers) (script_count callers) jobs
-  pub entries : HaveRecords closed.records jobs
-  pub below : All (λ (ran : Ran A). ran.restarts < workers) jobs
-  pub dealt : AreDealt workers jobs
+  -- a script's meaning is one step of it
+  is_step : (step : S → O → X → Step V X) (shape : S) → store.step ≡ step shape → IsStep (means_on step shape) (stands shape) reply_at left_at
+  is_step step shape same = subst (λ f. IsStep (λ c i. ScriptMeans (stands shape) f (script_at store c i)) (stands shape) reply_at left_at) same
+      (record {
+        replies = λ c i s t kept answer x m stand. m.replies x stand;
+        keeps = λ c i s t kept answer x m stand is. m.leaves is x stand;
+        reverts = λ c i s t kept answer x m stand is.
+            run_stays x (run_from store.step 1 (script_at store c i) x) (sym (ap is_done (m.replies x stand)) ∙ sym m.kept_where_done ∙ is);
+      })
 
-module _ {Item A : Type 0} (ran_of : Item → Ran A) where
-  -- the place of the script that an item is about
-  abbrev pub place_of : Item → Place
-  place_of item = place_of_ran (ran_of item)
+  -- replies and states down jobs are those down their places
+  replies_down : (done : List (Done (StoreReply V))) (x : X) → answers_down reply_at left_at done x ≡ replies_of store x (places_of_done done)
+  unfolding answers_down
+  replies_down [] x = refl
+  replies_down (item ∷ items) x = ap (λ l. reply_at item.caller item.index x ∷ l) (replies_down items (left_at item.caller item.index x))
 
-  -- a day: items in the order that is rebuilt from their uses are a journal with the replies of an interpreter, the closed
-  -- records are their entries, and before and after each item the words stand for the interpreter's state
-  pub record IsDay {S X Script : Type 0} (callers : List (CallerOf Script)) (replies : X → List Place → List A)
-      (last : X → List Place → X) (stands : S → List ℕ → X → Type 0) (start : X) (closed : ClosedView S) (done : List Item) : Type 0 where
-    pub rebuilt : IsRebuilt (λ item. spot_of (ran_of item)) done
-    pub entries : List Entry
-    pub as_many : length done ≡ length entries
-    pub of_items : (k : ℕ) (item : Item) (e : Entry) → slice_get done k ≡ Some item → slice_get entries k ≡ Some e → IsEntryOf (ran_of item) e
-    pub of_records : (e : Entry) → IsIn e entries ↔ IsIn e closed.records
-    pub apart : AllPairs (λ x y. (ran_of x).seat ≡ (ran_of y).seat → (ran_of x).call ≢ (ran_of y).call) done
-    pub legal : (k : ℕ) (e : Entry) → slice_get entries k ≡ Some e → IsLegalTrace e.trace (replay closed.base (take k entries))
-    pub words : closed.words ≡ replay closed.base entries
-    pub journal : IsJournalOf callers (map place_of done)
-    pub below : All (λ item. (ran_of item).restarts < closed.seats) done
-    pub replies_are : map (λ item. (ran_of item).answer) done ≡ replies start (map place_of done)
-    pub stands_at : (k : ℕ) → k ≤ length done → stands closed.shape (replay closed.base (take k entries)) (last start (map place_of (take k done)))
-    pub left : stands closed.shape closed.words (last start (map place_of done))
+  state_down_places : (done : List (Done (StoreReply V))) (x : X) → state_down left_at done x ≡ state_after store x (places_of_done done)
+  unfolding state_down
+  state_down_places [] x = refl
+  state_down_places (item ∷ items) x = state_down_places items (left_at item.caller item.index x)
 
-  -- the replies and the state down jobs are those down their places
-  module _ {X : Type 0} (outcome : X → Place → A × X) (replies : X → List Place → List A) (last : X → List Place → X)
-      (down : RunsDown outcome replies last) where
-    replies_down : (done : List Item) (x : X)
-        → answers_down (reply_by outcome) (left_by outcome) (map ran_of done) x ≡ replies x (map place_of done)
-    unfolding answers_down
-    replies_down [] x = sym (down.no_reply x)
-    replies_down (item ∷ items) x =
-        ap (λ l. (outcome x (place_of item)).0 ∷ l) (replies_down items (outcome x (place_of item)).1)
-        ∙ sym (down.one_reply x (place_of item) (map place_of items))
+  -- what jobs came to that so many workers ran in one order over a table of this shape: as `run_in_order` tells it
+  pub record CameTo (good : List ℕ → Type 0) (step : S → O → X → Step V X) (shape : S) (workers : ℕ) (closed : ClosedView S)
+      (done : List (Done (StoreReply V))) : Type 0 where
+    pub shape_is : closed.shape ≡ shape
+    pub seats_are : closed.seats ≡ workers
+    pub in_order : IsRunInOrder good (means_on step shape) closed done
+    pub once : AreOnceInOrder (length store.callers) (script_count store.callers) done
+    pub entries : HaveRecords closed.records done
+    pub below : All (λ (ran : Done (StoreReply V)). ran.restarts < workers) done
 
-    last_down : (done : List Item) (x : X) → state_down (left_by outcome) (map ran_of done) x ≡ last x (map place_of done)
-    unfolding state_down
-    last_down [] x = sym (down.no_step x)
-    last_down (item ∷ items) x = last_down items (outcome x (place_of item)).1 ∙ sym (down.one_step x (place_of item) (map place_of items))
+  module _ (good : List ℕ → Type 0) (step : S → O → X → Step V X) (shape : S) (same : store.step ≡ step shape) (workers : ℕ)
+      (closed : ClosedView S) (done : List (Done (StoreReply V))) (came : CameTo good step shape workers closed done)
+      (opening : stands shape closed.base store.begins) where
+    stood_to : (k : ℕ) → k ≤ length done
+        → stands closed.shape (replay closed.base (take k came.in_order.entries)) (state_after store store.begins (places_of_done (take k done)))
+    stood_to k le =
+        subst (λ s. stands s (replay closed.base (take k came.in_order.entries)) (state_after store store.begins (places_of_done (take k done))))
+        (sym came.shape_is)
+        (subst (λ x. stands shape (replay closed.base (take k came.in_order.entries)) x) (state_down_places (take k done) store.begins)
+        (runs_to good (means_on step shape) closed done came.in_order (stands shape) reply_at left_at (is_step step shape same) store.begins opening
+        k le).state)
 
-  -- all that is said of a day, on the shape of an input
-  module _ {S X Script : Type 0} (good : List ℕ → Type 0) (means : ℕ → ℕ → List ℕ → Bool → A → List ℕ → Type 0)
-      (callers : List (CallerOf Script)) (workers : ℕ) (outcome : X → Place → A × X) (replies : X → List Place → List A)
-      (last : X → List Place → X) (down : RunsDown outcome replies last) (stands : S → List ℕ → X → Type 0) (shape : S)
-      (step : IsStep means (stands shape) (reply_by outcome) (left_by outcome)) (start : X) (closed : ClosedView S)
-      (shape_is : closed.shape ≡ shape) (opening : stands shape closed.base start) (done : List Item)
-      (came : CameTo good means callers workers closed (map ran_of done)) where
-    stands_to : (k : ℕ) → k ≤ length done
-        → stands closed.shape (replay closed.base (take k came.in_order.entries)) (last start (map place_of (take k done)))
-    stands_to k le =
-        let state = (runs_to good means closed (map ran_of done) came.in_order (stands shape) (reply_by outcome) (left_by outcome) step start opening
-        k (omega (arith, le, length-map done ran_of))).state in
-        subst (λ s. stands s (replay closed.base (take k came.in_order.entries)) (last start (map place_of (take k done)))) (sym shape_is)
-        (subst (λ x. stands shape (replay closed.base (take k came.in_order.entries)) x)
-        (ap (λ l. state_down (left_by outcome) l start) (take-map ran_of k done) ∙ last_down outcome replies last down (take k done) start) state)
-
-    is_day : IsDay callers replies last stands start closed done
-    is_day = record {
-      rebuilt = rebuilt_of ran_of spot_of done came.in_order.rebuilt;
+    pub day_made : IsDay store stands closed done
+    day_made = record {
+      rebuilt = came.in_order.rebuilt;
       entries = came.in_order.entries;
-      as_many = sym (length-map done ran_of) ∙ came.in_order.as_many;
-      of_items = λ k item e at_item at_e. came.in_order.of_items k (ran_of item) e (at_map ran_of done k item at_item) at_e;
+      as_many = came.in_order.as_many;
+      of_items = came.in_order.of_items;
       of_records = came.in_order.of_records;
-      apart = pairs_of (λ (x y : Ran A). x.seat ≡ y.seat → x.call ≢ y.call) ran_of done came.entries.apart;
+      apart = came.entries.apart;
       legal = came.in_order.legal;
       words = came.in_order.words;
-      journal = subst (λ l. IsJournalOf callers l) (map-map place_of_ran ran_of done) (jobs_are_journal callers (map ran_of done) came.once);
-      below = subst (λ n. All (λ item. (ran_of item).restarts < n) done) (sym came.seats_are)
-          (all_of (λ (ran : Ran A). ran.restarts < workers) ran_of done came.below);
-      replies_are = sym (map-map (λ (ran : Ran A). ran.answer) ran_of done)
-          ∙ all_answers good means closed (map ran_of done) came.in_order (stands shape) (reply_by outcome) (left_by outcome) step start opening
-          ∙ replies_down outcome replies last down done start;
-      stands_at = stands_to;
-      left = subst (λ s. stands s closed.words (last start (map place_of done))) (sym shape_is)
-          (subst (λ x. stands shape closed.words x) (last_down outcome replies last down done start)
-          (at_the_end good means closed (map ran_of done) came.in_order (stands shape) (reply_by outcome) (left_by outcome) step start opening));
+      journal = jobs_are_journal store.callers done came.once;
+      below = subst (λ n. All (λ item. item.restarts < n) done) (sym came.seats_are) came.below;
+      replies = all_answers good (means_on step shape) closed done came.in_order (stands shape) reply_at left_at (is_step step shape same)
+          store.begins opening ∙ replies_down done store.begins;
+      stood = stood_to;
+      left = subst (λ s. stands s closed.words (state_after store store.begins (places_of_done done))) (sym came.shape_is)
+          (subst (λ x. stands shape closed.words x) (state_down_places done store.begins)
+          (at_the_end good (means_on step shape) closed done came.in_order (stands shape) reply_at left_at (is_step step shape same)
+          store.begins opening));
     }
 
-  -- a day of what jobs came to, where the table's shape is that of the input
-  pub day_of : {S X Script : Type 0} (good : S → List ℕ → Type 0) (means : S → ℕ → ℕ → List ℕ → Bool → A → List ℕ → Type 0)
-      (callers : List (CallerOf Script)) (outcome : X → Place → A × X) (replies : X → List Place → List A) (last : X → List Place → X)
-      → RunsDown outcome replies last → (stands : S → List ℕ → X → Type 0) (given : S)
-      → IsStep (means given) (stands given) (reply_by outcome) (left_by outcome) → (start : X) (workers : ℕ) (closed : ClosedView S) (shape : S)
-      → shape ≡ given → closed.shape ≡ shape → stands shape closed.base start → (done : List Item) (jobs : List (Ran A)) → map ran_of done ≡ jobs
-      → CameTo (good shape) (means shape) callers workers closed jobs → IsDay callers replies last stands start closed done
-  day_of good means callers outcome replies last down stands given step start workers closed shape sized shape_is opening done jobs jobs_are came =
-      is_day (good given) (means given) callers workers outcome replies last down stands given step start closed (shape_is ∙ sized)
-      (subst (λ s. stands s closed.base start) sized opening) done
-      (subst (λ s. CameTo (good s) (means s) callers workers closed (map ran_of done)) sized
-      (subst (λ l. CameTo (good shape) (means shape) callers workers closed l) (sym jobs_are) came))
+  -- what is printed of a day
+  module _ (closed : ClosedView S) (done : List (Done (StoreReply V))) (day : IsDay store stands closed done) where
+    places_printed : places_run (scripts_done done) ≡ places_of_done done
+    places_printed = map-map (λ (ran : RanOf V). ran.place) _ done
 
-  -- items are dealt as their jobs are
-  pub dealt_of : (workers : ℕ) (done : List Item) (jobs : List (Ran A)) → map ran_of done ≡ jobs → AreDealt workers jobs
-      → All (λ item. (ran_of item).seat ≡ (ran_of item).caller % workers) done
-  dealt_of workers done jobs jobs_are dealt =
-      all_of (λ (ran : Ran A). ran.seat ≡ ran.caller % workers) ran_of done (subst (λ l. AreDealt workers l) (sym jobs_are) dealt)
+    are_run : AreRun store closed.seats (scripts_done done)
+    are_run = record {
+      journal = subst (λ l. IsJournalOf store.callers l) (sym places_printed) day.journal;
+      below = All-map (λ (ran : RanOf V). ran.restarts < closed.seats) _ done day.below;
+      replies = map-map (λ (ran : RanOf V). ran.reply) _ done ∙ day.replies ∙ ap (replies_of store store.begins) (sym places_printed);
+    }
+
+    pub output_is : (text : List ℕ) → text ≡ text_of store (scripts_done done) (store.closing (state_left store (scripts_done done)))
+        → IsOutputOf store closed.seats text
+    output_is text is = record { scripts = scripts_done done; run = are_run; text_is = is }
+
+    module _ (lines : List Line) (replies : List (StoreReply V)) (lines_are : lines ≡ map line_of_done done)
+        (replies_are : replies ≡ map (λ (item : Done (StoreReply V)). item.reply) done) where
+      pub places_fit : All (λ l. IsPlaceOf store.callers (place_of_line l)) lines
+      places_fit = subst (λ (l : List Line). All (λ (x : Line). IsPlaceOf store.callers (place_of_line x)) l) (sym lines_are)
+          (All-map (λ l. IsPlaceOf store.callers (place_of_line l)) line_of_done done
+          (all_of (IsPlaceOf store.callers) place_of_done done day.journal.only))
+
+      pub scripts_are : scripts_of lines replies ≡ scripts_done done
+      scripts_are = ap (λ (l : List Line). scripts_of l replies) lines_are
+          ∙ ap (λ (r : List (StoreReply V)). scripts_of (map line_of_done done) r) replies_are
+          ∙ side_by_side ran_of_line line_of_done (λ (item : Done (StoreReply V)). item.reply) done
+
+      pub left_printed : (words : List ℕ) (shape : S) → closed.shape ≡ shape → words ≡ closed.words
+          → stands shape words (state_left store (scripts_of lines replies))
+      left_printed words shape shape_is words_are =
+          subst (λ (l : List (RanOf V)). stands shape words (state_left store l)) (sym scripts_are)
+          (subst (λ (l : List Place). stands shape words (state_after store store.begins l)) (sym places_printed)
+          (subst (λ (s : S). stands s words (state_after store store.begins (places_of_done done))) shape_is
+          (subst (λ (w : List ℕ). stands closed.shape w (state_after store store.begins (places_of_done done))) (sym words_are) day.left)))

@@ -1,5 +1,6 @@
 -- The words of an empty store: zeros, but for the lists of the free blocks.
-use Rattle.std.proofs.Common.{◌≡◌, ℕ, ◌<◌, inl, inr, List, length, slice_get, Some, replicate, ap, ◌∙◌, arith}
+use Rattle.std.proofs.Common.{◌≡◌, ℕ, ◌<◌, inl, inr, List, ◌++◌, drop, length, slice_get, Some, replicate, take, sym, ap, ◌∙◌, subst, arith}
+use Rattle.std.proofs.Math.Seq.{take-append_seam}
 use Rattle.std.specs.Ordering.{nat_cmp}
 use Rattle.std.specs.FinSet as set
 use Rattle.std.specs.FinMap as finite
@@ -7,7 +8,7 @@ use Rattle.std.proofs.lemmas.List.{length-replicate}
 use Rattle.history_model.proofs.ListPlaces.{zero_there}
 use Rattle.txn_words.specs.Frames.{KeepsOthers}
 use Rattle.txn_alloc.specs.declared.arena.Arena.{Arena}
-use Rattle.txn_alloc.specs.FreeLists.{IsHead}
+use Rattle.txn_alloc.specs.FreeLists.{FreeListsHold, IsHead}
 use Rattle.txn_alloc.specs.Laying.{IsWrittenByLaying}
 use Rattle.txn_alloc.proofs.Sets.{out_empty}
 use Rattle.txn_tree_map.specs.declared.map.TreeMap.{TreeMap}
@@ -24,6 +25,24 @@ module _ (arena : Arena) (blocks : List ℕ) (n : ℕ) (first words : List ℕ) 
   pub zero_before : (a : ℕ) → a < n → a < arena.first → ¬ IsHead arena a → slice_get words a ≡ Some 0
   zero_before a lt before no_head =
       kept.same a (λ own. elim own [ inl head ↦ no_head head | inr k ↦ let e = k.2 in omega (arith, before, e) ]) ∙ zero_there n a first zeros lt
+
+-- words that were laid in a vector of zeros
+module _ (len n : ℕ) (items first laid order : List ℕ) (made : Arena) (long : length first ≡ len) (zeros : first ≡ replicate n 0)
+    (kept : KeepsOthers (IsWrittenByLaying made order) first laid) where
+  whole : take len (laid ++ drop (length laid) items) ≡ laid
+  whole = ap (λ k. take k (laid ++ drop (length laid) items)) (sym long ∙ sym kept.count) ∙ take-append_seam laid _
+
+  pub whole_count : length (take len (laid ++ drop (length laid) items)) ≡ n
+  whole_count = ap length whole ∙ laid_count made order n first laid zeros kept
+
+  pub whole_stands : (P : List ℕ → Type 0) (arena : Arena) (blocks : List ℕ) → made ≡ arena → order ≡ blocks
+      → FreeListsHold made laid (set.from_list order)
+      → (KeepsOthers (IsWrittenByLaying arena blocks) first laid → FreeListsHold arena laid (set.from_list blocks) → P laid)
+      → P (take len (laid ++ drop (length laid) items))
+  whole_stands P arena blocks arena_is order_is free stands = subst P (sym whole)
+      (stands (subst (λ a. KeepsOthers (IsWrittenByLaying a blocks) first laid) arena_is
+      (subst (λ bs. KeepsOthers (IsWrittenByLaying made bs) first laid) order_is kept))
+      (subst (λ a. FreeListsHold a laid (set.from_list blocks)) arena_is (subst (λ bs. FreeListsHold made laid (set.from_list bs)) order_is free)))
 
 -- where its root is 0, a tree holds nothing
 pub no_tree : (map : TreeMap) (words : List ℕ) → IsLaid map words → slice_get words map.root ≡ Some 0 → TreeHolds map words finite.empty set.empty

@@ -1,42 +1,38 @@
 -- Jobs that were run once and in their order are a journal, and as many as the scripts.
 use Rattle.std.proofs.Common.{◌≡◌, ℕ, ◌+◌, ◌<◌, ◌==◌, ◌&&◌, Bool, true, false, cond, List, [], ◌∷◌, ◌++◌, map, length, get_or}
 use Rattle.std.proofs.Common.{refl, sym, ap, ◌∙◌, subst, arith, zero-add, eq-eqb, append_assoc, length-append}
-use Rattle.std.specs.Prelude.{count_by, sum_by, slice_index_or}
+use Rattle.std.specs.Prelude.{count_by, sum_by}
 use Rattle.std.specs.List.{filter, range_with_len}
 use Rattle.std.proofs.lemmas.List.Sums.{sum_by-cons}
 use Rattle.std.proofs.lemmas.List.Elements.{All-map}
 use Rattle.std.proofs.lemmas.Option.{slice_get-get_or}
 use Rattle.history_model.specs.Legal.{IsIn}
 use Rattle.history_model.proofs.ListPlaces.{at_map}
-use Rattle.txn_commit.specs.declared.lists.Ran.{Ran}
+use Rattle.txn_commit.specs.declared.lists.Done.{Done}
 use Rattle.txn_commit.specs.Lists.{indexes_of, AreOnceInOrder}
 use Rattle.txn_commit.proofs.Orders.Once.{later_index, pairs_map}
 use Rattle.word_table.proofs.Joined.Counting.{in_filter}
-use Rattle.script_reader.specs.Gathered.{caller_at, count_scripts, AreCallers, CallerOf}
+use Rattle.script_reader.specs.Gathered.{count_scripts, CallerOf}
 use Rattle.script_reader.specs.Journal.{Place}
-use Rattle.txn_stores.specs.Journals.{place_of_ran, script_count, IsJournalOf, IsPlaceOf}
+use Rattle.books_report.specs.Stores.Output.{IsJournalOf, IsPlaceOf}
+use Rattle.txn_stores.specs.Journals.{place_of_done, script_count}
 use Rattle.txn_stores.specs.Statements.{JobsAreJournal, JobsCounted}
 use Rattle.txn_stores.proofs.Ranges.{in_range, range_once}
 
--- a script of callers is as they all have to be
-pub script_fits : {S : Type 0} (IsScript : S → Type 0) (callers : List (CallerOf S)) → AreCallers IsScript callers → (none : S) (c i : ℕ)
-    → c < length callers → i < script_count callers c → IsScript (slice_index_or (caller_at callers c).scripts i none)
-script_fits IsScript callers valid none c i lt short = valid.scripts c (record { name = []; scripts = [] }) lt i none short
-
 module _ {A : Type 0} where
   -- a place stands as often among jobs as its index among those of its caller
-  place_count : (c i : ℕ) (jobs : List (Ran A)) → count_by (λ p. p.caller == c && p.index == i) (map place_of_ran jobs)
+  place_count : (c i : ℕ) (jobs : List (Done A)) → count_by (λ p. p.caller == c && p.index == i) (map place_of_done jobs)
       ≡ count_by (λ n. n == i) (indexes_of c jobs)
   place_count c i [] = refl
   place_count c i (x ∷ xs) =
-      sum_by-cons (λ (p : Place). cond (p.caller == c && p.index == i) 1 0) (place_of_ran x) (map place_of_ran xs)
+      sum_by-cons (λ (p : Place). cond (p.caller == c && p.index == i) 1 0) (place_of_done x) (map place_of_done xs)
       ∙ at (x.caller == c) (place_count c i xs)
     where
       rest : ℕ
-      rest = count_by (λ p. p.caller == c && p.index == i) (map place_of_ran xs)
+      rest = count_by (λ p. p.caller == c && p.index == i) (map place_of_done xs)
 
-      kept : List (Ran A)
-      kept = filter (λ (ran : Ran A). ran.caller == c) xs
+      kept : List (Done A)
+      kept = filter (λ (ran : Done A). ran.caller == c) xs
 
       both : (b : Bool) → (true && b) ≡ b
       both true = refl
@@ -46,30 +42,30 @@ module _ {A : Type 0} where
       neither true = refl
       neither false = refl
 
-      at : (b : Bool) → rest ≡ count_by (λ n. n == i) (map (λ (ran : Ran A). ran.index) kept)
-          → cond (b && x.index == i) 1 0 + rest ≡ count_by (λ n. n == i) (map (λ (ran : Ran A). ran.index) (cond b (x ∷ kept) kept))
+      at : (b : Bool) → rest ≡ count_by (λ n. n == i) (map (λ (ran : Done A). ran.index) kept)
+          → cond (b && x.index == i) 1 0 + rest ≡ count_by (λ n. n == i) (map (λ (ran : Done A). ran.index) (cond b (x ∷ kept) kept))
       at true same = ap (λ b. cond b 1 0 + rest) (both (x.index == i)) ∙ ap (λ n. cond (x.index == i) 1 0 + n) same
-          ∙ sym (sum_by-cons (λ n. cond (n == i) 1 0) x.index (map (λ (ran : Ran A). ran.index) kept))
+          ∙ sym (sum_by-cons (λ n. cond (n == i) 1 0) x.index (map (λ (ran : Done A). ran.index) kept))
       at false same = ap (λ b. cond b 1 0 + rest) (neither (x.index == i)) ∙ zero-add rest ∙ same
 
-module _ {S A : Type 0} (callers : List (CallerOf S)) (jobs : List (Ran A)) (once : AreOnceInOrder (length callers) (script_count callers) jobs) where
-  index_fits : (k : ℕ) (d : Ran A) → k < length jobs → (get_or jobs k d).index < script_count callers (get_or jobs k d).caller
+module _ {S A : Type 0} (callers : List (CallerOf S)) (jobs : List (Done A)) (once : AreOnceInOrder (length callers) (script_count callers) jobs) where
+  index_fits : (k : ℕ) (d : Done A) → k < length jobs → (get_or jobs k d).index < script_count callers (get_or jobs k d).caller
   index_fits k d lt =
-      let ran : Ran A = get_or jobs k d in
+      let ran : Done A = get_or jobs k d in
       let c : ℕ = ran.caller in
-      let there = in_filter (λ (r : Ran A). r.caller == c) jobs ran (eq-eqb c c refl) (k, slice_get-get_or jobs k d lt) in
+      let there = in_filter (λ (r : Done A). r.caller == c) jobs ran (eq-eqb c c refl) (k, slice_get-get_or jobs k d lt) in
       in_range (script_count callers c) ran.index (subst (λ l. IsIn ran.index l) (once.each c (once.of_callers k d lt)) (
         there.0,
-        at_map (λ (r : Ran A). r.index) (filter (λ (r : Ran A). r.caller == c) jobs) there.0 ran there.1,
+        at_map (λ (r : Done A). r.index) (filter (λ (r : Done A). r.caller == c) jobs) there.0 ran there.1,
       ))
 
-  journal : IsJournalOf callers (map place_of_ran jobs)
+  journal : IsJournalOf callers (map place_of_done jobs)
   journal = record {
-    only = All-map (IsPlaceOf callers) place_of_ran jobs (λ k d lt. (once.of_callers k d lt, index_fits k d lt));
+    only = All-map (IsPlaceOf callers) place_of_done jobs (λ k d lt. (once.of_callers k d lt, index_fits k d lt));
     once = λ place is. place_count place.caller place.index jobs
         ∙ ap (count_by (λ n. n == place.index)) (once.each place.caller is.0)
         ∙ range_once 0 (script_count callers place.caller) place.index (omega arith) (omega (arith, is.1));
-    rising = pairs_map (λ (p q : Place). p.caller ≡ q.caller → p.index < q.index) place_of_ran jobs
+    rising = pairs_map (λ (p q : Place). p.caller ≡ q.caller → p.index < q.index) place_of_done jobs
         (later_index (length callers) (script_count callers) jobs once);
   }
 

@@ -1,8 +1,8 @@
 -- Calls one after another on words that stand for a model, first looks and then changes.
-use Rattle.std.proofs.Common.{◌≡◌, ℕ, List, Option, Result, Ok, Err, IfOk, refl, sym, ◌∙◌, subst}
+use Rattle.std.proofs.Common.{◌≡◌, ℕ, List, [], Option, Result, Ok, Err, IfOk, refl, sym, ◌∙◌, subst}
 use Rattle.history_model.specs.declared.shape.Shape.{Ghosts as Shapes}
 use Rattle.history_model.specs.Traces.{after, Begins}
-use Rattle.history_model.specs.Fitting.{SomeFits}
+use Rattle.history_model.specs.Fitting.{Fits, SomeFits}
 use Rattle.history_model.proofs.Traces.FittingLaws.{fits_begins}
 use Rattle.history_model.proofs.Traces.TraceLaws.{begins_refl, begins_trans}
 use Rattle.txn_words.specs.declared.words.Words.{Ghosts as AnyWords}
@@ -10,7 +10,8 @@ use Rattle.txn_words.specs.Access.{OfModel, Tells, TellsAndChanges}
 use Rattle.txn_words.specs.Calls.{InEachState, LeadsTo, WritesWithin}
 use Rattle.txn_words.specs.Frames.{KeepsOthers}
 use Rattle.txn_words.proofs.FrameLaws.{only_keeps}
-use Rattle.txn_words.proofs.CallLaws.{state_after, state_at, leads_then}
+use Rattle.txn_words.proofs.CallLaws.{leads_from_start, leads_then, state_after, state_at}
+use Rattle.txn_stores.specs.Standing.{StandsForSome}
 use Rattle.txn_alloc.specs.declared.put.Put.{Put}
 use Rattle.txn_alloc.specs.declared.put.Put.TheVariants.{Full}
 use Rattle.txn_alloc.specs.EntryMaps.{Part, IsOwn, Inserts, LacksRoom, Removes}
@@ -31,10 +32,6 @@ pub ok_both : {A E : Type 0} (P Q : A → Type 0) (r : Result A E) → IfOk r P 
 ok_both P Q (Ok x) h k = (h, k)
 ok_both P Q (Err e) h k = tt
 
--- words that stand for some model
-abbrev pub StandsForSome : {Model : Type 0} → (List ℕ → Model → Type 0) → List ℕ → Type 0
-StandsForSome {Model} stands words = (model : Model) × stands words model
-
 -- from state to state: nothing changes, and this was seen of the model
 pub record Saw {Model : Type 0} (stands : List ℕ → Model → Type 0) (P : Model → Type 0) (old new : List ℕ) : Type 0 where
   pub same : new ≡ old
@@ -54,6 +51,14 @@ module _ {W S O : Type 0} (words : AnyWords W S O) (shapes : Shapes S) where
   -- a call's relation says less too
   pub leads_less : (v w : W) (R T : List ℕ → List ℕ → Type 0) → ((x y : List ℕ) → R x y → T x y) → LeadsTo words shapes v w R → LeadsTo words shapes v w T
   leads_less v w R T less h = record { at = λ s fit. less (after (words.trace v) s) (after (words.trace w) s) (h.at s fit) }
+
+  -- a call that met no event led from the words that there were
+  pub leads_from_words : (v w : W) (R : List ℕ → List ℕ → Type 0) (first last : List ℕ) → words.trace v ≡ [] → words.shape w ≡ words.shape v
+      → last ≡ first → Fits (shapes.word_count (words.shape w)) (shapes.good (words.shape w)) (words.trace w) last
+      → LeadsTo words shapes v w R → R first (after (words.trace w) first)
+  leads_from_words v w R first last fresh same is fits leads = leads_from_start words shapes v w R fresh leads first
+      (subst (λ z. Fits (shapes.word_count z) (shapes.good z) (words.trace w) first) same
+      (subst (λ s. Fits (shapes.word_count (words.shape w)) (shapes.good (words.shape w)) (words.trace w) s) is fits))
 
   -- and with what held before it
   pub leads_when : (v w : W) (P : List ℕ → Type 0) (R T : List ℕ → List ℕ → Type 0)

@@ -1,25 +1,29 @@
--- The orders in which the scripts of callers may be run.
-use Rattle.std.specs.Prelude.{◌≡◌, ℕ, ◌<◌, ◌&&◌, ◌==◌, List, length, count_by, All, AllPairs}
-use Rattle.txn_commit.specs.declared.lists.Ran.{Ran}
+-- Jobs that were run as scripts of callers.
+use Rattle.std.specs.Prelude.{ℕ, List, length, map}
+use Rattle.txn_commit.specs.declared.lists.Done.{Done}
 use Rattle.script_reader.specs.Gathered.{CallerOf, caller_at}
 use Rattle.script_reader.specs.Journal.{Place}
+use Rattle.books_report.specs.declared.line.Line.{Line}
+use Rattle.books_report.specs.declared.stores.reply.StoreReply.{StoreReply}
+use Rattle.books_report.specs.Stores.Output.{RanOf}
 
 -- the place of the script that was run
-abbrev pub place_of_ran : {A : Type 0} → Ran A → Place
-place_of_ran ran = record { caller = ran.caller; index = ran.index }
+abbrev pub place_of_done : {A : Type 0} → Done A → Place
+place_of_done item = record { caller = item.caller; index = item.index }
 
-module _ {S : Type 0} where
-  -- how many scripts a caller has
-  abbrev pub script_count : List (CallerOf S) → ℕ → ℕ
-  script_count callers c = length (caller_at callers c).scripts
+-- the places of items
+abbrev pub places_of_done : {A : Type 0} → List (Done A) → List Place
+places_of_done done = map place_of_done done
 
-  -- a caller has a script at this place
-  abbrev pub IsPlaceOf : List (CallerOf S) → Place → Type 0
-  IsPlaceOf callers place = (place.caller < length callers) × (place.index < script_count callers place.caller)
+-- the line of an item
+abbrev pub line_of_done : {A : Type 0} → Done A → Line
+line_of_done item = record { caller = item.caller; index = item.index; restarts = item.restarts }
 
-  -- the order has each script of the callers once, and each caller's in rising index
-  pub record IsJournalOf (callers : List (CallerOf S)) (order : List Place) : Type 0 where
-    pub only : All (IsPlaceOf callers) order
-    pub once : (place : Place) → IsPlaceOf callers place
-        → count_by (λ p. p.caller == place.caller && p.index == place.index) order ≡ 1
-    pub rising : AllPairs (λ p q. p.caller ≡ q.caller → p.index < q.index) order
+-- the items as they are printed
+abbrev pub scripts_done : {V : Type 0} → List (Done (StoreReply V)) → List (RanOf V)
+scripts_done done =
+    map (λ item. record { place = place_of_done item; restarts = item.restarts; reply = item.reply }) done
+
+-- how many scripts a caller has
+abbrev pub script_count : {S : Type 0} → List (CallerOf S) → ℕ → ℕ
+script_count callers c = length (caller_at callers c).scripts

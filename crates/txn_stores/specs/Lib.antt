@@ -1,3 +1,6 @@
-pub mod Journals
-pub mod Statements
 pub mod Reads
+pub mod Standing
+pub mod Journals
+pub mod Days
+pub mod Statements
+pub mod Inner

@@ -16,3 +16,11 @@ pub mod Recorded
 pub mod Later
 -- the seats of a desk begin fewer than 2^37 calls together
 pub mod Counted
+-- no seats wait for one another in a circle
+pub mod Waiting
+-- and waits lead to a call that waits for no seat
+pub mod Ending
+-- a look that leaves an attempt as it was is a wait
+pub mod Looking
+-- and both kinds of wait arise
+pub mod Arising

@@ -13,4 +13,5 @@ pub mod Runs
 pub mod Meetings
 pub mod Words
 pub mod Writes
+pub mod Waits
 pub mod Uses

@@ -13,6 +13,7 @@ ghost use Rattle.word_table.specs.Kinds.{action_of, May};
 ghost use Rattle.word_table.specs.Meetings.{ClockCountsDraws, EntriesStand, EntriesStay, IsArranged, LaterStandBehind, MeetsInConflict, NeverMeetsApart, NumbersStayBelow, OnlyDrawsMoveClock, ReadsOneState, RestartsFew, SeatsAreDealt, StampsAreKept};
 ghost use Rattle.word_table.specs.Runs.{IsOpening, IsRun, Steps};
 ghost use Rattle.word_table.specs.Sound.{IsSound};
+ghost use Rattle.word_table.specs.Waits.{HasNoCircle, HasNoDeadlock, LooksAreWaits, WaitsArise, WaitsEnd};
 ghost use Rattle.word_table.specs.Writes.{HaveNoCommonWord, WritesOwnAndAsked};
 
 use crate::limits::{LAST_CALL, MOST_PASSES, MOST_WORDS};
@@ -117,6 +118,23 @@ pub fn every_write<S: Shape>()
     ensures own { (shape : _) (n : ℕ) (base : List ℕ)
         → WritesOwnAndAsked (IsGood (S.word_count shape) (S.good shape)) n base }
     ensures apart { HaveNoCommonWord }
+{}
+
+/// Of who waits for whom, in every state of every run: a look that leaves an attempt as it was is a wait for the seat
+/// that was looked at (`looks`), and waits do arise (`arise`). No seats wait for one another in a circle (`circle`), and
+/// no set of seats is such that each waits for one of them (`deadlock`): from each call waits lead to one that waits for
+/// no seat (`ends`). That this one goes on, no clause says.
+pub fn every_wait<S: Shape>()
+    ensures looks { (shape : _) (n : ℕ) (base : List ℕ)
+        → LooksAreWaits (IsGood (S.word_count shape) (S.good shape)) n base }
+    ensures arise { (shape : _) (base : List ℕ)
+        → WaitsArise (IsGood (S.word_count shape) (S.good shape)) base }
+    ensures circle { (shape : _) (n : ℕ) (base : List ℕ)
+        → HasNoCircle (IsGood (S.word_count shape) (S.good shape)) n base }
+    ensures deadlock { (shape : _) (n : ℕ) (base : List ℕ)
+        → HasNoDeadlock (IsGood (S.word_count shape) (S.good shape)) n base }
+    ensures ends { (shape : _) (n : ℕ) (base : List ℕ)
+        → WaitsEnd (IsGood (S.word_count shape) (S.good shape)) n base }
 {}
 
 /// Runs get to where calls begin: for every good memory and every number of seats above 0, some run comes to a state in

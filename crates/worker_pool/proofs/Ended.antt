@@ -24,21 +24,17 @@ use Rattle.order_rebuild.specs.Order.{IsOrder, Orderable}
 use Rattle.txn_books.specs.declared.shape.BooksShape.{BooksShape}
 use Rattle.txn_books.specs.Layout.{words_of}
 use Rattle.txn_books.specs.Standing.{IsGoodFor, Stands}
-use Rattle.txn_commit.specs.declared.lists.Ran.{Ran}
-use Rattle.txn_commit.specs.Lists as lists
-use Rattle.txn_commit.specs.Ordered as ordered
-use Rattle.txn_commit.specs.Ordered.{AreAt, IsRunInOrder}
+use Rattle.txn_commit.specs.Ordered.{spot_of, AreAt, IsRunInOrder}
 use Rattle.word_table.specs.Closing.{AreAllPasses, AreRecords, AreSeenBy, ClosedView, IsCoherent, IsLegalInEachOrder}
 use Rattle.word_table.specs.Copies.{PassView}
 use Rattle.word_table.specs.Desks.{DeskView}
-use Rattle.worker_pool.specs.declared.done.Done.{Done}
+use Rattle.worker_pool.specs.Days.{Done}
 use Rattle.worker_pool.specs.declared.worker.Share.{Share}
 use Rattle.worker_pool.specs.Counting.{once_below}
-use Rattle.worker_pool.specs.Days.{place_of_item, places_of_items, spot_of, AreCallersWhole, IsDay}
+use Rattle.worker_pool.specs.Days.{place_of_item, places_of_items, AreCallersWhole, IsDay}
 use Rattle.worker_pool.specs.Inner.Makers.{AreMadeBy, IsMadeBy}
 use Rattle.worker_pool.specs.Inner.Workers.{seat_of, share_of, tally_number, AreAllDone, IsDone, Tally}
 use Rattle.txn_commit.proofs.Orders.Arranged.{all_arranged, AreAllPlaces}
-use Rattle.txn_commit.proofs.Orders.InPlace.{rebuilt_as}
 use Rattle.txn_commit.proofs.Orders.Once.{pairs_map}
 use Rattle.txn_commit.proofs.Recorded.{have_records}
 use Rattle.txn_commit.proofs.Orders.Rebuilt.{all_places, apart_there, as_many_there, can_be_ordered, entries, legal_there, made_there, rebuilt}
@@ -46,7 +42,7 @@ use Rattle.txn_commit.proofs.Orders.Rebuilt.{records_there, rising_there, words_
 use Rattle.worker_pool.proofs.Arranged.{sum_arranged}
 use Rattle.worker_pool.proofs.Gathered.{all_entries, below_all, items_of, keeps_all, made_all, no_two_calls, once_all, only_all, pass_of, read}
 use Rattle.worker_pool.proofs.Gathered.{seen_flat, sum_over, total_had}
-use Rattle.worker_pool.proofs.Replayed.{ran_of, replies_are, stands_after, stands_closed, Means}
+use Rattle.worker_pool.proofs.Replayed.{replies_are, stands_after, stands_closed, Means}
 use Rattle.worker_pool.proofs.Wholes.{callers_whole}
 
 abbrev pub share_pass : Share → PassView
@@ -164,28 +160,18 @@ module _ (desk : DeskView BooksShape) (input : ClearingInput) (shares : List Sha
           → IsMadeBy desk.shape input e x
       its_made = made_there over places order done at (λ x e. IsMadeBy desk.shape input e x) made.each
 
-      its_run : IsRunInOrder Good (Means input desk.shape) closed (map ran_of done)
+      its_run : IsRunInOrder Good (Means input desk.shape) closed done
       its_run =
           let down = legal_there over places order in
-          let its = λ (k : ℕ) (ran : Ran Reply) (e : Entry) (at_ran : slice_get (map ran_of done) k ≡ Some ran).
-          map_at ran_of done k ran at_ran in
           record {
-            rebuilt = rebuilt_as ran_of ordered.spot_of done (rebuilt over places order done at);
+            rebuilt = rebuilt over places order done at;
             entries = entries over places order;
-            as_many = length-map done ran_of ∙ as_many_there over places order done at;
-            of_items = λ k ran e at_ran at_e.
-                let x = its k ran e at_ran in
-                let is = (its_made k x.0 e x.1 at_e).is_of in
-                subst (λ (r : Ran Reply). lists.IsEntryOf r e) x.2
-                (record { seat_is = is.seat_is; call_is = is.call_is; restarts_are = is.restarts_are; uses_are = is.uses_are });
+            as_many = as_many_there over places order done at;
+            of_items = λ k item e at_item at_e. (its_made k item e at_item at_e).is_of;
             of_records = records_there over places order;
             good_words = λ k le. down.good_before k;
             legal = down.trace_legal;
-            meaning = λ k ran e at_ran at_e.
-                let x = its k ran e at_ran in
-                subst (λ (r : Ran Reply). Means input desk.shape r.caller r.index (replay closed.base (take k (entries over places order))) e.kept r.answer
-                (after e.trace (replay closed.base (take k (entries over places order))))) x.2
-                ((its_made k x.0 e x.1 at_e).meaning _ (down.good_before k) (down.trace_legal k e at_e));
+            meaning = λ k item e at_item at_e. (its_made k item e at_item at_e).meaning _ (down.good_before k) (down.trace_legal k e at_e);
             words = words_there over places order;
           }
 
@@ -201,14 +187,13 @@ module _ (desk : DeskView BooksShape) (input : ClearingInput) (shares : List Sha
             (rising_there over places order done at);
       }
 
-      its_apart : AllPairs (λ (x y : Ran Reply). x.seat ≡ y.seat → x.call ≢ y.call) (map ran_of done)
-      its_apart = pairs_map (λ (x y : Ran Reply). x.seat ≡ y.seat → x.call ≢ y.call) ran_of done
-          (λ i j d lt short seat call. absurd (omega (
-            arith,
-            lt,
-            apart_there over places order done at i j (get_or done i d) (get_or done j d) (slice_get-get_or done i d (omega (arith, lt, short)))
-                (slice_get-get_or done j d short) seat call,
-          )))
+      its_apart : AllPairs (λ (x y : Done). x.seat ≡ y.seat → x.call ≢ y.call) done
+      its_apart i j d lt short seat call = absurd (omega (
+        arith,
+        lt,
+        apart_there over places order done at i j (get_or done i d) (get_or done j d) (slice_get-get_or done i d (omega (arith, lt, short)))
+            (slice_get-get_or done j d short) seat call,
+      ))
 
       pub day_of_all : IsDay input closed done
       unfolding its_run
@@ -222,8 +207,7 @@ module _ (desk : DeskView BooksShape) (input : ClearingInput) (shares : List Sha
               each = λ k item entry at_item at_entry. (its_made k item entry at_item at_entry).is_of;
             };
             of_records = records_there over places order;
-            as_many = sym (length-map done ran_of) ∙ (have_records closed (map ran_of done) its_run.entries its_run.as_many its_run.of_items
-                its_run.of_records its_apart records).as_many;
+            as_many = (have_records closed done its_run.entries its_run.as_many its_run.of_items its_run.of_records its_apart records).as_many;
             distinct = apart_there over places order done at;
             legal = (legal_there over places order).trace_legal;
             words = words_there over places order;

@@ -17,9 +17,10 @@ use Rattle.script_reader.specs.Journal.{Place, IsPlace}
 use Rattle.txn_books.specs.declared.shape.BooksShape.{BooksShape}
 use Rattle.word_table.specs.Copies.{PassView}
 use Rattle.word_table.specs.Desks.{DeskView}
-use Rattle.worker_pool.specs.declared.done.Done.{Done}
+use Rattle.worker_pool.specs.Days.{Done}
 use Rattle.worker_pool.specs.Counting.{once_below}
-use Rattle.worker_pool.specs.Days.{place_of_item, places_of_items, spot_of}
+use Rattle.worker_pool.specs.Days.{place_of_item, places_of_items}
+use Rattle.txn_commit.specs.Ordered.{spot_of}
 use Rattle.worker_pool.specs.Inner.Makers.{AreMadeBy, IsMadeBy}
 use Rattle.worker_pool.specs.Inner.Workers.{tally_number, IsDone, Tally}
 use Rattle.txn_commit.proofs.Flattened.{beside_flat, in_flat, into_flat, of_in, AreBeside}

@@ -20,7 +20,7 @@ use Rattle.txn_commit.specs.Uses.{ListsUses}
 use Rattle.books_model.specs.declared.reply.Reply.{Reply}
 use Rattle.word_table.specs.Copies.{PassView}
 use Rattle.word_table.specs.Desks.{DeskView}
-use Rattle.worker_pool.specs.declared.done.Done.{Done}
+use Rattle.worker_pool.specs.Days.{Done}
 use Rattle.worker_pool.specs.Inner.Makers.{AreMadeBy, HasMade, IsMadeBy}
 
 -- what stands at a place of two lists of one length, each with one more: what stood there, or what came last

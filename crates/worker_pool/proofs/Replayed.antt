@@ -1,8 +1,6 @@
 -- The interpreter, run down the items of a day: by the lemma for every store it replies what they reply, and the words before
 -- and after each stand for its books.
 use Rattle.std.proofs.Common.{◌≡◌, ◌≢◌, ℕ, ◌≤◌, Bool, true, false, List, [], ◌∷◌, map, length, take, refl, sym, ap, ◌∙◌, subst, arith, true≢false}
-use Rattle.std.proofs.lemmas.List.{length-map, take-map}
-use mathlib.Core.List.{map-map}
 use Rattle.history_model.specs.Fitting.{IsGood}
 use Rattle.history_model.specs.Histories.{replay}
 use Rattle.books_model.specs.declared.reply.Reply.{Reply}
@@ -17,24 +15,11 @@ use Rattle.txn_books.specs.declared.shape.BooksShape.{BooksShape}
 use Rattle.txn_books.specs.Layout.{words_of}
 use Rattle.txn_books.specs.Standing.{IsGoodFor, Stands}
 use Rattle.txn_books.specs.Meaning.{is_done, ScriptMeans}
-use Rattle.txn_commit.specs.declared.lists.Ran.{Ran}
 use Rattle.txn_commit.specs.Ordered.{answers_down, state_down, IsRunInOrder, IsStep}
 use Rattle.txn_commit.proofs.Orders.Stores.{all_answers, at_the_end, runs_to}
 use Rattle.word_table.specs.Closing.{ClosedView}
-use Rattle.worker_pool.specs.declared.done.Done.{Done}
+use Rattle.worker_pool.specs.Days.{Done}
 use Rattle.worker_pool.specs.Days.{places_of_items}
-
--- an item, as lists of jobs have it
-abbrev pub ran_of : Done → Ran Reply
-ran_of item = record {
-  caller = item.caller;
-  index = item.index;
-  seat = item.seat;
-  call = item.call;
-  uses = item.uses;
-  restarts = item.restarts;
-  answer = item.reply;
-}
 
 not_done : (answer : Reply) → is_done answer ≡ false → (r : Reply) → answer ≡ r → (values : List Value) → r ≢ reply.Done values
 not_done answer refusal r same values e = let done : is_done answer ≡ true = ap is_done (same ∙ e) in absurd (true≢false (sym done ∙ refusal))
@@ -58,32 +43,31 @@ module _ (input : ClearingInput) (shape : BooksShape) where
         refused (script_at input c i) books (not_done answer (sym means.kept_where_done ∙ is) (replied c i books) (means.replies books stands));
   }
 
-  replies_down : (done : List Done) (books : ClearingBooks) → answers_down replied left (map ran_of done) books ≡ replies_of input books (places_of_items done)
+  replies_down : (done : List Done) (books : ClearingBooks) → answers_down replied left done books ≡ replies_of input books (places_of_items done)
   unfolding answers_down
   replies_down [] books = refl
   replies_down (item ∷ done) books = ap (λ rs. replied item.caller item.index books ∷ rs) (replies_down done (left item.caller item.index books))
 
-  books_down : (done : List Done) (books : ClearingBooks) → state_down left (map ran_of done) books ≡ books_after input books (places_of_items done)
+  books_down : (done : List Done) (books : ClearingBooks) → state_down left done books ≡ books_after input books (places_of_items done)
   unfolding state_down
   books_down [] books = refl
   books_down (item ∷ done) books = books_down done (left item.caller item.index books)
 
   module _ (refused : RefusedChangesNothing) (closed : ClosedView BooksShape) (done : List Done)
-      (run : IsRunInOrder (IsGood (words_of shape) (IsGoodFor shape)) Means closed (map ran_of done)) (opening : Stands shape closed.base input.books) where
+      (run : IsRunInOrder (IsGood (words_of shape) (IsGoodFor shape)) Means closed done) (opening : Stands shape closed.base input.books) where
     pub replies_are : map (λ (item : Done). item.reply) done ≡ replies_of input input.books (places_of_items done)
-    replies_are = sym (map-map (λ (ran : Ran Reply). ran.answer) ran_of done)
-        ∙ all_answers (IsGood (words_of shape) (IsGoodFor shape)) Means closed (map ran_of done) run (Stands shape) replied left (is_step refused) input.books
+    replies_are = all_answers (IsGood (words_of shape) (IsGoodFor shape)) Means closed done run (Stands shape) replied left (is_step refused) input.books
         opening
         ∙ replies_down done input.books
 
     pub stands_after : (k : ℕ) → k ≤ length done
         → Stands shape (replay closed.base (take k run.entries)) (books_after input input.books (places_of_items (take k done)))
     stands_after k le = subst (λ books. Stands shape (replay closed.base (take k run.entries)) books)
-        (ap (λ l. state_down left l input.books) (take-map ran_of k done) ∙ books_down (take k done) input.books)
-        (runs_to (IsGood (words_of shape) (IsGoodFor shape)) Means closed (map ran_of done) run (Stands shape) replied left (is_step refused) input.books
-        opening k (omega (arith, le, length-map done ran_of))).state
+        (books_down (take k done) input.books)
+        (runs_to (IsGood (words_of shape) (IsGoodFor shape)) Means closed done run (Stands shape) replied left (is_step refused) input.books
+        opening k le).state
 
     pub stands_closed : Stands shape closed.words (books_after input input.books (places_of_items done))
     stands_closed = subst (λ books. Stands shape closed.words books) (books_down done input.books)
-        (at_the_end (IsGood (words_of shape) (IsGoodFor shape)) Means closed (map ran_of done) run (Stands shape) replied left (is_step refused) input.books
+        (at_the_end (IsGood (words_of shape) (IsGoodFor shape)) Means closed done run (Stands shape) replied left (is_step refused) input.books
         opening)

@@ -9,7 +9,7 @@ use Rattle.std.proofs.lemmas.List.Sums.{sum_by_push}
 use Rattle.script_reader.specs.Input.{ClearingInput, caller_at}
 use Rattle.script_reader.specs.Journal.{Place, IsPlace}
 use Rattle.worker_pool.specs.Counting.{HadOneMore}
-use Rattle.worker_pool.specs.declared.done.Done.{Done}
+use Rattle.worker_pool.specs.Days.{Done}
 use Rattle.worker_pool.specs.Days.{place_of_item, places_of_items}
 use Rattle.worker_pool.specs.Inner.Makers.{RanScripts, RunsEach}
 

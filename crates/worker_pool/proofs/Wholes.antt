@@ -9,7 +9,7 @@ use Rattle.std.proofs.lemmas.Option.{get_or_from_slice_get, slice_get_within}
 use Rattle.script_reader.specs.Input.{ClearingInput}
 use Rattle.txn_books.specs.declared.shape.BooksShape.{BooksShape}
 use Rattle.word_table.specs.Desks.{DeskView}
-use Rattle.worker_pool.specs.declared.done.Done.{Done}
+use Rattle.worker_pool.specs.Days.{Done}
 use Rattle.worker_pool.specs.Days.{AreCallersWhole}
 use Rattle.worker_pool.specs.Inner.Workers.{tally_number, IsDone, Tally}
 use Rattle.worker_pool.proofs.Gathered.{among_total, items_of, total_had}

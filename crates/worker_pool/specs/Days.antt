@@ -1,7 +1,6 @@
 -- What all workers of a day did together.
 use Rattle.std.specs.Prelude.{◌≡◌, ◌↔◌, ◌≤◌, ◌<◌, ℕ, List, map, length, take, All, Some, slice_get}
 use Rattle.history_model.specs.declared.entry.Entry.{Entry}
-use Rattle.history_model.specs.declared.placed.Spot.{Spot}
 use Rattle.history_model.specs.Histories.{replay}
 use Rattle.history_model.specs.Legal.{IsIn}
 use Rattle.history_model.specs.Traces.{IsLegalTrace}
@@ -13,14 +12,19 @@ use Rattle.script_reader.specs.Journal.{Place, IsJournal}
 use Rattle.books_report.specs.Output.{replies_of, books_after}
 use Rattle.txn_books.specs.declared.shape.BooksShape.{BooksShape}
 use Rattle.txn_books.specs.Standing.{Stands}
-use Rattle.txn_commit.specs.Ordered as ordered
-use Rattle.txn_commit.specs.Uses.{ListsUses}
-use Rattle.worker_pool.specs.declared.done.Done.{Done}
+use Rattle.txn_commit.specs.declared.lists.Done as lists
+use Rattle.txn_commit.specs.Lists.{IsEntryOf}
+use Rattle.txn_commit.specs.Ordered.{spot_of, IsRebuilt}
+use Rattle.books_model.specs.declared.reply.Reply.{Reply}
 
 -- the desk is new, and these are all its passes
 pub record AreAllNew {S : Type 0} (desk : DeskView S) (passes : List PassView) : Type 0 where
   pub count : length passes ≡ desk.seats
   pub each : (j : ℕ) → j < desk.seats → slice_get passes j ≡ Some (fresh_pass desk.table desk.base desk.seats j)
+
+-- a script that was run
+abbrev pub Done : Type 0
+Done = lists.Done Reply
 
 -- the place of the script that an item is about
 abbrev pub place_of_item : Done → Place
@@ -30,26 +34,10 @@ place_of_item item = record { caller = item.caller; index = item.index }
 abbrev pub places_of_items : List Done → List Place
 places_of_items done = map place_of_item done
 
--- the entry is of the item's seat and call, has as many attempts that gave way as the item has restarts, and has the uses
--- that the item lists by rising lock
-pub record IsEntryOf (item : Done) (entry : Entry) : Type 0 where
-  pub seat_is : entry.who ≡ item.seat
-  pub call_is : entry.call ≡ item.call
-  pub restarts_are : length entry.abandoned ≡ item.restarts
-  pub uses_are : ListsUses entry.uses item.uses.items
-
 -- the entries are those of the items, one beside the other
 pub record AreEntriesOf (done : List Done) (entries : List Entry) : Type 0 where
   pub as_many : length done ≡ length entries
   pub each : (k : ℕ) (item : Done) (entry : Entry) → slice_get done k ≡ Some item → slice_get entries k ≡ Some entry → IsEntryOf item entry
-
--- what the order of items is made by: an item's caller, its place among the caller's scripts, and its uses
-abbrev pub spot_of : Done → Spot
-spot_of item = record { caller = item.caller; index = item.index; uses = item.uses.items }
-
--- the items stand in the order that is rebuilt from what they used
-abbrev pub IsRebuilt : List Done → Type 0
-IsRebuilt done = ordered.IsRebuilt spot_of done
 
 -- each caller was run whole by one worker: any two items of one caller are of one seat
 abbrev pub AreCallersWhole : List Done → Type 0
@@ -59,7 +47,7 @@ AreCallersWhole done = (j k : ℕ) (x y : Done) → slice_get done j ≡ Some x 
 -- with the replies of the interpreter; the closed records are their entries; down these each trace is legal, and before
 -- and after each item the words stand for the books of the interpreter
 pub record IsDay (input : ClearingInput) (closed : ClosedView BooksShape) (done : List Done) : Type 0 where
-  pub rebuilt : IsRebuilt done
+  pub rebuilt : IsRebuilt spot_of done
   pub entries : List Entry
   pub of_items : AreEntriesOf done entries
   pub of_records : (e : Entry) → IsIn e entries ↔ IsIn e closed.records

@@ -7,6 +7,7 @@ ghost use Rattle.script_reader.specs.Input.{caller_at};
 ghost use Rattle.script_reader.specs.declared.limits.TheConstants.{MOST_SCRIPTS};
 ghost use Rattle.word_table.specs.declared.limits.TheConstants.{LAST_CALL};
 ghost use Rattle.worker_pool.specs.Counting.{HadOneMore};
+ghost use Rattle.worker_pool.specs.Days.{Done};
 ghost use Rattle.worker_pool.specs.Inner.Makers.{HasMade, RanScripts, RunsEach};
 ghost use Rattle.worker_pool.specs.Inner.Takers.{dealt_to};
 ghost use Rattle.worker_pool.specs.Inner.Workers.{number_of, FitTogether, HasEndedItsPart, HasDoneItsPart, IsSeated};

@@ -3,14 +3,10 @@ use Rattle.std.proofs.Common.{◌≡◌, ◌+◌, ◌++◌, [], ◌∷◌, ℕ, 
 use Rattle.std.specs.List.{flat_map, join_with_byte, slice_get}
 use Rattle.std.proofs.lemmas.List.{take_more}
 use Rattle.std.proofs.lemmas.Option.{get_or_from_slice_get, slice_get_within}
-use Rattle.books_model.specs.declared.reply.Value.{Value}
 use Rattle.books_model.specs.declared.reply.Reply.{Reply}
-use Rattle.books_model.specs.declared.reply.Reply.TheVariants as reply
 use Rattle.script_reader.specs.declared.words.TheConstants.{SPACE}
 use Rattle.script_reader.specs.Input.{ClearingInput, caller_at}
 use Rattle.books_report.specs.declared.line.Line.{Line}
-use Rattle.books_model.specs.Words.{value_word}
-use Rattle.books_report.specs.Words.{reply_words}
 use Rattle.books_report.specs.Output.{journal_line, journal_lines}
 use Rattle.books_report.specs.Lines.{ran_of_line, scripts_of}
 
@@ -18,30 +14,36 @@ use Rattle.books_report.specs.Lines.{ran_of_line, scripts_of}
 pub take_next : {A : Type 0} (xs : List A) (i : ℕ) (x : A) → slice_get xs i ≡ Some x → take (i + 1) xs ≡ take i xs ++ x ∷ []
 take_next xs i x h = take_more xs i x (slice_get_within xs i x h) ∙ ap (λ y. take i xs ++ y ∷ []) (get_or_from_slice_get xs i x x h)
 
--- a space and the word of a value
-abbrev pub spaced_word : Value → List ℕ
-spaced_word v = SPACE ∷ value_word v
+-- one piece behind another, behind what was there
+pub two_pieces : (text one other before now : List ℕ) → before ≡ text ++ one → now ≡ before ++ other → now ≡ text ++ (one ++ other)
+two_pieces text one other before now h k = k ∙ ap (λ xs. xs ++ other) h ∙ append_assoc text one other
 
--- one more piece is written, and the others are left
+-- one more piece is written, and the rest is left
+pub piece_written : (whole before now one rest : List ℕ) → before ++ (one ++ rest) ≡ whole → now ≡ before ++ one → now ++ rest ≡ whole
+piece_written whole before now one rest so_far written = ap (λ text. text ++ rest) written ∙ append_assoc before one rest ∙ so_far
+
+-- the same of pieces of a list
 pub piece_next : {A : Type 0} (piece : A → List ℕ) (whole before now : List ℕ) (items left : List A) (x : A)
     → before ++ flat_map piece items ≡ whole → items ≡ x ∷ left → now ≡ before ++ piece x → now ++ flat_map piece left ≡ whole
-piece_next piece whole before now items left x so_far next written =
-    ap (λ text. text ++ flat_map piece left) written
-    ∙ append_assoc before (piece x) (flat_map piece left)
-    ∙ sym (ap (λ xs. before ++ flat_map piece xs) next)
-    ∙ so_far
+piece_next piece whole before now items left x so_far next =
+    piece_written whole before now (piece x) (flat_map piece left) (sym (ap (λ xs. before ++ flat_map piece xs) next) ∙ so_far)
 
 -- words joined to a first one, each with a space in front
 pub join-map : {A : Type 0} (c : ℕ) (f : A → List ℕ) (x : List ℕ) (xs : List A) → join_with_byte c (x ∷ map f xs) ≡ x ++ flat_map (λ y. c ∷ f y) xs
 join-map c f x [] = sym (append-nil x)
 join-map c f x (y ∷ ys) = ap (λ zs. x ++ (c ∷ zs)) (join-map c f (f y) ys)
 
--- `done` and then the values is the reply
-pub done_values : (text pushed now : List ℕ) (values : List Value) → pushed ≡ text ++ codes "done" → now ≡ pushed ++ flat_map spaced_word values
-    → now ≡ text ++ join_with_byte SPACE (reply_words (reply.Done values))
-done_values text pushed now values word rest =
-    rest ∙ ap (λ xs. xs ++ flat_map spaced_word values) word ∙ append_assoc text (codes "done") (flat_map spaced_word values)
-    ∙ ap (λ xs. text ++ xs) (sym (join-map SPACE value_word (codes "done") values))
+module _ {V : Type 0} (word : V → List ℕ) where
+  -- a space and the word of a value
+  abbrev pub spaced : V → List ℕ
+  spaced v = SPACE ∷ word v
+
+  -- `done` and then the values are the words of a reply
+  pub done_values : (text before now : List ℕ) (values : List V) → before ≡ text ++ codes "done" → now ≡ before ++ flat_map spaced values
+      → now ≡ text ++ join_with_byte SPACE (codes "done" ∷ map word values)
+  done_values text before now values first rest =
+      two_pieces text (codes "done") (flat_map spaced values) before now first rest
+      ∙ ap (λ xs. text ++ xs) (sym (join-map SPACE word (codes "done") values))
 
 -- one more line is written, and the others are left
 pub line_next : (input : ClearingInput) (whole before now name : List ℕ) (serial : ℕ) (lines left : List Line)
@@ -50,8 +52,6 @@ pub line_next : (input : ClearingInput) (whole before now name : List ℕ) (seri
     → name ≡ (caller_at input l.caller).name → now ≡ before ++ journal_line serial name (ran_of_line l answer)
     → now ++ journal_lines input (serial + 1) (scripts_of left others) ≡ whole
 line_next input whole before now name serial lines left replies others l answer so_far next answered named written =
-    let later = journal_lines input (serial + 1) (scripts_of left others) in
-    ap (λ text. text ++ later) (written ∙ ap (λ n. before ++ journal_line serial n (ran_of_line l answer)) named)
-    ∙ append_assoc before (journal_line serial (caller_at input l.caller).name (ran_of_line l answer)) later
-    ∙ sym (λ i. before ++ journal_lines input serial (scripts_of (next i) (answered i)))
-    ∙ so_far
+    piece_written whole before now (journal_line serial (caller_at input l.caller).name (ran_of_line l answer)) _
+    (sym (λ i. before ++ journal_lines input serial (scripts_of (next i) (answered i))) ∙ so_far)
+    (written ∙ ap (λ n. before ++ journal_line serial n (ran_of_line l answer)) named)

@@ -1,5 +1,5 @@
 -- What was read of a text, and the fault behind it.
-use Rattle.std.proofs.Common.{◌≡◌, ℕ, ◌≤◌, Bool, true, false, not, ◌&&◌, ◌||◌, if◌then◌else◌, nat_le, List, [], ◌∷◌, ◌++◌, codes, map, length, All}
+use Rattle.std.proofs.Common.{◌≡◌, ℕ, ◌≤◌, Bool, true, false, if◌then◌else◌, nat_le, List, [], ◌∷◌, ◌++◌, codes, map, length, All}
 use Rattle.std.proofs.Common.{Some, None, refl, sym, ap, subst, ◌∙◌}
 use Rattle.std.proofs.Common.{append_assoc, arith}
 use Rattle.std.specs.List.{flat_map}
@@ -11,7 +11,6 @@ use Rattle.std.proofs.lemmas.Option.{none-some}
 use Rattle.books_model.specs.declared.limits.TheConstants.{MOST_OPERATIONS}
 use Rattle.script_reader.specs.declared.fault.Fault.{Fault}
 use Rattle.script_reader.specs.declared.fault.Fault.TheVariants as fault
-use Rattle.script_reader.specs.Lines.{word_at}
 use Rattle.script_reader.specs.Text.{line, end_line, finish_line}
 use Rattle.script_reader.specs.Input.{IsName}
 use Rattle.script_reader.specs.Forms.{Words, is_only, is_script_line}
@@ -21,9 +20,10 @@ use Rattle.script_reader.specs.Gathered.{CallerOf, SubmissionOf, AreCallers, cal
 use Rattle.script_reader.specs.Reading.{IsFaultBehind}
 use Rattle.script_reader.specs.ListLanguage.{ListLanguage, AreSizes, IsListLanguage, IsOperationIn, IsScriptIn, operation_fault, operation_words}
 use Rattle.script_reader.specs.ListLanguage.{submission_words, lines_of, text_of, head_words, judge}
-use Rattle.script_reader.specs.Inner.ListScripts.{AreReadOf, HasTextInFront, is_beyond_in, lines_within, operations_text}
+use Rattle.script_reader.specs.Inner.Gatherings.{is_beyond_in}
+use Rattle.script_reader.specs.Inner.ListScripts.{AreReadOf, HasTextInFront, lines_within, operations_text}
 use Rattle.script_reader.proofs.Grouped.Submitting.{caller-AreWords}
-use Rattle.script_reader.proofs.Grouped.Grouping.{no-names}
+use Rattle.script_reader.proofs.Grouped.Outside.{outside_other, outside_beyond}
 use Rattle.script_reader.proofs.Judging.{behind_more}
 use Rattle.script_reader.proofs.Listed.Standing.{outside_is, within_in, within_is, operation_is, within_more}
 use Rattle.script_reader.proofs.Listed.Lawful.{begins_faultless, operations_faultless, scripts_faultless, front_faultless}
@@ -67,19 +67,13 @@ module _ {O S : Type 0} (g : ListLanguage O S) (lawful : IsListLanguage g) (ns :
   pub outside_word : (subs : List (SubmissionOf S)) (words : Words) → is_only (codes "finish") words ≡ false
       → is_script_line words ≡ false → judge g (lines_of g ns subs) words ≡ Some fault.Word
   outside_word subs words more no_script =
-      outside_is g lawful ns subs words
-      ∙ (λ i. first_reason ((not (more i || no_script i), fault.Word) ∷ (
-        is_script_line words && is_beyond_in (callers_of subs)
-            (word_at words 1),
-        fault.Limit,
-      ) ∷ []))
+      outside_is g lawful ns subs words ∙ outside_other (callers_of subs) words more no_script
 
   -- one script too many, or one caller
   pub outside_limit : (subs : List (SubmissionOf S)) (name : List ℕ) (words : Words) → words ≡ codes "script" ∷ name ∷ []
       → IsName name → is_beyond_in (callers_of subs) name ≡ true → judge g (lines_of g ns subs) words ≡ Some fault.Limit
   outside_limit subs name words is named beyond =
-      ap (judge g (lines_of g ns subs)) is ∙ outside_is g lawful ns subs (codes "script" ∷ name ∷ [])
-      ∙ (λ i. first_reason ((not (false || named i), fault.Word) ∷ (named i && beyond i, fault.Limit) ∷ []))
+      outside_is g lawful ns subs words ∙ outside_beyond (callers_of subs) name words is named beyond
 
   module _ (subs : List (SubmissionOf S)) (name : List ℕ) (ops : List O) where
     -- a fault behind operations
@@ -145,14 +139,3 @@ module _ {O S : Type 0} (g : ListLanguage O S) where
             ∙ sym (append_assoc (H ++ (C ++ F)) finish_line after);
         spelled = record { submissions = rest.submissions; text = refl; callers_are = rest.made; sized = sized; valid = rest.valid };
       }
-
--- no callers are valid
-pub no_callers : {S : Type 0} (IsScript : S → Type 0) → AreCallers IsScript []
-no_callers IsScript = record {
-  few = omega arith;
-  few_scripts = omega arith;
-  names = λ k d less. absurd (omega arith);
-  names_differ = no-names;
-  scripts = λ k d less. absurd (omega arith);
-  some_scripts = λ k d less. absurd (omega arith);
-}

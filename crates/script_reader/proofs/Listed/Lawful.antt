@@ -1,5 +1,5 @@
 -- The lines of a text have no fault.
-use Rattle.std.proofs.Common.{◌≡◌, ℕ, ◌+◌, ◌≤◌, Bool, true, false, not, ◌&&◌, ◌||◌, nat_le, List, [], ◌∷◌, ◌++◌, codes, map, fold, None, length, refl}
+use Rattle.std.proofs.Common.{◌≡◌, ℕ, ◌+◌, ◌≤◌, false, List, [], ◌∷◌, ◌++◌, codes, map, fold, None, length, refl}
 use Rattle.std.proofs.Common.{sym, ap, subst, ◌∙◌}
 use Rattle.std.proofs.Common.{length-append, arith}
 use Rattle.std.specs.List.{flat_map, AllByRecursion}
@@ -9,41 +9,22 @@ use Rattle.std.proofs.lemmas.List.Concat.{flat_map-append}
 use Rattle.std.proofs.lemmas.List.Elements.{recursion_from_All}
 use Rattle.books_model.specs.declared.limits.TheConstants.{MOST_OPERATIONS}
 use Rattle.script_reader.specs.declared.limits.TheConstants.{MOST_CALLERS, MOST_SCRIPTS}
-use Rattle.script_reader.specs.declared.fault.Fault.TheVariants as fault
 use Rattle.script_reader.specs.Lines.{AreWords}
 use Rattle.script_reader.specs.Input.{IsName}
-use Rattle.script_reader.specs.Faults.{first_reason}
-use Rattle.script_reader.specs.Gathered.{CallerOf, SubmissionOf, AreCallers, callers_of, count_scripts}
+use Rattle.script_reader.specs.Gathered.{SubmissionOf, AreCallers, callers_of, count_scripts}
 use Rattle.script_reader.specs.Reading.{HaveNoFault}
 use Rattle.script_reader.specs.ListLanguage.{ListLanguage, AreSizes, IsListLanguage, IsOperationIn, IsScriptIn, operation_words, submission_words}
 use Rattle.script_reader.specs.ListLanguage.{lines_of, head_words, judge}
-use Rattle.script_reader.specs.Inner.Gatherings.{is_caller, add_submission}
-use Rattle.script_reader.specs.Inner.ListScripts.{is_beyond_in, lines_within}
+use Rattle.script_reader.specs.Inner.Gatherings.{add_submission, is_beyond_in}
+use Rattle.script_reader.specs.Inner.ListScripts.{lines_within}
 use Rattle.script_reader.proofs.Tokens.Cutting.{word_from_test}
 use Rattle.script_reader.proofs.Grouped.Submitting.{caller-AreWords}
 use Rattle.script_reader.proofs.Listed.Numbers.{texts_are_words, head_fine, head_AreWords, head_goes_on}
-use Rattle.script_reader.proofs.Listed.Gathering.{count-add}
-use Rattle.script_reader.proofs.Listed.Grouping.{callers_of-push, callers_of-gathered}
-use Rattle.script_reader.proofs.Listed.Submitting.{IsGoodScript, scripts_are_good, count-fold, length-add-new, length-fold-ge}
+use Rattle.script_reader.proofs.Grouped.Grouping.{callers_of-push, callers_of-gathered}
+use Rattle.script_reader.proofs.Grouped.Submitting.{IsGoodScript, scripts_are_good}
+use Rattle.script_reader.proofs.Grouped.Outside.{room_for, outside_none}
 use Rattle.script_reader.proofs.Judging.{faultless_append}
 use Rattle.script_reader.proofs.Listed.Standing.{operation_goes_on, outside_is, within_is, operation_is, within_more}
-
--- there is room for one more script, where more scripts keep to the limits
-room_for : {S : Type 0} (callers : List (CallerOf S)) (s : SubmissionOf S) (rest : List (SubmissionOf S))
-    → count_scripts (fold add_submission (add_submission callers s) rest) ≤ MOST_SCRIPTS
-    → length (fold add_submission (add_submission callers s) rest) ≤ MOST_CALLERS → is_beyond_in callers s.caller ≡ false
-room_for callers s rest few space = by (is_caller s.caller callers) refl
-  where
-    scripts : nat_le MOST_SCRIPTS (count_scripts callers) ≡ false
-    scripts = lt-leb MOST_SCRIPTS (count_scripts callers) (omega (arith, few, count-fold (add_submission callers s) rest, count-add callers s))
-
-    by : (b : Bool) → is_caller s.caller callers ≡ b → (nat_le MOST_SCRIPTS (count_scripts callers) || (not
-        (is_caller s.caller callers) && nat_le MOST_CALLERS (length callers))) ≡ false
-    by true e = λ i. scripts i || (not (e i) && nat_le MOST_CALLERS (length callers))
-    by false e =
-        let callers_few = lt-leb MOST_CALLERS (length callers)
-        (omega (arith, space, length-fold-ge (add_submission callers s) rest, length-add-new callers s e)) in
-        λ i. scripts i || (not (e i) && callers_few i)
 
 module _ {O S : Type 0} (g : ListLanguage O S) (lawful : IsListLanguage g) (ns : List ℕ) (sized : AreSizes g ns) where
   -- the words of an operation are those of a line
@@ -74,8 +55,7 @@ module _ {O S : Type 0} (g : ListLanguage O S) (lawful : IsListLanguage g) (ns :
   pub begins_faultless : (subs : List (SubmissionOf S)) (name : List ℕ) → IsName name → is_beyond_in (callers_of subs) name ≡ false
       → judge g (lines_of g ns subs) (codes "script" ∷ name ∷ []) ≡ None
   begins_faultless subs name named room =
-      outside_is g lawful ns subs (codes "script" ∷ name ∷ [])
-      ∙ (λ i. first_reason ((not (false || named i), fault.Word) ∷ (named i && room i, fault.Limit) ∷ []))
+      outside_is g lawful ns subs (codes "script" ∷ name ∷ []) ∙ outside_none (callers_of subs) name named room
 
   -- a script
   submission_faultless : (done : List (SubmissionOf S)) (s : SubmissionOf S) → IsGoodScript (IsScriptIn g ns) s

@@ -25,17 +25,16 @@ use Rattle.script_reader.specs.ListLanguage.{ListLanguage, Size, AreNumbersIn, A
 use Rattle.script_reader.specs.ListLanguage.{IsTextOf, operation_fault, operation_words, submission_words, lines_of, head_words, head_fault, size_pairs, have_names}
 use Rattle.script_reader.specs.ListLanguage.{seconds, size_words, size_ranges, judge}
 use Rattle.script_reader.specs.Statements.{HasFaultIn}
-use Rattle.script_reader.specs.Inner.Gatherings.{is_caller}
-use Rattle.script_reader.specs.Inner.ListScripts.{is_beyond_in, lines_within}
+use Rattle.script_reader.specs.Inner.Gatherings.{is_beyond_in, is_caller}
+use Rattle.script_reader.specs.Inner.ListScripts.{lines_within}
 use Rattle.script_reader.proofs.Conditions.{both, passed, neither}
 use Rattle.script_reader.proofs.Judging.{faultless_append, some_none}
 use Rattle.script_reader.proofs.LineFaults.LineKinds.{behind_keyword, none_applies, one_behind, only_word}
 use Rattle.script_reader.proofs.Tokens.Cutting.{found_at, found_none, taken}
 use Rattle.script_reader.proofs.Tokens.Numerals.{text_of_number}
-use Rattle.script_reader.proofs.Grouped.Grouping.{no-names}
-use Rattle.script_reader.proofs.Listed.Grouping.{callers_of-push}
+use Rattle.script_reader.proofs.Grouped.Grouping.{callers_of-push, no-names}
 use Rattle.script_reader.proofs.Listed.Standing.{outside_is, within_is, within_more, operation_goes_on}
-use Rattle.script_reader.proofs.Listed.Submitting.{callers_more}
+use Rattle.script_reader.proofs.Grouped.Submitting.{callers_more}
 use Rattle.script_reader.proofs.Listed.Telling.{not_both}
 
 -- words that are numbers in ranges of 64 bits

@@ -14,7 +14,7 @@ use Rattle.script_reader.specs.Reading.{HaveNoFault, IsFaultInFront}
 use Rattle.script_reader.specs.ListLanguage.{ListLanguage, IsListLanguage, IsOperationIn, IsScriptIn, IsTextOf, IsFirstFaultIn, operation_words}
 use Rattle.script_reader.specs.ListLanguage.{submission_words, lines_of, head_words, sizes_at, judge}
 use Rattle.script_reader.proofs.Listed.Numbers.{sizes_are, values_are}
-use Rattle.script_reader.proofs.Listed.Submitting.{IsGoodScript, scripts_are_good}
+use Rattle.script_reader.proofs.Grouped.Submitting.{IsGoodScript, scripts_are_good}
 use Rattle.script_reader.proofs.Judging.{finish_once, no_fault, fault_once}
 use Rattle.script_reader.proofs.Listed.Standing.{outside_is, operation_stays}
 use Rattle.script_reader.proofs.Listed.Lawful.{text_faultless}

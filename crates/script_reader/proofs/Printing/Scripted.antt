@@ -1,12 +1,11 @@
 -- What the lines of books and of scripts say of a line behind them.
-use Rattle.std.proofs.Common.{◌≡◌, ℕ, suc, ◌+◌, Bool, true, false, not, ◌&&◌, ◌||◌, nat_le, cond, if◌then◌else◌, List, [], ◌∷◌, ◌++◌, codes, map, filter, fold}
+use Rattle.std.proofs.Common.{◌≡◌, ℕ, ◌+◌, Bool, true, false, not, ◌||◌, cond, if◌then◌else◌, List, [], ◌∷◌, ◌++◌, codes, map, filter, fold}
 use Rattle.std.proofs.Common.{drop, length, length-append, append_assoc, sum_by, Option, refl, sym, ap, ◌*◌, ◌∙◌, arith}
 use Rattle.std.specs.List.{AllByRecursion, list_any, count_by, flat_map}
 use Rattle.std.proofs.Math.Nat.{mul-suc}
 use Rattle.std.proofs.lemmas.List.{append-nil}
 use Rattle.std.proofs.lemmas.List.Concat.{flat_map-append, length-flat_map}
 use Rattle.std.specs.Option.{is_none}
-use Rattle.std.specs.Str.{bytes_eq}
 use Rattle.std.proofs.lemmas.List.Folds.{list_any-append}
 use Rattle.std.proofs.lemmas.List.Elements.{filter-append}
 use Rattle.std.proofs.lemmas.List.Sums.{fold-append, sum_by-append, sum_by-cons}
@@ -15,22 +14,21 @@ use Rattle.books_model.specs.declared.script.Op.TheVariants as op
 use Rattle.books_model.specs.declared.script.Part.{Part}
 use Rattle.books_model.specs.declared.script.Part.TheVariants as part
 use Rattle.books_model.specs.Scripts.{operations_in, operations_of, alternatives_in}
-use Rattle.script_reader.specs.declared.limits.TheConstants.{MOST_CALLERS, MOST_SCRIPTS}
 use Rattle.script_reader.specs.declared.version.Version.{Version}
 use Rattle.script_reader.specs.declared.fault.Fault.{Fault}
 use Rattle.script_reader.specs.declared.fault.Fault.TheVariants as fault
-use Rattle.script_reader.specs.Lines.{word_at}
 use Rattle.script_reader.specs.Text.{account_words, price_words, position_words, call_words, operation_words, part_words}
-use Rattle.script_reader.specs.Input.{Submission, first_seen}
+use Rattle.script_reader.specs.Input.{Submission, callers_of}
 use Rattle.script_reader.specs.Inner.LinesAsWords.{Open, BetweenParts, InFirst, InSecond, open_words, parts_with, region_of, script_words, submission_words}
 use Rattle.script_reader.specs.Forms.{Words, Region, OutsideScripts, InScript, InFirstBranch, InSecondBranch, script_forms, begins, is_only, form_of}
-use Rattle.script_reader.specs.Forms.{ranges_of, is_script_line, are_numbers, are_in_range}
+use Rattle.script_reader.specs.Forms.{ranges_of, are_numbers, are_in_range}
 use Rattle.script_reader.specs.Faults.{first_reason, region_after, region_behind, is_turning, is_too_many, script_before, operations_before}
-use Rattle.script_reader.specs.Faults.{alternatives_before, callers_before}
+use Rattle.script_reader.specs.Faults.{alternatives_before}
 use Rattle.script_reader.specs.Faults.{inside_fault, scripts_fault, books_fault, fault_of}
 use Rattle.script_reader.proofs.Tokens.Numerals.{value_of_number}
 use Rattle.script_reader.proofs.Versions.{version_read}
 use Rattle.script_reader.proofs.Conditions.{any_never}
+use Rattle.script_reader.proofs.Grouped.Outside.{outside_in, outside_of}
 use Rattle.script_reader.proofs.Printing.Printed.{Printed, IsSmall, header_of, entries_of, print, any_entry}
 
 -- the lines behind the books: the line `scripts`, and scripts that have ended
@@ -378,58 +376,11 @@ begun p subs =
     filter-append (begins (codes "script")) (print p) (ended subs)
     ∙ (λ i. filter_entries p i ++ filter_ended subs i)
 
--- as many as there are scripts
-length_map : {A B : Type 0} (f : A → B) (xs : List A) → length (map f xs) ≡ length xs
-length_map f [] = refl
-length_map f (x ∷ xs) = ap suc (length_map f xs)
-
-count_filter : (t : Words → Bool) (ls : List Words) → count_by t ls ≡ length (filter t ls)
-count_filter t [] = refl
-count_filter t (l ∷ ls) = sum_by-cons (λ w. cond (t w) 1 0) l ls ∙ ap (λ n. cond (t l) 1 0 + n) (count_filter t ls) ∙ by (t l)
-  where
-    by : (b : Bool) → cond b 1 0 + length (filter t ls) ≡ length (cond b (l ∷ filter t ls) (filter t ls))
-    by true = omega arith
-    by false = omega arith
-
-callers_so_far : (p : Printed) (subs : List Submission) → callers_before (print p ++ ended subs) ≡ first_seen (map (λ s. s.caller) subs)
-callers_so_far p subs = ap (λ ls. first_seen (map (λ w. word_at w 1) ls)) (begun p subs) ∙ ap first_seen (names subs)
-  where
-    names : (subs : List Submission) → map (λ w. word_at w 1) (map (λ s. codes "script" ∷ s.caller ∷ []) subs) ≡ map (λ s. s.caller) subs
-    names [] = refl
-    names (s ∷ subs) = ap (λ l. s.caller ∷ l) (names subs)
-
--- one more script of this caller would be one too many, or its caller
-abbrev pub is_beyond_at : List Submission → List ℕ → Bool
-is_beyond_at subs name =
-    nat_le MOST_SCRIPTS (length subs)
-    || (not (list_any (bytes_eq name) (first_seen (map (λ s. s.caller) subs))) && nat_le MOST_CALLERS (length (first_seen (map (λ s. s.caller) subs))))
-
 -- what is wrong with a line behind scripts that have ended
-abbrev pub outside_at : List Submission → Words → Option Fault
-outside_at subs words = first_reason (
-    (not (is_only (codes "finish") words || is_script_line words), fault.Word)
-    ∷ (is_script_line words && is_beyond_at subs (word_at words 1), fault.Limit)
-    ∷ []
-    )
-
-pub outside_fault_is : (p : Printed) (subs : List Submission) (words : Words) → fault_of (print p ++ ended subs) words ≡ outside_at subs words
+pub outside_fault_is : (p : Printed) (subs : List Submission) (words : Words) → fault_of (print p ++ ended subs) words ≡ outside_in (callers_of subs) words
 outside_fault_is p subs words =
-    (λ i. if not (some_scripts p (flat_map submission_words subs) i) then books_fault lines words else
-    scripts_fault (region_so_far p subs i) lines words) ∙ (λ i. first_reason (
-    (not (is_only (codes "finish") words || is_script_line words), fault.Word)
-    ∷ (
-      is_script_line words && (nat_le MOST_SCRIPTS (count i) ||
-          (not (list_any (bytes_eq (word_at words 1)) (callers_so_far p subs i)) && nat_le MOST_CALLERS (length (callers_so_far p subs i)))),
-      fault.Limit,
-    )
-    ∷ []
-    ))
-  where
-    lines : List Words
-    lines = print p ++ ended subs
-
-    count : count_by (begins (codes "script")) (print p ++ ended subs) ≡ length subs
-    count = count_filter (begins (codes "script")) (print p ++ ended subs) ∙ ap length (begun p subs) ∙ length_map (λ s. codes "script" ∷ s.caller ∷ []) subs
+    (λ i. if not (some_scripts p (flat_map submission_words subs) i) then books_fault (print p ++ ended subs) words else
+    scripts_fault (region_so_far p subs i) (print p ++ ended subs) words) ∙ outside_of (print p ++ ended subs) subs (begun p subs) words
 
 -- what is wrong with a line of a script on books with so many instruments, behind so many operations and alternatives
 abbrev pub inside_at : Version → Region → ℕ → ℕ → ℕ → Words → Option Fault

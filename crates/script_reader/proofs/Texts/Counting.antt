@@ -29,10 +29,11 @@ use Rattle.script_reader.specs.Faults.{is_late, is_low, is_given}
 use Rattle.script_reader.specs.Faults.{takes_block, size_at, version_at}
 use Rattle.script_reader.proofs.Grouped.Submitting.{IsGoodScript, scripts_are_good}
 use Rattle.script_reader.proofs.Printing.Scripted.{opened}
-use Rattle.script_reader.proofs.Texts.Reaching.{IsReached, AtStart, InBooks, Outside, WithinScript, reach_all, scripts_counted}
+use Rattle.script_reader.proofs.Texts.Reaching.{IsReached, AtStart, InBooks, Outside, WithinScript, reach_all}
+use Rattle.script_reader.proofs.Grouped.Outside.{scripts_counted}
 use Rattle.script_reader.proofs.Texts.Fronting.{take_front}
 use Rattle.script_reader.proofs.Texts.Deciding.{spelled}
-use Rattle.script_reader.specs.Inner.OfVersion.{AreCallersOf}
+use Rattle.script_reader.specs.Inner.OfVersion.{IsScriptOf, AreCallersOf}
 use Rattle.script_reader.specs.declared.version.Version.{Version}
 use Rattle.script_reader.proofs.Judging.{count_line, count_lines, finish_words}
 
@@ -119,7 +120,7 @@ abbrev pub most_lines : ℕ
 most_lines = MOST_BLOCKS + MOST_RING + 2 + most_script_lines * MOST_SCRIPTS
 
 -- scripts have few lines each
-few_each : (version : Version) (b : ClearingBooks) (subs : List Submission) → AllByRecursion (IsGoodScript version b) subs
+few_each : (version : Version) (b : ClearingBooks) (subs : List Submission) → AllByRecursion (IsGoodScript (IsScriptOf version b)) subs
     → length (flat_map submission_words subs) ≤ most_script_lines * length subs
 few_each version b [] good = omega arith
 few_each version b (s ∷ subs) good = omega (
@@ -139,7 +140,7 @@ few_so_far version b subs range valid = omega (
   arith,
   length-append (books_words version b) ((codes "scripts" ∷ []) ∷ flat_map submission_words subs),
   few_of_books version b range,
-  few_each version b subs (scripts_are_good version b subs valid),
+  few_each version b subs (scripts_are_good (IsScriptOf version b) subs valid),
   scripts_counted subs,
   valid.few_scripts,
 )

@@ -5,6 +5,7 @@ use Rattle.std.proofs.lemmas.List.{append-nil}
 use Rattle.std.proofs.lemmas.List.Concat.{flat_map-append}
 use Rattle.books_model.specs.Books.{ClearingBooks}
 use Rattle.books_model.specs.Ranges.{AreInRange}
+use Rattle.script_reader.specs.Inner.OfVersion.{IsScriptOf}
 use Rattle.script_reader.specs.declared.fault.Fault.{Fault}
 use Rattle.script_reader.specs.Text.{line, books_lines, scripts_line, finish_line}
 use Rattle.script_reader.specs.Inner.LinesAsWords.{books_words, lines_so_far}
@@ -16,7 +17,7 @@ use Rattle.script_reader.specs.Faults.{fault_of, IsFaultyBehind}
 use Rattle.script_reader.proofs.Versions.{callers_for, callers_within}
 use Rattle.script_reader.proofs.Texts.OneReading.{text_of_books}
 use Rattle.script_reader.proofs.WithoutFault.ScriptsFaultless.{input_faultless}
-use Rattle.script_reader.proofs.Texts.Reaching.{no_callers}
+use Rattle.script_reader.proofs.Grouped.Outside.{no_callers}
 use Rattle.script_reader.specs.declared.version.Version.{Version}
 use Rattle.script_reader.proofs.Judging.{behind_more}
 
@@ -25,7 +26,7 @@ pub behind_books : (version : Version) (b : ClearingBooks) (range : AreInRange b
     → start ≡ flat_map line (books_words version b) ++ (scripts_line ++ left) → IsFaultyBehind (lines_so_far version b []) left after why
     → IsFaultyBehind [] start after why
 behind_books version b range within start left after why text h =
-    behind_more fault_of [] (lines_so_far version b []) start left after why (input_faultless version b range within [] (no_callers version b))
+    behind_more fault_of [] (lines_so_far version b []) start left after why (input_faultless version b range within [] (no_callers (IsScriptOf version b)))
     (text ∙ sym (append_assoc (flat_map line (books_words version b)) scripts_line left)
     ∙ ap (λ l. l ++ left) (ap (λ l. flat_map line (books_words version b) ++ l) (sym (append-nil scripts_line))
     ∙ sym (flat_map-append line (books_words version b) ((codes "scripts" ∷ []) ∷ [])))) h

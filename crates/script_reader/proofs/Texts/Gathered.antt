@@ -1,5 +1,5 @@
 -- Scripts that were read, and the fault behind them.
-use Rattle.std.proofs.Common.{◌≡◌, ℕ, true, false, not, ◌&&◌, ◌||◌, nat_le, List, [], ◌∷◌, ◌++◌, codes, length, Some, None, refl, sym, ap, subst, ◌∙◌}
+use Rattle.std.proofs.Common.{◌≡◌, ℕ, true, false, List, [], ◌∷◌, ◌++◌, codes, Some, refl, sym, ap, subst, ◌∙◌}
 use Rattle.std.proofs.Common.{append_assoc}
 use Rattle.std.specs.List.{flat_map}
 use Rattle.std.proofs.lemmas.List.{append-nil}
@@ -7,23 +7,21 @@ use Rattle.std.proofs.lemmas.List.Concat.{flat_map-append}
 use Rattle.books_model.specs.Books.{ClearingBooks}
 use Rattle.books_model.specs.Ranges.{AreInRange}
 use Rattle.books_model.specs.declared.script.Part.{Part}
-use Rattle.script_reader.specs.declared.limits.TheConstants.{MOST_CALLERS, MOST_SCRIPTS}
 use Rattle.script_reader.specs.declared.fault.Fault.{Fault}
 use Rattle.script_reader.specs.declared.fault.Fault.TheVariants as fault
-use Rattle.script_reader.specs.Lines.{word_at}
 use Rattle.script_reader.specs.Text.{line, script_lines, end_line, finish_line}
 use Rattle.script_reader.specs.Inner.LinesAsWords.{BetweenParts, books_words, submission_words, lines_so_far, lines_inside}
-use Rattle.script_reader.specs.Input.{Submission, callers_of, count_scripts, IsName}
-use Rattle.script_reader.specs.Inner.Callers.{is_caller}
+use Rattle.script_reader.specs.Input.{Submission, callers_of, IsName}
+use Rattle.script_reader.specs.Inner.Gatherings.{is_beyond_in}
 use Rattle.script_reader.specs.Grammar.{submission_lines}
 use Rattle.script_reader.specs.Forms.{Words, is_only, is_script_line}
-use Rattle.script_reader.specs.Faults.{first_reason, IsFaultyBehind, fault_of}
-use Rattle.script_reader.proofs.Printing.Scripted.{ended, outside_fault_is, is_beyond_at}
+use Rattle.script_reader.specs.Faults.{IsFaultyBehind, fault_of}
+use Rattle.script_reader.proofs.Printing.Scripted.{ended, outside_fault_is}
 use Rattle.script_reader.proofs.WithoutFault.BooksFaultless.{printed}
 use Rattle.script_reader.proofs.WithoutFault.ScriptsFaultless.{scripts_faultless}
 use Rattle.script_reader.proofs.Grouped.Submitting.{caller-AreWords}
 use Rattle.script_reader.proofs.Texts.OneReading.{text_of_submission, flat_of_flat}
-use Rattle.script_reader.proofs.Texts.Reaching.{scripts_counted, callers_counted, caller_named}
+use Rattle.script_reader.proofs.Grouped.Outside.{outside_other, outside_beyond, outside_none}
 use Rattle.script_reader.specs.Inner.OfVersion.{AreCallersOf}
 use Rattle.script_reader.specs.declared.version.Version.{Version}
 use Rattle.script_reader.proofs.Judging.{behind_more}
@@ -40,43 +38,24 @@ behind_scripts version b range subs start left after why valid text h =
 pub outside_word : (version : Version) (b : ClearingBooks) (subs : List Submission) (words : Words) → is_only (codes "finish") words ≡ false
     → is_script_line words ≡ false → fault_of (lines_so_far version b subs) words ≡ Some fault.Word
 outside_word version b subs words more no_script =
-    outside_fault_is (printed version b) subs words
-    ∙ (λ i. first_reason ((not (more i || no_script i), fault.Word) ∷ (is_script_line words && is_beyond_at subs (word_at words 1), fault.Limit) ∷ []))
-
--- the line that begins a script
-begins_script : (name : List ℕ) (words : Words) → words ≡ codes "script" ∷ name ∷ [] → IsName name → is_script_line words ≡ true
-begins_script name words is named = ap is_script_line is ∙ named
+    outside_fault_is (printed version b) subs words ∙ outside_other (callers_of subs) words more no_script
 
 -- one script too many, or one caller
 pub outside_limit : (version : Version) (b : ClearingBooks) (subs : List Submission) (name : List ℕ) (words : Words)
-    → words ≡ codes "script" ∷ name ∷ [] → IsName name → is_beyond_at subs name ≡ true → fault_of (lines_so_far version b subs) words ≡ Some fault.Limit
+    → words ≡ codes "script" ∷ name ∷ [] → IsName name → is_beyond_in (callers_of subs) name ≡ true → fault_of (lines_so_far version b subs) words ≡ Some fault.Limit
 outside_limit version b subs name words is named beyond =
-    ap (fault_of (lines_so_far version b subs)) is ∙ outside_fault_is (printed version b) subs (codes "script" ∷ name ∷ [])
-    ∙ (λ i. first_reason ((not (false || named i), fault.Word) ∷ (named i && beyond i, fault.Limit) ∷ []))
-
--- neither
-pub outside_none : (version : Version) (b : ClearingBooks) (subs : List Submission) (name : List ℕ) → IsName name
-    → is_beyond_at subs name ≡ false → fault_of (lines_so_far version b subs) (codes "script" ∷ name ∷ []) ≡ None
-outside_none version b subs name named room =
-    outside_fault_is (printed version b) subs (codes "script" ∷ name ∷ [])
-    ∙ (λ i. first_reason ((not (false || named i), fault.Word) ∷ (named i && room i, fault.Limit) ∷ []))
+    outside_fault_is (printed version b) subs words ∙ outside_beyond (callers_of subs) name words is named beyond
 
 -- a fault inside the script that begins here
 pub behind_script : (version : Version) (b : ClearingBooks) (subs : List Submission) (name : List ℕ) (words : Words)
-    (left middle after : List ℕ) (why : Fault) → words ≡ codes "script" ∷ name ∷ [] → IsName name → is_beyond_at subs name ≡ false
+    (left middle after : List ℕ) (why : Fault) → words ≡ codes "script" ∷ name ∷ [] → IsName name → is_beyond_in (callers_of subs) name ≡ false
     → left ≡ line words ++ middle → IsFaultyBehind (lines_inside version b subs name [] BetweenParts) middle after why
     → IsFaultyBehind (lines_so_far version b subs) left after why
 behind_script version b subs name words left middle after why is named room text h =
     let first : Words = codes "script" ∷ name ∷ [] in
     behind_more fault_of (lines_so_far version b subs) (first ∷ []) left middle after why
-    (caller-AreWords name named, outside_none version b subs name named room, refl, tt)
+    (caller-AreWords name named, outside_fault_is (printed version b) subs first ∙ outside_none (callers_of subs) name named room, refl, tt)
     (text ∙ ap (λ w. line w ++ middle) is ∙ ap (λ l. l ++ middle) (sym (append-nil (line first)))) h
-
--- whether there are too many scripts or callers, as it is looked up
-pub beyond_is : (subs : List Submission) (name : List ℕ)
-    → (nat_le MOST_SCRIPTS (count_scripts (callers_of subs)) || (not (is_caller name (callers_of subs)) && nat_le
-    MOST_CALLERS (length (callers_of subs)))) ≡ is_beyond_at subs name
-beyond_is subs name i = nat_le MOST_SCRIPTS (scripts_counted subs i) || (not (caller_named name subs i) && nat_le MOST_CALLERS (callers_counted subs i))
 
 -- the text of scripts, with one more
 pub one_more_script : (start left middle after : List ℕ) (subs : List Submission) (name : List ℕ) (script : List Part)

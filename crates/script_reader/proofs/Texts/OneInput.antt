@@ -35,7 +35,7 @@ use Rattle.script_reader.proofs.Grouped.Submitting.{IsGoodScript, scripts_are_go
 use Rattle.script_reader.proofs.Texts.Reaching.{operation_goes_on}
 use Rattle.script_reader.proofs.Texts.Deciding.{callers_spelled, spelled, spelled_lines}
 use Rattle.script_reader.proofs.Versions.{amount_within, one_version}
-use Rattle.script_reader.specs.Inner.OfVersion.{IsOperationOf, AreCallersOf}
+use Rattle.script_reader.specs.Inner.OfVersion.{IsScriptOf, IsOperationOf, AreCallersOf}
 use Rattle.script_reader.specs.declared.version.Version.{Version}
 use Rattle.script_reader.proofs.Judging.{finish_once}
 
@@ -204,7 +204,7 @@ module _ (version : Version) (b : ClearingBooks) (fits : b.instruments < 2 ^ 64)
       ((λ i. one.0 i ∷ behind.0 i), behind.1)
 
   -- scripts with the same lines are the same
-  scripts_once : (subs vs : List Submission) → AllByRecursion (IsGoodScript version b) subs → AllByRecursion (IsGoodScript version b) vs
+  scripts_once : (subs vs : List Submission) → AllByRecursion (IsGoodScript (IsScriptOf version b)) subs → AllByRecursion (IsGoodScript (IsScriptOf version b)) vs
       → flat_map submission_words subs ≡ flat_map submission_words vs → subs ≡ vs
   scripts_once [] [] p q e = refl
   scripts_once [] (v ∷ vs) p q e = cc
@@ -279,9 +279,9 @@ lines_once version other b c subs vs r s valid also e =
     } in
     let scripts : flat_map submission_words subs ≡ flat_map submission_words vs = let rest : S ≡ V = calls.1 in cc in (
       books,
-      scripts_once version b (instruments_fit b r) subs vs (scripts_are_good version b subs valid)
-          (subst (λ d. AllByRecursion (IsGoodScript version d) vs) (sym books)
-          (subst (λ w. AllByRecursion (IsGoodScript w c) vs) (sym versions) (scripts_are_good other c vs also))) scripts,
+      scripts_once version b (instruments_fit b r) subs vs (scripts_are_good (IsScriptOf version b) subs valid)
+          (subst (λ d. AllByRecursion (IsGoodScript (IsScriptOf version d)) vs) (sym books)
+          (subst (λ w. AllByRecursion (IsGoodScript (IsScriptOf w c)) vs) (sym versions) (scripts_are_good (IsScriptOf other c) vs also))) scripts,
     )
 
 pub one_input : (text : List ℕ) (input other : ClearingInput) → Spells text input → Spells text other → input ≡ other

@@ -1,12 +1,11 @@
 -- Lines without fault are those of books and scripts, as far as they go.
-use Rattle.std.proofs.Common.{◌≡◌, ◌⊎◌, inl, inr, ℕ, ◌<◌, Bool, true, false, not, ◌&&◌, ◌||◌, nat_le, List, [], ◌∷◌, ◌++◌, codes, map, drop, length}
+use Rattle.std.proofs.Common.{◌≡◌, ◌⊎◌, inl, inr, ℕ, ◌<◌, Bool, true, false, not, ◌&&◌, ◌||◌, nat_le, List, [], ◌∷◌, ◌++◌, codes, drop, length}
 use Rattle.std.proofs.Common.{sum_by, All, None, refl}
 use Rattle.std.proofs.Common.{sym, ap, subst, ◌∙◌, append_assoc, length-append, arith}
-use Rattle.std.specs.List.{list_any, flat_map}
+use Rattle.std.specs.List.{flat_map}
 use Rattle.std.specs.Option.{is_none}
-use Rattle.std.specs.Str.{bytes_eq}
 use Rattle.std.proofs.lemmas.Bool.{leb-false, true≢false}
-use Rattle.std.proofs.lemmas.List.{append-nil, length-map}
+use Rattle.std.proofs.lemmas.List.{append-nil}
 use Rattle.std.proofs.lemmas.List.Concat.{flat_map-append}
 use Rattle.std.proofs.lemmas.List.Elements.{All-push}
 use Rattle.books_model.specs.Books.{ClearingBooks, put_cash, put_price, put_quantity, put_call}
@@ -23,17 +22,17 @@ use Rattle.script_reader.specs.Lines.{word_at}
 use Rattle.script_reader.specs.Text.{operation_words, part_words}
 use Rattle.script_reader.specs.Inner.LinesAsWords.{Open, BetweenParts, InFirst, InSecond, parts_with, region_of, script_words, books_words}
 use Rattle.script_reader.specs.Inner.LinesAsWords.{submission_words, lines_so_far, lines_inside}
-use Rattle.script_reader.specs.Input.{Submission, callers_of, first_seen, count_scripts, scripts_by, is_name, IsName}
-use Rattle.script_reader.specs.Inner.Callers.{is_caller}
+use Rattle.script_reader.specs.Input.{Submission, callers_of, count_scripts, is_name, IsName}
+use Rattle.script_reader.specs.Inner.Gatherings.{is_caller, is_beyond_in}
 use Rattle.script_reader.specs.Forms.{Words, Region, script_forms, turning_forms, form_of, ranges_of, is_only, is_script_line, value_of, are_numbers}
 use Rattle.script_reader.specs.Forms.{are_in_range}
 use Rattle.script_reader.specs.Versions.{AreBooksWithin}
 use Rattle.script_reader.specs.declared.books.Row.TheVariants as row
 use Rattle.script_reader.specs.Faults.{AreFaultless, fault_of, is_too_many, header_version}
 use Rattle.script_reader.proofs.Versions.{row_within}
-use Rattle.script_reader.proofs.Conditions.{both, passed, neither, any_last}
+use Rattle.script_reader.proofs.Conditions.{both, passed, neither}
 use Rattle.script_reader.proofs.Printing.Printed.{books_fault_is, fault_at}
-use Rattle.script_reader.proofs.Printing.Scripted.{ended, opened, in_books, is_beyond_at, outside_at, outside_fault_is, inside_at, inside_fault_is, no_turning}
+use Rattle.script_reader.proofs.Printing.Scripted.{ended, opened, in_books, outside_fault_is, inside_at, inside_fault_is, no_turning}
 use Rattle.script_reader.proofs.Printing.Opened.{parts_more, open_more, words_more, operations_more, alternatives_more, words_try, operations_try}
 use Rattle.script_reader.proofs.Printing.Opened.{alternatives_try, words_else}
 use Rattle.script_reader.proofs.Printing.Opened.{words_done, inside_more}
@@ -41,8 +40,9 @@ use Rattle.script_reader.proofs.LineFaults.LineKinds.{none_applies, books_line, 
 use Rattle.script_reader.proofs.LineFaults.LineKinds.{ScriptsLine, line_words}
 use Rattle.script_reader.proofs.LineFaults.LineKinds.{IsOneOf, one_behind, operation_line, end_or_try, closing}
 use Rattle.script_reader.proofs.WithoutFault.BooksFaultless.{printed, printed_small, instruments_fit}
-use Rattle.script_reader.proofs.Grouped.Submitting.{callers_more, count-fold}
-use Rattle.script_reader.proofs.Grouped.Grouping.{callers_of-push, callers_of-gathered, no-names}
+use Rattle.script_reader.proofs.Grouped.Submitting.{callers_more}
+use Rattle.script_reader.proofs.Grouped.Grouping.{callers_of-push}
+use Rattle.script_reader.proofs.Grouped.Outside.{no_callers, outside_in}
 use Rattle.script_reader.proofs.Printing.Extending.{has_no_fault, adds_account, adds_price, adds_position, adds_call, header_adds, books_of_header}
 use Rattle.script_reader.specs.Inner.OfVersion.{IsOperationOf, IsScriptOf, AreCallersOf}
 use Rattle.script_reader.specs.declared.version.Version.{Version}
@@ -81,29 +81,6 @@ pub data IsReached (lines : List Words) : Type 0 where
   Outside : Between lines → IsReached lines
   WithinScript : Inside lines → IsReached lines
 
--- no callers are for all books
-pub no_callers : (version : Version) (b : ClearingBooks) → AreCallersOf version b (callers_of [])
-no_callers version b = record {
-  few = omega arith;
-  few_scripts = omega arith;
-  names = λ k d less. absurd (omega arith);
-  names_differ = no-names;
-  scripts = λ k d less. absurd (omega arith);
-  some_scripts = λ k d less. absurd (omega arith);
-}
-
--- there are as many scripts as were given
-pub scripts_counted : (subs : List Submission) → count_scripts (callers_of subs) ≡ length subs
-scripts_counted subs = ap count_scripts (callers_of-gathered subs) ∙ count-fold [] subs ∙ omega arith
-
--- and as many callers as names
-pub callers_counted : (subs : List Submission) → length (callers_of subs) ≡ length (first_seen (map (λ s. s.caller) subs))
-callers_counted subs = simp length-map
-
-pub caller_named : (name : List ℕ) (subs : List Submission)
-    → is_caller name (callers_of subs) ≡ list_any (bytes_eq name) (first_seen (map (λ s. s.caller) subs))
-caller_named name subs = any_last (λ c. bytes_eq name c.name) (λ n. record { name = n; scripts = scripts_by n subs }) (first_seen (map (λ s. s.caller) subs))
-
 -- a line of books
 books_step : (version : Version) (b : ClearingBooks) (range : AreInRange b) → AreBooksWithin version b → (words : Words)
     → fault_of (books_words version b) words ≡ None → IsReached (books_words version b ++ words ∷ [])
@@ -138,7 +115,7 @@ books_step version b range within words none = by (books_line version b.instrume
       subs = [];
       range = range;
       within = within;
-      valid = no_callers version b;
+      valid = no_callers (IsScriptOf version b);
       lines_are =
           ap (λ w. books_words version b ++ w ∷ []) e;
     })
@@ -147,7 +124,7 @@ books_step version b range within words none = by (books_line version b.instrume
 outside_step : (lines : List Words) (words : Words) → (r : Between lines) → fault_of lines words ≡ None
     → is_only (codes "finish") words ≡ false → IsReached (lines ++ words ∷ [])
 outside_step lines words r none more =
-    let at : outside_at r.subs words ≡ None = sym (ap (λ l. fault_of l words) r.lines_are ∙ outside_fault_is (printed r.version r.books) r.subs words) ∙ none in
+    let at : outside_in (callers_of r.subs) words ≡ None = sym (ap (λ l. fault_of l words) r.lines_are ∙ outside_fault_is (printed r.version r.books) r.subs words) ∙ none in
     let n1 = none_applies _ fault.Word _ at in
     let n2 = none_applies _ fault.Limit _ n1.1 in
     let begins_script : is_script_line words ≡ true = other (passed n1.0) more in
@@ -155,8 +132,8 @@ outside_step lines words r none more =
     let name = one_behind (codes "script") words form.0 in
     let is = name.1 in
     let named : IsName name.0 = subst (λ w. is_name (word_at w 1) ≡ true) is form.1 in
-    let beyond : is_beyond_at r.subs name.0 ≡ false =
-    subst (λ w. is_beyond_at r.subs (word_at w 1) ≡ false) is (sym (ap (λ c. c && is_beyond_at r.subs (word_at words 1)) begins_script) ∙ n2.0) in
+    let beyond : is_beyond_in (callers_of r.subs) name.0 ≡ false =
+    subst (λ w. is_beyond_in (callers_of r.subs) (word_at w 1) ≡ false) is (sym (ap (λ c. c && is_beyond_in (callers_of r.subs) (word_at words 1)) begins_script) ∙ n2.0) in
     let limits = neither beyond in
     WithinScript (record {
       version = r.version;
@@ -170,8 +147,8 @@ outside_step lines words r none more =
       valid = r.valid;
       is_name = named;
       script = record { few = omega arith; few_alternatives = omega arith; each = λ k d less. absurd (omega arith) };
-      room = omega (arith, scripts_counted r.subs, leb-false MOST_SCRIPTS (length r.subs) limits.0);
-      space = λ new. omega (arith, callers_counted r.subs, leb-false MOST_CALLERS _ (right (sym (caller_named name.0 r.subs) ∙ new) limits.1));
+      room = leb-false MOST_SCRIPTS _ limits.0;
+      space = λ new. leb-false MOST_CALLERS _ (right new limits.1);
       lines_are = (λ t. r.lines_are t ++ is t ∷ []);
     })
   where
@@ -324,7 +301,7 @@ within_step lines words r none = by r.stage refl
             range = r.range;
             within = r.within;
             valid = subst (AreCallersOf r.version r.books) (sym (callers_of-push r.subs s))
-                (callers_more r.version r.books (callers_of r.subs) s r.valid r.is_name
+                (callers_more (IsScriptOf r.version r.books) (callers_of r.subs) s r.valid r.is_name
                 (subst (λ o. IsScriptOf r.version r.books (parts_with r.parts o)) is r.script) r.room r.space);
             lines_are = (λ t. r.lines_are t ++ e t ∷ [])
                 ∙ ap (λ o. lines_inside r.version r.books r.subs r.name r.parts o ++ (codes "end" ∷ []) ∷ []) is

@@ -1,13 +1,12 @@
 -- The lines of scripts have no fault.
-use Rattle.std.proofs.Common.{lit<, ◌≡◌, ℕ, ◌+◌, ◌<◌, ◌≤◌, ◌^◌, Bool, true, false, not, ◌&&◌, ◌||◌, nat_le, if◌then◌else◌, List, [], ◌∷◌, ◌++◌, codes, map}
+use Rattle.std.proofs.Common.{lit<, ◌≡◌, ℕ, ◌+◌, ◌<◌, ◌≤◌, ◌^◌, false, List, [], ◌∷◌, ◌++◌, codes, map}
 use Rattle.std.proofs.Common.{All, sum_by, None, fold, length, refl, sym, ap, subst, ◌∙◌, append_assoc, length-append, arith}
-use Rattle.std.specs.List.{list_any, flat_map, AllByRecursion}
-use Rattle.std.specs.Str.{bytes_eq}
+use Rattle.std.specs.List.{flat_map, AllByRecursion}
 use Rattle.std.proofs.lemmas.Bool.{lt-leb}
-use Rattle.std.proofs.lemmas.List.{append-nil, map-append, length-map}
+use Rattle.std.proofs.lemmas.List.{append-nil}
 use Rattle.std.proofs.lemmas.List.Concat.{flat_map-append}
 use Rattle.std.proofs.lemmas.List.Elements.{recursion_from_All}
-use Rattle.std.proofs.lemmas.List.Sums.{fold-append, sum_by-append, sum_by-cons}
+use Rattle.std.proofs.lemmas.List.Sums.{sum_by-append, sum_by-cons}
 use Rattle.script_reader.specs.Inner.Rows.{price_ranges}
 use Rattle.books_model.specs.Books.{ClearingBooks}
 use Rattle.books_model.specs.Ranges.{AreInRange}
@@ -19,26 +18,27 @@ use Rattle.books_model.specs.declared.script.Part.TheVariants as part
 use Rattle.books_model.specs.Scripts.{operations_in, operations_of, alternatives_in}
 use Rattle.books_model.proofs.Scripts.Branches.{All-front, All-back}
 use Rattle.script_reader.specs.declared.limits.TheConstants.{MOST_CALLERS, MOST_SCRIPTS}
-use Rattle.script_reader.specs.declared.fault.Fault.TheVariants as fault
 use Rattle.script_reader.specs.Lines.{AreWords, IsWord}
 use Rattle.script_reader.specs.Text.{operation_words, part_words}
 use Rattle.script_reader.specs.Inner.LinesAsWords.{Open, BetweenParts, InFirst, InSecond, parts_with, region_of, script_words, books_words}
 use Rattle.script_reader.specs.Inner.LinesAsWords.{submission_words, lines_so_far, lines_inside}
-use Rattle.script_reader.specs.Input.{Submission, add_name, callers_of, first_seen, count_scripts}
+use Rattle.script_reader.specs.Input.{Submission, callers_of, count_scripts}
 use Rattle.script_reader.specs.Versions.{AreBooksWithin}
 use Rattle.script_reader.specs.Forms.{Words, is_only, accounts, amounts, quantities}
-use Rattle.script_reader.specs.Faults.{fault_of, first_reason, AreFaultless}
+use Rattle.script_reader.specs.Faults.{fault_of, AreFaultless}
 use Rattle.script_reader.proofs.Versions.{amount_small}
 use Rattle.script_reader.proofs.Tokens.Cutting.{word_from_test}
-use Rattle.script_reader.proofs.Printing.Scripted.{ended, is_beyond_at, outside_fault_is, inside_at, inside_fault_is}
+use Rattle.script_reader.proofs.Printing.Scripted.{ended, outside_fault_is, inside_at, inside_fault_is}
 use Rattle.script_reader.proofs.Printing.Opened.{parts_more, open_more, words_more, operations_more, words_try, operations_try, words_else}
 use Rattle.script_reader.proofs.Printing.Opened.{inside_more, rest_of_branch, first_count}
 use Rattle.script_reader.proofs.WithoutFault.NoFault.{operation_has_none, try_fault, scripts_has_none}
 use Rattle.script_reader.proofs.WithoutFault.Faultless.{row_are_words}
 use Rattle.script_reader.proofs.WithoutFault.BooksFaultless.{printed, printed_small, instruments_fit, books_faultless}
-use Rattle.script_reader.proofs.Grouped.Submitting.{IsGoodScript, scripts_are_good, caller-AreWords, count-fold}
-use Rattle.script_reader.proofs.Grouped.Grouping.{callers_of-gathered}
-use Rattle.script_reader.specs.Inner.OfVersion.{IsOperationOf, AreCallersOf}
+use Rattle.script_reader.proofs.Grouped.Submitting.{IsGoodScript, scripts_are_good, caller-AreWords}
+use Rattle.script_reader.proofs.Grouped.Grouping.{callers_of-push, callers_of-gathered}
+use Rattle.script_reader.proofs.Grouped.Outside.{outside_none, room_for}
+use Rattle.script_reader.specs.Inner.Gatherings.{add_submission, is_beyond_in}
+use Rattle.script_reader.specs.Inner.OfVersion.{IsScriptOf, IsOperationOf, AreCallersOf}
 use Rattle.script_reader.specs.declared.version.Version.{Version}
 use Rattle.script_reader.proofs.Judging.{faultless_append}
 
@@ -87,18 +87,6 @@ operation_unfinished (op.Margin a m) = refl
 operation_unfinished op.Next = refl
 operation_unfinished (op.Show a) = refl
 operation_unfinished (op.Sum a b) = refl
-
--- the names that are seen do not become fewer
-length-add_name : (seen : List (List ℕ)) (name : List ℕ) → length seen ≤ length (add_name seen name)
-length-add_name seen name = by (list_any (bytes_eq name) seen)
-  where
-    by : (b : Bool) → length seen ≤ length (if b then seen else seen ++ name ∷ [])
-    by true = omega arith
-    by false = omega (arith, length-append seen (name ∷ []))
-
-length-seen : (names seen : List (List ℕ)) → length seen ≤ length (fold add_name seen names)
-length-seen [] seen = omega arith
-length-seen (n ∷ names) seen = omega (arith, length-add_name seen n, length-seen names (add_name seen n))
 
 module _ (version : Version) (b : ClearingBooks) (range : AreInRange b) where
   -- lines behind scripts that have ended
@@ -203,39 +191,12 @@ module _ (version : Version) (b : ClearingBooks) (range : AreInRange b) where
       ))
       (omega (arith, few, counted, sum_by-append alternatives_in done (p ∷ [])))))
 
-  -- the names of the callers of scripts
-  names_of : List Submission → List (List ℕ)
-  names_of subs = map (λ s. s.caller) subs
-
-  -- a script that may follow is not beyond
-  not_beyond : (done rest : List Submission) (s : Submission) → length done + length (s ∷ rest) ≤ MOST_SCRIPTS
-      → length (first_seen (map (λ s. s.caller) (done ++ s ∷ rest))) ≤ MOST_CALLERS → is_beyond_at done s.caller ≡ false
-  not_beyond done rest s room space =
-      ap (λ c. c || (not (list_any (bytes_eq s.caller) seen) && nat_le MOST_CALLERS (length seen))) (lt-leb MOST_SCRIPTS (length done) (omega (arith, room)))
-      ∙ by (list_any (bytes_eq s.caller) seen) refl
-    where
-      seen : List (List ℕ)
-      seen = first_seen (map (λ s. s.caller) done)
-
-      whole : first_seen (map (λ s. s.caller) (done ++ s ∷ rest)) ≡ fold add_name (add_name seen s.caller) (map (λ s. s.caller) rest)
-      whole = ap first_seen (map-append (λ s. s.caller) done (s ∷ rest))
-          ∙ fold-append add_name [] (map (λ s. s.caller) done) (s.caller ∷ map (λ s. s.caller) rest)
-
-      by : (c : Bool) → list_any (bytes_eq s.caller) seen ≡ c → (not c && nat_le MOST_CALLERS (length seen)) ≡ false
-      by true e = refl
-      by false e =
-          let more : length (add_name seen s.caller) ≡ length seen + 1 =
-          ap (λ c. length (if c then seen else seen ++ s.caller ∷ [])) e ∙ length-append seen (s.caller ∷ []) in
-          lt-leb MOST_CALLERS (length seen) (omega (arith, more, space, ap length whole, length-seen (map (λ s. s.caller) rest) (add_name seen s.caller)))
-
   -- a script behind others
-  submission_faultless : (done rest : List Submission) (s : Submission) → IsGoodScript version b s
-      → length done + length (s ∷ rest) ≤ MOST_SCRIPTS → length (first_seen (map (λ s. s.caller) (done ++ s ∷ rest))) ≤ MOST_CALLERS
-      → AreFaultless (lines_so_far version b done) (submission_words s)
-  submission_faultless done rest s good room space = (
+  submission_faultless : (done : List Submission) (s : Submission) → IsGoodScript (IsScriptOf version b) s
+      → is_beyond_in (callers_of done) s.caller ≡ false → AreFaultless (lines_so_far version b done) (submission_words s)
+  submission_faultless done s good room = (
     caller-AreWords s.caller good.name,
-    outside_fault_is (printed version b) done (codes "script" ∷ s.caller ∷ [])
-        ∙ (λ i. first_reason ((not (false || good.name i), fault.Word) ∷ (good.name i && not_beyond done rest s room space i, fault.Limit) ∷ [])),
+    outside_fault_is (printed version b) done (codes "script" ∷ s.caller ∷ []) ∙ outside_none (callers_of done) s.caller good.name room,
     refl,
     faultless_append fault_of (lines_inside version b done s.caller [] BetweenParts) (flat_map part_words s.script) ((codes "end" ∷ []) ∷ [])
         (parts_faultless done s.caller [] s.script good.script.each (omega (arith, good.script.few)) (omega (arith, good.script.few_alternatives)))
@@ -244,29 +205,31 @@ module _ (version : Version) (b : ClearingBooks) (range : AreInRange b) where
         (turning_faultless done s.caller s.script BetweenParts (codes "end") (word_from_test (codes "end") refl) refl refl)),
   )
 
-  pub submissions_faultless : (done rest : List Submission) → AllByRecursion (IsGoodScript version b) rest
-      → length done + length rest ≤ MOST_SCRIPTS → length (first_seen (map (λ s. s.caller) (done ++ rest))) ≤ MOST_CALLERS
+  pub submissions_faultless : (done rest : List Submission) → AllByRecursion (IsGoodScript (IsScriptOf version b)) rest
+      → count_scripts (fold add_submission (callers_of done) rest) ≤ MOST_SCRIPTS → length (fold add_submission (callers_of done) rest) ≤ MOST_CALLERS
       → AreFaultless (lines_so_far version b done) (flat_map submission_words rest)
-  submissions_faultless done [] all room space = tt
-  submissions_faultless done (s ∷ rest) all room space =
+  submissions_faultless done [] all few space = tt
+  submissions_faultless done (s ∷ rest) all few space =
+      let push = callers_of-push done s in
       let one : flat_map submission_words (s ∷ []) ≡ submission_words s = append-nil (submission_words s) in
       let more : lines_so_far version b done ++ submission_words s ≡ lines_so_far version b (done ++ s ∷ []) =
       append_assoc (books_words version b) (ended done) (submission_words s)
       ∙ ap (λ l. books_words version b ++ ((codes "scripts" ∷ []) ∷ l)) (ap (λ l. flat_map submission_words done ++ l) (sym one)
       ∙ sym (flat_map-append submission_words done (s ∷ []))) in
       faultless_append fault_of (lines_so_far version b done) (submission_words s) (flat_map submission_words rest)
-      (submission_faultless done rest s all.0 room space)
+      (submission_faultless done s all.0 (room_for (callers_of done) s rest few space))
       (subst (λ ls. AreFaultless ls (flat_map submission_words rest)) (sym more)
-      (submissions_faultless (done ++ s ∷ []) rest all.1 (omega (arith, room, length-append done (s ∷ [])))
-      (subst (λ l. length (first_seen (map (λ s. s.caller) l)) ≤ MOST_CALLERS) (sym (append_assoc done (s ∷ []) rest)) space)))
+      (submissions_faultless (done ++ s ∷ []) rest all.1
+      (subst (λ c. count_scripts (fold add_submission c rest) ≤ MOST_SCRIPTS) (sym push) few)
+      (subst (λ c. length (fold add_submission c rest) ≤ MOST_CALLERS) (sym push) space)))
 
   -- the lines of scripts of callers
   pub scripts_faultless : (subs : List Submission) → AreCallersOf version b (callers_of subs)
       → AreFaultless (lines_so_far version b []) (flat_map submission_words subs)
   scripts_faultless subs valid =
-      let counted : count_scripts (callers_of subs) ≡ length subs = ap count_scripts (callers_of-gathered subs) ∙ count-fold [] subs ∙ omega arith in
-      let named : length (callers_of subs) ≡ length (first_seen (map (λ s. s.caller) subs)) = simp length-map in
-      submissions_faultless [] subs (scripts_are_good version b subs valid) (omega (arith, valid.few_scripts, counted)) (omega (arith, valid.few, named))
+      submissions_faultless [] subs (scripts_are_good (IsScriptOf version b) subs valid)
+      (subst (λ c. count_scripts c ≤ MOST_SCRIPTS) (callers_of-gathered subs) valid.few_scripts)
+      (subst (λ c. length c ≤ MOST_CALLERS) (callers_of-gathered subs) valid.few)
 
   -- all lines of an input before its last
   pub input_faultless : AreBooksWithin version b → (subs : List Submission) → AreCallersOf version b (callers_of subs)

@@ -1,8 +1,9 @@
 -- Callers with scripts of any type, as they are gathered while a text is read.
-use Rattle.std.specs.Prelude.{◌≡◌, ℕ, suc, zero, Bool, List, [], ◌∷◌, ◌++◌, map, length, if◌then◌else◌}
+use Rattle.std.specs.Prelude.{◌≡◌, ℕ, suc, zero, Bool, not, ◌&&◌, ◌||◌, nat_le, List, [], ◌∷◌, ◌++◌, map, length, if◌then◌else◌}
 use Rattle.std.specs.List.{list_any}
 use Rattle.std.specs.Str.{bytes_eq}
 use Rattle.std.specs.String.{string_bytes}
+use Rattle.script_reader.specs.declared.limits.TheConstants.{MOST_CALLERS, MOST_SCRIPTS}
 use Rattle.script_reader.specs.declared.gathering.Gathering.{Gathering}
 use Rattle.script_reader.specs.Gathered.{CallerOf, SubmissionOf, count_scripts}
 
@@ -38,3 +39,8 @@ module _ {S : Type 0} where
   -- some caller has this name
   abbrev pub is_caller : List ℕ → List (CallerOf S) → Bool
   is_caller name callers = list_any (λ c. bytes_eq name c.name) callers
+
+  -- a script of this caller would be one too many, or its caller
+  abbrev pub is_beyond_in : List (CallerOf S) → List ℕ → Bool
+  is_beyond_in callers name =
+      nat_le MOST_SCRIPTS (count_scripts callers) || (not (is_caller name callers) && nat_le MOST_CALLERS (length callers))

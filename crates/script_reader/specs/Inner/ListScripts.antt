@@ -1,18 +1,12 @@
 -- The scripts of a text of a list language, while they are read.
-use Rattle.std.specs.Prelude.{◌≡◌, ℕ, Bool, false, not, ◌&&◌, ◌||◌, nat_le, List, [], ◌∷◌, ◌++◌, codes, length, map}
+use Rattle.std.specs.Prelude.{◌≡◌, ℕ, false, List, [], ◌∷◌, ◌++◌, codes, map}
 use Rattle.std.specs.List.{flat_map}
-use Rattle.script_reader.specs.declared.limits.TheConstants.{MOST_CALLERS, MOST_SCRIPTS}
 use Rattle.script_reader.specs.Text.{line, end_line, finish_line}
 use Rattle.script_reader.specs.Input.{IsName}
 use Rattle.script_reader.specs.Forms.{Words}
-use Rattle.script_reader.specs.Gathered.{CallerOf, SubmissionOf, AreCallers, callers_of, count_scripts}
-use Rattle.script_reader.specs.Inner.Gatherings.{is_caller, add_submission}
+use Rattle.script_reader.specs.Gathered.{CallerOf, SubmissionOf, AreCallers, callers_of}
+use Rattle.script_reader.specs.Inner.Gatherings.{add_submission, is_beyond_in}
 use Rattle.script_reader.specs.ListLanguage.{ListLanguage, IsScriptIn, IsTextOf, operation_words, submission_words, lines_of}
-
--- a script of this caller would be one too many, or its caller
-abbrev pub is_beyond_in : {S : Type 0} → List (CallerOf S) → List ℕ → Bool
-is_beyond_in callers name =
-    nat_le MOST_SCRIPTS (count_scripts callers) || (not (is_caller name callers) && nat_le MOST_CALLERS (length callers))
 
 module _ {O S : Type 0} (g : ListLanguage O S) where
   -- the lines of scripts so far, and those of a script that has not ended

@@ -1,7 +1,5 @@
 -- Operations, scripts and callers that a text of a version can give for books.
-use Rattle.std.specs.Prelude.{◌≤◌, List, length, map, sum_by, All}
-use Rattle.std.specs.List.{IsDistinct}
-use Rattle.std.specs.Str.{bytes_eq}
+use Rattle.std.specs.Prelude.{◌≤◌, List, length, sum_by, All}
 use Rattle.books_model.specs.declared.limits.TheConstants.{GREATEST_PRICE, GREATEST_QUANTITY, GREATEST_RATE, MOST_OPERATIONS, MOST_ALTERNATIVES}
 use Rattle.books_model.specs.declared.script.Op.{Op}
 use Rattle.books_model.specs.declared.script.Op.TheVariants as op
@@ -9,9 +7,9 @@ use Rattle.books_model.specs.declared.script.Part.{Part}
 use Rattle.books_model.specs.Books.{ClearingBooks}
 use Rattle.books_model.specs.Ranges.{IsWithin, IsAccountNumber, IsInstrumentOf}
 use Rattle.books_model.specs.Scripts.{operations_of, alternatives_in}
-use Rattle.script_reader.specs.declared.limits.TheConstants.{MOST_CALLERS, MOST_SCRIPTS}
 use Rattle.script_reader.specs.declared.version.Version.{Version}
-use Rattle.script_reader.specs.Input.{Caller, IsName, count_scripts}
+use Rattle.script_reader.specs.Gathered.{AreCallers}
+use Rattle.script_reader.specs.Input.{Caller}
 use Rattle.script_reader.specs.Versions.{greatest_amount}
 
 -- the numbers of an operation are in the ranges of a text of the version, on books with so many instruments
@@ -36,10 +34,5 @@ pub record IsScriptOf (version : Version) (books : ClearingBooks) (script : List
   pub each : All (IsOperationOf version books) (operations_of script)
 
 -- callers that it can give
-pub record AreCallersOf (version : Version) (books : ClearingBooks) (callers : List Caller) : Type 0 where
-  pub few : length callers ≤ MOST_CALLERS
-  pub few_scripts : count_scripts callers ≤ MOST_SCRIPTS
-  pub names : All (λ c. IsName c.name) callers
-  pub names_differ : IsDistinct bytes_eq (map (λ c. c.name) callers)
-  pub scripts : All (λ c. All (IsScriptOf version books) c.scripts) callers
-  pub some_scripts : All (λ c. 1 ≤ length c.scripts) callers
+abbrev pub AreCallersOf : Version → ClearingBooks → List Caller → Type 0
+AreCallersOf version books = AreCallers (IsScriptOf version books)

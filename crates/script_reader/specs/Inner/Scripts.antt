@@ -1,12 +1,11 @@
 -- The scripts that a text has, and the callers that they make.
-use Rattle.std.specs.Prelude.{◌≡◌, ℕ, false, not, ◌&&◌, ◌||◌, nat_le, List, [], ◌∷◌, ◌++◌, codes, length}
+use Rattle.std.specs.Prelude.{◌≡◌, ℕ, false, List, [], ◌∷◌, ◌++◌, codes}
 use Rattle.std.specs.List.{flat_map}
 use Rattle.books_model.specs.Books.{ClearingBooks}
 use Rattle.script_reader.specs.declared.version.Version.{Version}
-use Rattle.script_reader.specs.declared.limits.TheConstants.{MOST_CALLERS, MOST_SCRIPTS}
 use Rattle.script_reader.specs.Text.{script_lines, end_line, finish_line}
-use Rattle.script_reader.specs.Input.{Caller, ClearingInput, Submission, IsName, callers_of, count_scripts}
-use Rattle.script_reader.specs.Inner.Callers.{is_caller, add_submission}
+use Rattle.script_reader.specs.Input.{Caller, ClearingInput, Submission, IsName, callers_of}
+use Rattle.script_reader.specs.Inner.Gatherings.{add_submission, is_beyond_in}
 use Rattle.script_reader.specs.Inner.OfVersion.{IsScriptOf, AreCallersOf}
 use Rattle.script_reader.specs.Grammar.{Spells, submission_lines}
 
@@ -31,8 +30,7 @@ pub record IsAdded (version : Version) (books : ClearingBooks) (words : List (Li
   pub submission : Submission
   pub begins : words ≡ codes "script" ∷ submission.caller ∷ []
   pub named : IsName submission.caller
-  pub room : (nat_le MOST_SCRIPTS (count_scripts callers)
-      || (not (is_caller submission.caller callers) && nat_le MOST_CALLERS (length callers))) ≡ false
+  pub room : is_beyond_in callers submission.caller ≡ false
   pub valid : IsScriptOf version books submission.script
   pub text : before ≡ script_lines submission.script ++ (end_line ++ after)
   pub made : more ≡ add_submission callers submission

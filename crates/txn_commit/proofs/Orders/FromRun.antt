@@ -4,7 +4,7 @@ use Rattle.std.proofs.lemmas.Option.{slice_get-get_or}
 use Rattle.history_model.specs.Traces.{IsLegalTrace, after}
 use Rattle.order_rebuild.specs.Order.{IsOrder, Orderable}
 use Rattle.word_table.specs.Closing.{AreRecords, ClosedView, IsCoherent, IsLegalInEachOrder}
-use Rattle.txn_commit.specs.declared.lists.Ran.{Ran}
+use Rattle.txn_commit.specs.declared.lists.Done.{Done}
 use Rattle.txn_commit.specs.Lists.{AreOnceInOrder, HaveRecords, IsEntryOf}
 use Rattle.txn_commit.specs.Ordered.{spot_of, AreAt, AreRun, IsRunInOrder}
 use Rattle.txn_commit.proofs.Orders.Arranged.{all_arranged, AreAllPlaces}
@@ -14,9 +14,9 @@ use Rattle.txn_commit.proofs.Orders.Rebuilt.{records_there, rising_there, words_
 use Rattle.txn_commit.proofs.Recorded.{have_records}
 
 module _ {A S : Type 0} {good : List ℕ → Type 0} {means : ℕ → ℕ → List ℕ → Bool → A → List ℕ → Type 0} {closed : ClosedView S}
-    {given : List (Ran A)} (run : AreRun good means closed given)
+    {given : List (Done A)} (run : AreRun good means closed given)
     (coherent : IsCoherent good closed) (legal : IsLegalInEachOrder good closed) (records : AreRecords closed) where
-  abbrev read : Readings (Ran A)
+  abbrev read : Readings (Done A)
   read = record { spot = spot_of; seat = λ ran. ran.seat; call = λ ran. ran.call }
 
   over : AreRunOver read good closed given run.entries
@@ -36,16 +36,16 @@ module _ {A S : Type 0} {good : List ℕ → Type 0} {means : ℕ → ℕ → Li
   }
 
   -- what is told of a slice of the items
-  pub order_run : (slice : List (Ran A)) (places : List ℕ) → slice ≡ given → (Orderable (map spot_of slice) → IsOrder (map spot_of slice) places)
+  pub order_run : (slice : List (Done A)) (places : List ℕ) → slice ≡ given → (Orderable (map spot_of slice) → IsOrder (map spot_of slice) places)
       → IsOrder (map spot_of given) places
-  order_run slice places is told = subst (λ (l : List (Ran A)). IsOrder (map spot_of l) places) is
-      (told (subst (λ (l : List (Ran A)). Orderable (map spot_of l)) (sym is) (can_be_ordered over)))
+  order_run slice places is told = subst (λ (l : List (Done A)). IsOrder (map spot_of l) places) is
+      (told (subst (λ (l : List (Done A)). Orderable (map spot_of l)) (sym is) (can_be_ordered over)))
 
   module _ (places : List ℕ) (order : IsOrder (map spot_of given) places) where
     pub places_run : AreAllPlaces (length given) places
     places_run = all_places over places order
 
-    module _ (done : List (Ran A)) (at : AreAt given places done) where
+    module _ (done : List (Done A)) (at : AreAt given places done) where
       pub run_in_order : IsRunInOrder good means closed done
       run_in_order =
           let down = legal_there over places order in
@@ -59,7 +59,7 @@ module _ {A S : Type 0} {good : List ℕ → Type 0} {means : ℕ → ℕ → Li
             legal = down.trace_legal;
             meaning = λ k ran e at_ran at_e.
                 made_there over places order done at
-                (λ x f. (s : List ℕ) → good s → IsLegalTrace f.trace s → means x.caller x.index s f.kept x.answer (after f.trace s)) run.meaning k ran e
+                (λ x f. (s : List ℕ) → good s → IsLegalTrace f.trace s → means x.caller x.index s f.kept x.reply (after f.trace s)) run.meaning k ran e
                 at_ran at_e _ (down.good_before k) (down.trace_legal k e at_e);
             words = words_there over places order;
           }
@@ -67,7 +67,7 @@ module _ {A S : Type 0} {good : List ℕ → Type 0} {means : ℕ → ℕ → Li
       pub once_in_order : (callers : ℕ) (jobs : ℕ → ℕ) → AreOnceInOrder callers jobs given → AreOnceInOrder callers jobs done
       once_in_order callers jobs once = once_there callers jobs given done places at places_run once (rising_there over places order done at)
 
-      pub all_run : (P : Ran A → Type 0) → All P given → All P done
+      pub all_run : (P : Done A → Type 0) → All P given → All P done
       all_run P each = all_arranged given done places at places_run P each
 
       pub recorded_in_order : HaveRecords closed.records done

@@ -4,7 +4,6 @@ use Rattle.std.specs.List.{range_with_len}
 use Rattle.std.proofs.lemmas.List.{length-map}
 use Rattle.std.proofs.lemmas.List.FromFn.{get_or-range_with_len, length-range_with_len}
 use Rattle.std.proofs.lemmas.Option.{get_or_from_slice_get, slice_get-get_or, slice_get_within}
-use mathlib.Core.List.{map-map}
 use mathlib.Core.Logic.{dite}
 use native.Mathlib.Decide.{dec_lt}
 use Rattle.history_model.specs.declared.placed.Spot.{Spot}
@@ -133,22 +132,3 @@ module _ {X : Type 0} (spot : X → Spot) (given done : List X) (places : List �
     where
       next_at : (i p : ℕ) → i ≡ p → IsNext out (take i (range_with_len 0 (length done))) i → IsNext out (take i (range_with_len 0 (length done))) p
       next_at i p same next = subst (λ (q : ℕ). IsNext out (take i (range_with_len 0 (length done))) q) same next
-
--- items stand in that order if the jobs that they are read as do, and so do these
-module _ {X Y : Type 0} (read : X → Y) (spot : Y → Spot) (done : List X) where
-  same_spots : map spot (map read done) ≡ map (λ x. spot (read x)) done
-  same_spots = map-map spot read done
-
-  pub rebuilt_of : IsRebuilt spot (map read done) → IsRebuilt (λ x. spot (read x)) done
-  rebuilt_of r = record {
-    orderable = subst Orderable same_spots r.orderable;
-    order = subst (λ (l : List Spot). IsOrder l (range_with_len 0 (length done))) same_spots
-        (subst (λ (n : ℕ). IsOrder (map spot (map read done)) (range_with_len 0 n)) (length-map done read) r.order);
-  }
-
-  pub rebuilt_as : IsRebuilt (λ x. spot (read x)) done → IsRebuilt spot (map read done)
-  rebuilt_as r = record {
-    orderable = subst Orderable (sym same_spots) r.orderable;
-    order = subst (λ (n : ℕ). IsOrder (map spot (map read done)) (range_with_len 0 n)) (sym (length-map done read))
-        (subst (λ (l : List Spot). IsOrder l (range_with_len 0 (length done))) (sym same_spots) r.order);
-  }

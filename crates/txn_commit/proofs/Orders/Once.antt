@@ -11,7 +11,7 @@ use Rattle.std.proofs.lemmas.Option.{get_or_from_slice_get, slice_get-get_or, sl
 use Rattle.history_model.specs.Legal.{IsIn}
 use Rattle.history_model.proofs.ListPlaces.{at_map, map_at}
 use Rattle.word_table.proofs.Joined.Counting.{filter_in, in_filter}
-use Rattle.txn_commit.specs.declared.lists.Ran.{Ran}
+use Rattle.txn_commit.specs.declared.lists.Done.{Done}
 use Rattle.txn_commit.specs.Lists.{indexes_of, AreOnceInOrder}
 use Rattle.txn_commit.specs.Ordered.{spot_of, AreAt}
 use Rattle.txn_commit.proofs.Orders.Arranged.{all_arranged, by_place, place_of_done, AreAllPlaces}
@@ -46,15 +46,15 @@ pairs_kept {X = X} R f p (x ∷ xs) pairs = by_test (pairs_kept R f p xs) (p x) 
         (rest (subst (λ b. AllPairs R (map f (cond b (x ∷ kept) kept))) is pairs))
 
 -- where a caller's jobs stand there in their order, their indexes rise
-pub later_index : {A : Type 0} (callers : ℕ) (jobs : ℕ → ℕ) (done : List (Ran A)) → AreOnceInOrder callers jobs done
-    → AllPairs (λ (x y : Ran A). x.caller ≡ y.caller → x.index < y.index) done
+pub later_index : {A : Type 0} (callers : ℕ) (jobs : ℕ → ℕ) (done : List (Done A)) → AreOnceInOrder callers jobs done
+    → AllPairs (λ (x y : Done A). x.caller ≡ y.caller → x.index < y.index) done
 later_index {A = A} callers jobs done once i j d lt short same =
-    let x : Ran A = get_or done i d in
-    let y : Ran A = get_or done j d in
+    let x : Done A = get_or done i d in
+    let y : Done A = get_or done j d in
     let c : ℕ = x.caller in
     let rising : AllPairs (λ x y. x < y) (indexes_of c done) =
     subst (AllPairs (λ x y. x < y)) (sym (once.each c (once.of_callers i d (omega (arith, lt, short))))) (range_rises (jobs c)) in
-    pairs_kept (λ x y. x < y) (λ (ran : Ran A). ran.index) (λ (ran : Ran A). ran.caller == c) done rising i j d lt short
+    pairs_kept (λ x y. x < y) (λ (ran : Done A). ran.index) (λ (ran : Done A). ran.caller == c) done rising i j d lt short
     (eq-eqb c c refl) (eq-eqb y.caller c (sym same))
   where
     range_rises : (n : ℕ) → AllPairs (λ x y. x < y) (range_with_len 0 n)
@@ -94,26 +94,26 @@ rising_range a (suc n) (y ∷ ys) rise within all =
       same = let f : Some y ≡ Some x = e in cc
     past x lt (suc k, e) = (k, e)
 
-module _ {A : Type 0} (callers : ℕ) (jobs : ℕ → ℕ) (given done : List (Ran A)) (places : List ℕ) (at : AreAt given places done)
+module _ {A : Type 0} (callers : ℕ) (jobs : ℕ → ℕ) (given done : List (Done A)) (places : List ℕ) (at : AreAt given places done)
     (all : AreAllPlaces (length given) places) (once : AreOnceInOrder callers jobs given)
-    (rising : AllPairs (λ (x y : Ran A). (spot_of x).caller ≡ (spot_of y).caller → (spot_of x).index < (spot_of y).index) done) where
-  abbrev of : ℕ → Ran A → Bool
+    (rising : AllPairs (λ (x y : Done A). (spot_of x).caller ≡ (spot_of y).caller → (spot_of x).index < (spot_of y).index) done) where
+  abbrev of : ℕ → Done A → Bool
   of c ran = ran.caller == c
 
-  to_done : (x : Ran A) → IsIn x given → IsIn x done
+  to_done : (x : Done A) → IsIn x given → IsIn x done
   to_done x (p, e) = let w = all.whole p (slice_get_within given p x e) in (w.0, at.each w.0 p w.1 ∙ e)
 
-  to_given : (x : Ran A) → IsIn x done → IsIn x given
+  to_given : (x : Done A) → IsIn x done → IsIn x given
   to_given x (k, e) = let t = place_of_done given done places at all k x e in (t.0, t.2)
 
   -- the indexes of a caller are the same numbers in both
-  carried : (xs ys : List (Ran A)) → ((x : Ran A) → IsIn x xs → IsIn x ys) → (c i : ℕ) → IsIn i (indexes_of c xs) → IsIn i (indexes_of c ys)
+  carried : (xs ys : List (Done A)) → ((x : Done A) → IsIn x xs → IsIn x ys) → (c i : ℕ) → IsIn i (indexes_of c xs) → IsIn i (indexes_of c ys)
   carried xs ys to c i (k, e) =
-      let m = map_at (λ (ran : Ran A). ran.index) (filter (of c) xs) k i e in
-      let passes : of c m.0 ≡ true = subst (λ (r : Ran A). of c r ≡ true) (get_or_from_slice_get (filter (of c) xs) k m.0 m.0 m.1)
+      let m = map_at (λ (ran : Done A). ran.index) (filter (of c) xs) k i e in
+      let passes : of c m.0 ≡ true = subst (λ (r : Done A). of c r ≡ true) (get_or_from_slice_get (filter (of c) xs) k m.0 m.0 m.1)
       (filter_passes (of c) xs k m.0 (slice_get_within (filter (of c) xs) k m.0 m.1)) in
       let there = in_filter (of c) ys m.0 passes (to m.0 (filter_in (of c) xs m.0 (k, m.1))) in
-      (there.0, at_map (λ (ran : Ran A). ran.index) (filter (of c) ys) there.0 m.0 there.1 ∙ ap Some m.2)
+      (there.0, at_map (λ (ran : Done A). ran.index) (filter (of c) ys) there.0 m.0 there.1 ∙ ap Some m.2)
 
   in_range : (n i : ℕ) → IsIn i (range_with_len 0 n) → (0 ≤ i) × (i < 0 + n)
   in_range n i (k, e) =
@@ -129,11 +129,11 @@ module _ {A : Type 0} (callers : ℕ) (jobs : ℕ → ℕ) (given done : List (R
   )
 
   rises : (c : ℕ) → AllPairs (λ x y. x < y) (indexes_of c done)
-  rises c = pairs_map (λ x y. x < y) (λ (ran : Ran A). ran.index) (filter (of c) done)
-      (λ i j d lt short. AllPairs-filter (λ (x y : Ran A). x.caller ≡ y.caller → x.index < y.index) (of c) done rising i j d lt short
+  rises c = pairs_map (λ x y. x < y) (λ (ran : Done A). ran.index) (filter (of c) done)
+      (λ i j d lt short. AllPairs-filter (λ (x y : Done A). x.caller ≡ y.caller → x.index < y.index) (of c) done rising i j d lt short
       (own i d (omega (arith, lt, short)) ∙ sym (own j d short)))
     where
-      own : (k : ℕ) (d : Ran A) → k < length (filter (of c) done) → (get_or (filter (of c) done) k d).caller ≡ c
+      own : (k : ℕ) (d : Done A) → k < length (filter (of c) done) → (get_or (filter (of c) done) k d).caller ≡ c
       own k d lt = grind (arith, nat_tests, filter_passes (of c) done k d lt)
 
   pub once_there : AreOnceInOrder callers jobs done

@@ -7,36 +7,36 @@ use Rattle.history_model.specs.declared.view.Phase.TheVariants.{Idle}
 use Rattle.history_model.specs.Traces.{IsLegalTrace, after}
 use Rattle.history_model.specs.Views.{number}
 use Rattle.word_table.specs.Copies.{PassView}
-use Rattle.txn_commit.specs.declared.lists.Ran.{Ran}
+use Rattle.txn_commit.specs.declared.lists.Done.{Done}
 use Rattle.txn_commit.specs.Lists.{indexes_of, jobs_of_first, IsEntryOf}
 
 -- an item beside the entry of its call
 pub record Made (A : Type 0) : Type 0 where
-  pub ran : Ran A
+  pub ran : Done A
   pub entry : Entry
 
 module _ {A : Type 0} where
   -- the items of one caller's list, the first n of its jobs, behind others
-  pub record RanList (caller n : ℕ) (old new : List (Ran A)) : Type 0 where
-    pub more : List (Ran A)
+  pub record RanList (caller n : ℕ) (old new : List (Done A)) : Type 0 where
+    pub more : List (Done A)
     pub behind : new ≡ old ++ more
     pub of_caller : All (λ ran. ran.caller ≡ caller) more
     pub indexes : map (λ ran. ran.index) more ≡ range_with_len 0 n
 
   -- of the first n callers those of this seat have their items there, and nobody else
-  pub record RanFirst (jobs : ℕ → ℕ) (workers seat n : ℕ) (done : List (Ran A)) : Type 0 where
+  pub record RanFirst (jobs : ℕ → ℕ) (workers seat n : ℕ) (done : List (Done A)) : Type 0 where
     pub own : (c : ℕ) → c < n → c % workers ≡ seat → indexes_of c done ≡ range_with_len 0 (jobs c)
     pub only : All (λ ran. (ran.caller < n) × (ran.caller % workers ≡ seat)) done
 
   module _ (good : List ℕ → Type 0) (means : ℕ → ℕ → List ℕ → Bool → A → List ℕ → Type 0) where
     -- the entry is that of the item, and of all good words on which its trace is legal the meaning of the job holds
-    pub record IsMadeBy (ran : Ran A) (entry : Entry) : Type 0 where
+    pub record IsMadeBy (ran : Done A) (entry : Entry) : Type 0 where
       pub is_of : IsEntryOf ran entry
       pub meaning : (s : List ℕ) → good s → IsLegalTrace entry.trace s
-          → means ran.caller ran.index s entry.kept ran.answer (after entry.trace s)
+          → means ran.caller ran.index s entry.kept ran.reply (after entry.trace s)
 
     -- a call of the pass made this item
-    pub record RanOne (seats : ℕ) (old new : View) (ran : Ran A) : Type 0 where
+    pub record RanOne (seats : ℕ) (old new : View) (ran : Done A) : Type 0 where
       pub entry : Entry
       pub seen : new.seen ≡ old.seen ++ entry ∷ []
       pub made : IsMadeBy ran entry
@@ -52,16 +52,16 @@ module _ {A : Type 0} where
       pub few : made.ran.restarts < seats
 
     -- a pass made these items, a call each, and has seen their entries
-    pub record HasRun (seats seat : ℕ) (view : View) (done : List (Ran A)) : Type 0 where
+    pub record HasRun (seats seat : ℕ) (view : View) (done : List (Done A)) : Type 0 where
       pub made : List (Made A)
       pub items_are : done ≡ map (λ (x : Made A). x.ran) made
       pub seen_are : view.seen ≡ map (λ (x : Made A). x.entry) made
       pub each : All (IsMade seats seat) made
       pub calls : view.call ≡ length done
-      pub counted : map (λ (ran : Ran A). ran.call) done ≡ range_with_len 1 (length done)
+      pub counted : map (λ (ran : Done A). ran.call) done ≡ range_with_len 1 (length done)
 
     -- of the first n callers a pass ran those that are its own, since it began; so it made no more calls than these have jobs
-    pub record IsUnderWay (jobs : ℕ → ℕ) (workers seats : ℕ) (began : PassView) (n : ℕ) (pass : PassView) (done : List (Ran A)) : Type 0 where
+    pub record IsUnderWay (jobs : ℕ → ℕ) (workers seats : ℕ) (began : PassView) (n : ℕ) (pass : PassView) (done : List (Done A)) : Type 0 where
       pub table : pass.table ≡ began.table
       pub idle : pass.view.phase ≡ Idle
       pub who : pass.view.who ≡ began.view.who

@@ -18,7 +18,7 @@ use Rattle.word_table.proofs.Runs.RunLaws.{opening_run}
 some_same : (s t : TableState) → Some s ≡ Some t → s ≡ t
 some_same s t e = cc
 
-get_last : (run : List TableState) (t : TableState) (m : ℕ) → length run ≡ m → slice_get (run ++ t ∷ []) m ≡ Some t
+pub get_last : (run : List TableState) (t : TableState) (m : ℕ) → length run ≡ m → slice_get (run ++ t ∷ []) m ≡ Some t
 get_last [] t zero e = refl
 get_last [] t (suc m) e = absurd (omega arith)
 get_last (x ∷ run) t zero e = absurd (omega arith)
@@ -53,12 +53,12 @@ module _ (good : List ℕ → Type 0) (n : ℕ) (base : List ℕ) (run : List Ta
 
 module _ (good : List ℕ → Type 0) (n : ℕ) (base : List ℕ) where
   -- the views of the first j numbers
-  abbrev dealt : ℕ → List View
+  abbrev pub dealt : ℕ → List View
   dealt zero = []
   dealt (suc j) = dealt j ++ opening_view base n (j ∷ []) [] ∷ []
 
   -- the table after j cuts, with k + 1 numbers left in the first view
-  abbrev at : ℕ → ℕ → TableState
+  abbrev pub at : ℕ → ℕ → TableState
   at j k = record { words = opening_words n base; views = opening_view base n (numbers j (suc k)) [] ∷ dealt j }
 
   cuts : (j k : ℕ) → CutsSeat (at j (suc k)) (at (suc j) k)
@@ -72,19 +72,19 @@ module _ (good : List ℕ → Type 0) (n : ℕ) (base : List ℕ) where
     views_are = ap (λ (l : List ℕ). opening_view base n l [] ∷ dealt (suc j)) (sym (rest_of_numbers j (suc k)));
   }
 
-  abbrev run_to : ℕ → ℕ → List TableState
+  abbrev pub run_to : ℕ → ℕ → List TableState
   run_to zero k = at zero k ∷ []
   run_to (suc j) k = run_to j (suc k) ++ at (suc j) k ∷ []
 
-  run_long : (j k : ℕ) → length (run_to j k) ≡ suc j
+  pub run_long : (j k : ℕ) → length (run_to j k) ≡ suc j
   run_long zero k = refl
   run_long (suc j) k = length-append (run_to j (suc k)) (at (suc j) k ∷ []) ∙ omega (arith, run_long j (suc k))
 
-  run_last : (j k : ℕ) → slice_get (run_to j k) j ≡ Some (at j k)
+  pub run_last : (j k : ℕ) → slice_get (run_to j k) j ≡ Some (at j k)
   run_last zero k = refl
   run_last (suc j) k = get_last (run_to j (suc k)) (at (suc j) k) (suc j) (run_long j (suc k))
 
-  run_runs : (j k : ℕ) → n ≡ j + suc k → IsRun good n base (run_to j k)
+  pub run_runs : (j k : ℕ) → n ≡ j + suc k → IsRun good n base (run_to j k)
   run_runs zero k e = opening_run good n base (at zero k) (record {
     words_are = refl;
     views_are = let all : suc k ≡ n = omega arith in ap (λ (m : ℕ). opening_view base n (numbers 0 m) [] ∷ []) all;

@@ -17,11 +17,12 @@ ghost use Rattle.values_rule.specs.Steps.{after_commit, commit_call_action, entr
 ghost use Rattle.stamps_rule.specs.Causes.{newest, past_causes};
 ghost use Rattle.stamps_rule.specs.Stamps.{AreRestartsBounded};
 ghost use Rattle.stamps_rule.specs.Steps.{draw_stamp_action, announce_stamp_action, load_cause_stamp_action};
-ghost use Rattle.history_model.specs.Sets.{flag, has, without};
+ghost use Rattle.history_model.specs.Sets.{flag, has, has_pair, without};
 ghost use Rattle.word_table.specs.Versions.{locks_found};
 ghost use Rattle.word_table.specs.Calls.{ClaimedBy, GainsUse, GaveUp, GaveWay, GrantsStay, JudgedBy, LoadedBy, MetOn, ReadsArranged, SameCall, ScannedBy, SharedBy, paid, with_bit};
 ghost use Rattle.word_table.specs.Kinds.{TakenIn};
 ghost use Rattle.word_table.specs.Desks.{AreGoodWords, RuleHolds};
+ghost use Rattle.word_table.specs.Waits.{FoundWait, WaitedForCause};
 
 use super::Desk;
 use crate::answer::{Claimed, Judged, Scanned, Shared, claimed_by};
@@ -354,6 +355,9 @@ impl<S: Shape> Desk<S> {
             pass.new.view }
         ensures waits { result ≡ Judged.Wait
             → pass.new.view ≡ record pass.old.view { met = without other pass.old.view.met } }
+        ensures found { (k : ℕ) → result ≡ Judged.Wait
+            → has_pair k other pass.old.view.meetings ≡ true
+            → FoundWait (RuleHolds S.Shape self.now) self.now.seats k other pass.new.view }
         ensures yields { (stamp : ℕ) → result ≡ Judged.Yield stamp
             → (0 < stamp) × (stamp < pass.old.view.stamp)
             × GaveWay (record { seat = other; stamp = stamp }) pass.old.view pass.new.view }
@@ -386,6 +390,8 @@ impl<S: Shape> Desk<S> {
             ≡ record pass.old.view { phase = Phase.Running; trace = []; uses = [] } }
         ensures waits { result ≡ false
             → pass.new.view ≡ record pass.old.view { waits = pass.old.view.waits + 1 } }
+        ensures found { result ≡ false → WaitedForCause (RuleHolds S.Shape self.now) self.now.seats
+            (record { seat = other; stamp = stamp }) pass.old.view }
         ensures fits { result ≡ true
             → ReadsArranged (AreGoodWords S.Shape self.now)
             self.now.seats self.now.base pass.new.view }

@@ -132,6 +132,7 @@ impl<S: Shape> Pass<S> {
         ensures taken { TakenIn (GroundHolds S.word_count S.good table.now.key)
             (load_cause_stamp_action (number self.old.view) other stamp self.old.view) self.old.view
             result self.new.view }
+        ensures one { self.old.view.who ≡ number self.old.view ∷ [] }
         ensures fits { result ≢ stamp
             → ReadsArranged (IsGood (S.word_count table.now.key.shape) (S.good table.now.key.shape))
             table.now.key.seats table.now.key.base.items self.new.view }

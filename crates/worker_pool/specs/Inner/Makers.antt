@@ -13,8 +13,9 @@ use Rattle.txn_books.specs.declared.shape.BooksShape.{BooksShape}
 use Rattle.txn_books.specs.Layout.{words_of}
 use Rattle.txn_books.specs.Meaning.{ScriptMeans}
 use Rattle.txn_books.specs.Standing.{IsGoodFor}
-use Rattle.worker_pool.specs.declared.done.Done.{Done}
-use Rattle.worker_pool.specs.Days.{place_of_item, places_of_items, IsEntryOf}
+use Rattle.worker_pool.specs.Days.{Done}
+use Rattle.worker_pool.specs.Days.{place_of_item, places_of_items}
+use Rattle.txn_commit.specs.Lists.{IsEntryOf}
 
 -- an entry is that of an item's call, and of all good words on which its trace is legal the meaning of the item's script
 -- holds

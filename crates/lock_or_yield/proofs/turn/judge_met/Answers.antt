@@ -2,7 +2,7 @@ use Rattle.std.proofs.Common.{◌≡◌, ℕ, List, [], refl, sym, ap, ◌∙◌
 use Rattle.history_model.specs.declared.event.Cause.{Cause}
 use Rattle.history_model.specs.declared.view.View.{View}
 use Rattle.history_model.specs.Fitting.{IsGood}
-use Rattle.history_model.specs.Sets.{has}
+use Rattle.history_model.specs.Sets.{has, has_pair}
 use Rattle.history_model.proofs.SetLemmas.{has-join_same}
 use Rattle.lock_or_yield.specs.Turns.{JudgedToYield}
 use Rattle.lock_or_yield.proofs.Turning.{wait_same, yield_same, settled_to_wait, settled_to_yield}
@@ -21,6 +21,11 @@ returns-in-Wait-clause-waits g c j e = (
       c.judge.new.pass.view c.requires.met c.draw_once.ensures.view c.draw_once.ensures.stamped c.draw_once.ensures.kept
       c.announce_once.ensures.view (c.in-Wait.ensures.waits refl),
 )
+
+pub returns-in-Wait-clause-found : goal.returns-in-Wait-clause-found
+returns-in-Wait-clause-found g c k e met = c.in-Wait.ensures.found k refl
+    (ap (λ (v : View). has_pair k c.args.other v.meetings) c.announce_once.ensures.view
+    ∙ (ap (λ (v : View). has_pair k c.args.other v.meetings) c.draw_once.ensures.view ∙ met))
 
 pub returns-in-Yield-clause-yields : goal.returns-in-Yield-clause-yields
 returns-in-Yield-clause-yields g c cause e =

@@ -23,4 +23,4 @@ pub returns-in-Some-clause-turn : goal.returns-in-Some-clause-turn
 returns-in-Some-clause-turn g c = let judges = c.judge_met.ensures in
     turn_met g.S.Shape c.args.desk.now c.args.intent c.args.a c.args.pass.now.view c.in-Some.other c.ask_once.new.pass.view
     c.judge_met.result c.judge_met.new.pass.view (record { judged = c.requires.judged; once = c.in-Some.ensures.once })
-    judges.judged judges.waits judges.yields judges.bounded
+    judges.judged judges.waits judges.found judges.yields judges.bounded

@@ -1,32 +1,20 @@
-use Rattle.std.proofs.Common.{◌≡◌, ℕ, List, sym, ap, ◌∙◌, subst}
-use Rattle.history_model.specs.Fitting.{Fits}
-use Rattle.history_model.specs.Traces.{after}
-use Rattle.history_model.proofs.Traces.FittingLaws.{each_fresh}
+use Rattle.std.proofs.Common.{ap, ◌∙◌}
 use Rattle.txn_words.specs.Plainly.{PlainView}
+use Rattle.txn_stores.proofs.Scripted.{fresh_stands}
+use Rattle.txn_stores.proofs.Turning.{leads_from_words}
 use Rattle.order_match.specs.declared.shape.OrderShape.{OrderShape}
-use Rattle.order_match.specs.Layout.{words_of}
-use Rattle.order_match.specs.Standing.{IsGoodFor, Stands}
+use Rattle.order_match.specs.Standing.{Stands}
 use Rattle.order_match.proofs.closing.orders_of_words.Goals as goal
 
 pub all_orders-requires-clause-stands : goal.all_orders-requires-clause-stands
 all_orders-requires-clause-stands c =
-    let began = c.new-reader.result in
-    let fresh = each_fresh (words_of began.shape) (IsGoodFor began.shape) _ (ap (λ (v : PlainView OrderShape). v.trace) c.new-reader.ensures.view) in
-    record {
-      at = λ s fit. subst (λ shape. IsGoodFor shape (after began.trace s)) (ap (λ (v : PlainView OrderShape). v.shape) c.new-reader.ensures.view)
-          (fresh.at s fit);
-    }
+    let view = c.new-reader.ensures.view in
+    fresh_stands _ _ Stands c.args.shape.now (λ shape words good. good) c.new-reader.result (ap (λ (v : PlainView OrderShape). v.trace) view)
+    (ap (λ (v : PlainView OrderShape). v.shape) view)
 
 pub returns-in-Ok : goal.returns-in-Ok
-unfolding after
 returns-in-Ok c book stand =
-    let began = c.new-reader.result in
     let view = c.new-reader.ensures.view in
     let hands = c.in-Ok.ensures.hands_on in
-    let now = c.all_orders.new.w in
-    let fit = subst (λ shape. Fits (words_of shape) (IsGoodFor shape) now.trace now.origin) hands.shape hands.sound.fits in
-    let words_are : now.origin ≡ c.args.words.now =
-    hands.origin ∙ ap (λ (v : PlainView OrderShape). v.origin) view in
-    let before : after began.trace now.origin ≡ c.args.words.now =
-    ap (λ (v : PlainView OrderShape). after v.trace now.origin) view ∙ words_are in
-    (c.in-Ok.ensures.told.at now.origin fit).told book (subst (λ (z : List ℕ). Stands c.args.shape.now z book) (sym before) stand)
+    (leads_from_words _ _ c.new-reader.result c.all_orders.new.w _ c.args.words.now _ (ap (λ (v : PlainView OrderShape). v.trace) view) hands.shape
+    (hands.origin ∙ ap (λ (v : PlainView OrderShape). v.origin) view) hands.sound.fits c.in-Ok.ensures.told).told book stand

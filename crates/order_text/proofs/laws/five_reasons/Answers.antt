@@ -1,5 +1,6 @@
-use Rattle.order_text.proofs.Reasons.{reason_is}
+use Rattle.books_report.proofs.AnyStore.Reasons.{reason_is}
+use Rattle.order_text.specs.Language.{order_language}
 use Rattle.order_text.proofs.laws.five_reasons.Goals as goal
 
 pub returns : goal.returns
-returns c text number why h = reason_is text number why h
+returns c text number why h = reason_is order_language text number why h

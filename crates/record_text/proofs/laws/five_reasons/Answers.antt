@@ -1,5 +1,6 @@
-use Rattle.record_text.proofs.Reasons.{reason_is}
+use Rattle.books_report.proofs.AnyStore.Reasons.{reason_is}
+use Rattle.record_text.specs.Language.{record_language}
 use Rattle.record_text.proofs.laws.five_reasons.Goals as goal
 
 pub returns : goal.returns
-returns c text number why h = reason_is text number why h
+returns c text number why h = reason_is record_language text number why h

@@ -1,5 +1,5 @@
 use Rattle.std.proofs.Common.{[], ◌∷◌, ◌++◌, map, sym, ap, ◌∙◌, arith}
-use Rattle.script_reader.proofs.Listed.Gathering.{map-set-put, map-push-put}
+use Rattle.script_reader.proofs.Grouped.Gathering.{map-set-put, map-push-put}
 use Rattle.script_reader.proofs.gathering.put.Goals as goal
 
 pub returns-in_ok-push : goal.returns-in_ok-push

@@ -3,7 +3,7 @@ use Rattle.std.proofs.lemmas.Result.{err_from_is_err_and}
 use Rattle.script_reader.specs.declared.fault.Fault.TheVariants as fault
 use Rattle.script_reader.specs.declared.fault.Refusal.TheVariants as refusal
 use Rattle.script_reader.specs.ListLanguage.{lines_of, judge}
-use Rattle.script_reader.specs.Inner.ListScripts.{is_beyond_in}
+use Rattle.script_reader.specs.Inner.Gatherings.{is_beyond_in}
 use Rattle.script_reader.proofs.Judging.{behind_line}
 use Rattle.script_reader.proofs.Listed.Behind.{behind_script, outside_word, outside_limit}
 use Rattle.script_reader.proofs.reader.add_script.Goals as goal

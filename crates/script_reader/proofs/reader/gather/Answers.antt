@@ -8,15 +8,16 @@ use Rattle.script_reader.specs.declared.fault.Refusal.TheVariants as refusal
 use Rattle.script_reader.specs.Text.{line, end_line}
 use Rattle.script_reader.specs.Gathered.{AreCallers, callers_of}
 use Rattle.script_reader.specs.ListLanguage.{IsScriptIn, lines_of, submission_words, judge}
-use Rattle.script_reader.specs.Inner.Gatherings.{add_submission}
-use Rattle.script_reader.specs.Inner.ListScripts.{is_beyond_in, operations_text}
+use Rattle.script_reader.specs.Inner.Gatherings.{add_submission, is_beyond_in}
+use Rattle.script_reader.specs.Inner.ListScripts.{operations_text}
 use Rattle.script_reader.proofs.Conditions.{neither}
 use Rattle.script_reader.proofs.LineFaults.LineKinds.{only_word}
 use Rattle.script_reader.proofs.Texts.Following.{line_shorter}
-use Rattle.script_reader.proofs.Listed.Grouping.{callers_of-push}
-use Rattle.script_reader.proofs.Listed.Submitting.{callers_more}
+use Rattle.script_reader.proofs.Grouped.Grouping.{callers_of-push}
+use Rattle.script_reader.proofs.Grouped.Submitting.{callers_more}
 use Rattle.script_reader.proofs.Judging.{behind_end}
-use Rattle.script_reader.proofs.Listed.Behind.{behind_scripts, one_more_script, no_callers}
+use Rattle.script_reader.proofs.Listed.Behind.{behind_scripts, one_more_script}
+use Rattle.script_reader.proofs.Grouped.Outside.{no_callers}
 use Rattle.script_reader.proofs.reader.gather.Goals as goal
 
 pub loop-words-init : goal.loop-words-init

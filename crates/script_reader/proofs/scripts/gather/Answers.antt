@@ -1,27 +1,27 @@
-use Rattle.std.proofs.Common.{◌≡◌, Bool, true, false, not, ◌&&◌, ◌||◌, nat_le, ◌∷◌, [], ◌++◌, length, codes, Err, sym, ap, subst, ◌∙◌, length-append, refl}
+use Rattle.std.proofs.Common.{◌≡◌, Bool, true, false, not, ◌&&◌, ◌∷◌, [], ◌++◌, length, codes, Err, sym, ap, subst, ◌∙◌, length-append, refl}
 use Rattle.std.proofs.Common.{arith}
 use Rattle.std.proofs.lemmas.Bool.{leb-false, true≢false}
 use Rattle.std.proofs.lemmas.Result.{err_from_is_err_and}
 use Rattle.script_reader.specs.declared.limits.TheConstants.{MOST_CALLERS, MOST_SCRIPTS}
 use Rattle.script_reader.specs.declared.fault.Refusal.TheVariants as refusal
 use Rattle.script_reader.specs.Text.{script_lines, end_line}
-use Rattle.script_reader.specs.Input.{callers_of, count_scripts}
+use Rattle.script_reader.specs.Input.{callers_of}
 use Rattle.script_reader.specs.Inner.LinesAsWords.{lines_so_far}
-use Rattle.script_reader.specs.Inner.Callers.{is_caller, add_submission}
+use Rattle.script_reader.specs.Inner.Gatherings.{add_submission, is_beyond_in}
 use Rattle.script_reader.specs.Faults.{fault_of}
 use Rattle.script_reader.proofs.Conditions.{neither}
 use Rattle.script_reader.proofs.Grouped.Grouping.{callers_of-push}
 use Rattle.script_reader.proofs.Grouped.Submitting.{callers_more}
 use Rattle.script_reader.proofs.LineFaults.LineKinds.{only_word}
-use Rattle.script_reader.proofs.Texts.Reaching.{no_callers}
+use Rattle.script_reader.proofs.Grouped.Outside.{no_callers}
 use Rattle.script_reader.proofs.Texts.Following.{line_shorter}
 use Rattle.script_reader.proofs.Texts.Gathered.{behind_scripts, one_more_script, last_text}
 use Rattle.script_reader.proofs.Judging.{behind_end}
 use Rattle.script_reader.proofs.scripts.gather.Goals as goal
-use Rattle.script_reader.specs.Inner.OfVersion.{AreCallersOf}
+use Rattle.script_reader.specs.Inner.OfVersion.{IsScriptOf, AreCallersOf}
 
 pub loop-words-init : goal.loop-words-init
-loop-words-init c = record { even = c.requires.even; subs = []; made = c.requires.none; valid = no_callers c.args.version c.args.books.now; text = refl }
+loop-words-init c = record { even = c.requires.even; subs = []; made = c.requires.none; valid = no_callers (IsScriptOf c.args.version c.args.books.now); text = refl }
 
 pub returns-in_err-words-clause-fault : goal.returns-in_err-words-clause-fault
 returns-in_err-words-clause-fault c why e =
@@ -61,14 +61,13 @@ loop-words-preserved c =
     let v = c.loop-words.invariant in
     let added = c.in_ok-add_script.ensures.added in
     let s = added.submission in
-    let room = neither (sym (ap (λ l. nat_le MOST_SCRIPTS (count_scripts l) ||
-    (not (is_caller s.caller l) && nat_le MOST_CALLERS (length l))) v.made) ∙ added.room) in
+    let room = neither (sym (ap (λ l. is_beyond_in l s.caller) v.made) ∙ added.room) in
     record {
       even = c.in_ok-add_script.ensures.even;
       subs = v.subs ++ s ∷ [];
       made = added.made ∙ ap (λ l. add_submission l s) v.made ∙ sym (callers_of-push v.subs s);
       valid = subst (AreCallersOf c.args.version c.args.books.now) (sym (callers_of-push v.subs s))
-          (callers_more c.args.version c.args.books.now (callers_of v.subs) s v.valid added.named added.valid
+          (callers_more (IsScriptOf c.args.version c.args.books.now) (callers_of v.subs) s v.valid added.named added.valid
           (leb-false MOST_SCRIPTS _ room.0) (λ new. leb-false MOST_CALLERS _ (right new room.1)));
       text = one_more_script c.args.lines.now c.loop-words.lines c.words.new.self c.add_script.new.lines v.subs s.caller
           s.script c.in_ok-words.words v.text c.in_ok-words.ensures.found.1 added.begins added.text;

@@ -3,7 +3,7 @@ use Rattle.std.specs.List.{flat_map}
 use Rattle.script_reader.specs.Text.{line}
 use Rattle.script_reader.specs.Input.{Submission, callers_of}
 use Rattle.script_reader.specs.Inner.LinesAsWords.{submission_words}
-use Rattle.script_reader.specs.Inner.Callers.{callers_in, IsEven}
+use Rattle.script_reader.specs.Inner.Gatherings.{callers_in, IsEven}
 use Rattle.script_reader.proofs.scripts.gather.Given as goal
 use Rattle.script_reader.specs.Inner.OfVersion.{AreCallersOf}
 

@@ -1,6 +1,7 @@
 use Rattle.std.proofs.Common.{◌≡◌, ◌<◌, ◌%◌, ◌∙◌, ℕ, List, ap, subst, sym, slice_get}
 use Rattle.txn_commit.specs.Ordered.{AreAt}
 use Rattle.txn_commit.proofs.Orders.FromRun.{all_run, once_in_order, order_run, places_run, recorded_in_order, run_in_order}
+use Rattle.txn_commit.proofs.Orders.Serial.{is_serial}
 use Rattle.txn_commit.proofs.ordered.run_in_order.Goals as goal
 
 pub arrange-requires-clause-within : goal.arrange-requires-clause-within
@@ -28,6 +29,7 @@ returns g c =
     let done = c.in_ok-done.done.items in
     let order = order_run ran.run ran.coherent ran.legal ran.records c.as_slice.result.now places c.as_slice.ensures.value c.in_ok-places.ensures in
     let at = subst (λ (l : List ℕ). AreAt given l done) c.as_slice-2.ensures.value c.in_ok-done.ensures in
+    let in_order = run_in_order ran.run ran.coherent ran.legal ran.records places order done at in
     record {
       closed = ran.closed;
       coherent = ran.coherent;
@@ -38,5 +40,6 @@ returns g c =
       seats = all_run ran.run ran.coherent ran.legal ran.records places order done at (λ x. x.seat ≡ x.caller % c.args.workers) ran.seats;
       entries = recorded_in_order ran.run ran.coherent ran.legal ran.records places order done at;
       below = all_run ran.run ran.coherent ran.legal ran.records places order done at (λ x. x.restarts < c.args.workers) ran.below;
-      in_order = run_in_order ran.run ran.coherent ran.legal ran.records places order done at;
+      in_order = in_order;
+      serial = is_serial _ _ c.in_ok-closed.field-0.closed done in_order c.args.words.items ran.closed.0;
     }

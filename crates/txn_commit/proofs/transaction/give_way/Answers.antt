@@ -37,7 +37,7 @@ wait_out-requires g c = record {
   phase = search rules;
   other = search rules;
   cause = search rules;
-  nothing = c.release_all.ensures.nothing;
+  nothing = search rules;
   undone = search rules;
 }
 

@@ -1,8 +1,12 @@
-use Rattle.std.proofs.Common.{◌≡◌, ℕ, ◌+◌, ◌<◌, [], Some, sym, ap, ◌∙◌, subst}
+use Rattle.std.proofs.Common.{◌≡◌, ℕ, ◌+◌, ◌<◌, ◌≤◌, [], Some, sym, ap, ◌∙◌, subst, arith}
+use mathlib.Core.Logic.{dite}
+use native.Mathlib.Decide.{ℕ_discrete}
 use Rattle.history_model.specs.declared.view.Phase.TheVariants.{Running, Yielding}
 use Rattle.history_model.specs.declared.view.View.{View}
 use Rattle.history_model.specs.Views.{HasBit, HasClaim}
 use Rattle.stamps_rule.specs.Causes.{newest, past_causes}
+use Rattle.word_table.specs.Desks.{RuleHolds}
+use Rattle.word_table.specs.Waits.{WaitedForCause}
 use Rattle.txn_commit.proofs.transaction.wait_out.Goals as goal
 
 -- one more look at the cause, which is there or is gone
@@ -32,6 +36,9 @@ pub returns-then-gone : goal.returns-then-gone
 returns-then-gone g c = let step = c.gone.ensures.restarts c.if-gone.true in record {
   desk = c.gone.ensures.desk ∙ c.loop.invariant.0;
   restarts = restarted c.args.pass.now.view c.loop.pass.view c.gone.new.pass.view c.loop.invariant.1 step;
+  found = subst (λ (m : ℕ). (waits : ℕ) → c.args.pass.now.view.waits ≤ waits → waits < m
+      → WaitedForCause (RuleHolds g.S.Shape c.args.desk.now) c.args.desk.now.seats c.args.cause (record c.args.pass.now.view { waits = waits }))
+      (sym (ap (λ (v : View). v.waits) step)) c.loop.invariant.2;
   fits = c.gone.ensures.fits c.if-gone.true;
 }
 
@@ -39,4 +46,9 @@ pub loop-preserved : goal.loop-preserved
 loop-preserved g c = (
   c.gone.ensures.desk ∙ c.loop.invariant.0,
   waited c.args.pass.now.view c.loop.pass.view c.gone.new.pass.view c.loop.invariant.1 (c.gone.ensures.waits c.if-gone.false),
+  λ waits low high. let more : c.gone.new.pass.view.waits ≡ c.loop.pass.view.waits + 1 = ap (λ (v : View). v.waits) (c.gone.ensures.waits c.if-gone.false) in
+      dite (ℕ_discrete waits c.loop.pass.view.waits)
+      (λ last. subst (λ (v : View). WaitedForCause (RuleHolds g.S.Shape c.args.desk.now) c.args.desk.now.seats c.args.cause v)
+      (c.loop.invariant.1 ∙ ap (λ (m : ℕ). record c.args.pass.now.view { waits = m }) (sym last)) (c.gone.ensures.found c.if-gone.false))
+      (λ before. c.loop.invariant.2 waits low (omega arith)),
 )

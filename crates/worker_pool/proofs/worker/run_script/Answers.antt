@@ -8,7 +8,7 @@ use Rattle.txn_books.specs.Layout.{words_of}
 use Rattle.txn_books.specs.Meaning.{ScriptMeans, ScriptOn}
 use Rattle.txn_books.specs.Standing.{IsGoodFor}
 use Rattle.txn_commit.specs.Transactions.{GetsEntry}
-use Rattle.worker_pool.specs.declared.done.Done.{Done}
+use Rattle.worker_pool.specs.Days.{Done}
 use Rattle.worker_pool.proofs.Making.{made_more}
 use Rattle.worker_pool.proofs.worker.run_script.Goals as goal
 

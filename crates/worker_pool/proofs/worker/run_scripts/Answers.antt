@@ -2,7 +2,7 @@ use Rattle.std.proofs.Common.{◌≡◌, ℕ, ◌∷◌, ◌+◌, ◌++◌, [], 
 use Rattle.std.proofs.lemmas.Result.{IfOk-from_err}
 use Rattle.history_model.specs.Views.{number}
 use Rattle.script_reader.specs.Input.{caller_at}
-use Rattle.worker_pool.specs.declared.done.Done.{Done}
+use Rattle.worker_pool.specs.Days.{Done}
 use Rattle.worker_pool.specs.Inner.Makers.{HasMade, RanScripts}
 use Rattle.worker_pool.proofs.Running.{ran_script}
 use Rattle.worker_pool.proofs.worker.run_scripts.Goals as goal

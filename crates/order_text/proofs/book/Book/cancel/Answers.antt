@@ -2,7 +2,8 @@ use Rattle.std.proofs.Common.{List, not, ◌==◌, Option, sym, ap, ◌∙◌, s
 use Rattle.order_text.specs.contracts.book.Book.{the_view}
 use Rattle.order_text.specs.declared.order.Resting.{Resting}
 use Rattle.order_text.specs.declared.reply.OrderValue.TheVariants as value
-use Rattle.order_text.specs.Interpreter.{Gives, with_order}
+use Rattle.books_report.specs.Stores.Interpreter.Step.{Gives}
+use Rattle.order_text.specs.Interpreter.{with_order}
 use Rattle.order_text.specs.Orders.{OrderBook, all_but}
 use Rattle.order_text.specs.Ranges.{HasRoom}
 use Rattle.order_text.proofs.Rooms.{fewer_have_room}

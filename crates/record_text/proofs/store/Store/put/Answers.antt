@@ -6,7 +6,7 @@ use Rattle.books_model.proofs.Maps.Trees.{from_entries-inserted}
 use Rattle.record_text.specs.contracts.store.Store.{the_view}
 use Rattle.record_text.specs.Records.{RecordStore, is_full}
 use Rattle.record_text.specs.Ranges.{HasRoom}
-use Rattle.record_text.specs.Interpreter.{Gives}
+use Rattle.books_report.specs.Stores.Interpreter.Step.{Gives}
 use Rattle.record_text.proofs.Puts.{contains_tree, has_room, is_put, lacks_blocks, put_value}
 use Rattle.record_text.proofs.store.Store.put.Goals as goal
 use Rattle.record_text.proofs.store.Store.put.Goals.{Joined-is_there, then-is_there, else-is_there}

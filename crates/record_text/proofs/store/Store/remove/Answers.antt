@@ -3,8 +3,8 @@ use Rattle.std.specs.FinMap as finite
 use Rattle.std.specs.Cmp.{nat_cmp_total}
 use Rattle.books_model.proofs.Maps.Trees.{get-lookup}
 use Rattle.record_text.specs.contracts.store.Store.{the_view}
-use Rattle.record_text.specs.Interpreter.{Gives}
-use Rattle.record_text.specs.Inner.Steps.{step_with}
+use Rattle.books_report.specs.Stores.Interpreter.Step.{Gives}
+use Rattle.books_report.specs.Stores.Steps.{step_with}
 use Rattle.record_text.specs.Records.{RecordStore}
 use Rattle.record_text.specs.Ranges.{HasRoom}
 use Rattle.record_text.specs.declared.reply.RecordValue.TheVariants as value

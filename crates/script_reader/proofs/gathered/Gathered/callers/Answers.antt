@@ -1,6 +1,6 @@
 use Rattle.std.proofs.Common.{length, sym, ap, ◌∙◌}
 use Rattle.std.specs.String.{string_bytes}
-use Rattle.script_reader.proofs.Listed.Gathering.{count_callers}
+use Rattle.script_reader.proofs.Grouped.Gathering.{count_callers}
 use Rattle.script_reader.proofs.gathered.Gathered.callers.Goals as goal
 
 pub returns : goal.returns

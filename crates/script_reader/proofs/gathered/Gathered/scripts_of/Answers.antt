@@ -1,8 +1,8 @@
 use Rattle.std.proofs.Common.{◌<◌, [], length, sym, ap, arith}
 use Rattle.std.specs.String.{string_bytes}
 use Rattle.script_reader.specs.Gathered.{caller_at}
-use Rattle.script_reader.proofs.Listed.Gathering.{count_callers}
-use Rattle.script_reader.proofs.Listed.Besides.{scripts_beside}
+use Rattle.script_reader.proofs.Grouped.Gathering.{count_callers}
+use Rattle.script_reader.proofs.Grouped.Besides.{scripts_beside}
 use Rattle.script_reader.proofs.gathered.Gathered.scripts_of.Goals as goal
 
 pub index-requires : goal.index-requires

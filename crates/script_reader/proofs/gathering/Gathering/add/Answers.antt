@@ -2,7 +2,7 @@ use Rattle.std.proofs.Common.{◌+◌, sym, ap, ◌∙◌}
 use Rattle.std.specs.String.{string_bytes}
 use Rattle.script_reader.specs.Gathered.{count_scripts}
 use Rattle.script_reader.specs.Inner.Gatherings.{callers_in}
-use Rattle.script_reader.proofs.Listed.Gathering.{store-add, even_after, count-add}
+use Rattle.script_reader.proofs.Grouped.Gathering.{store-add, even_after, count-add}
 use Rattle.script_reader.proofs.gathering.Gathering.add.Goals as goal
 
 pub returns-clause-added : goal.returns-clause-added

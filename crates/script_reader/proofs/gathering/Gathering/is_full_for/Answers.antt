@@ -3,7 +3,7 @@ use Rattle.std.specs.String.{string_bytes}
 use Rattle.std.proofs.lemmas.Bool.{lt-leb, le-leb}
 use Rattle.script_reader.specs.declared.limits.TheConstants.{MOST_CALLERS, MOST_SCRIPTS}
 use Rattle.script_reader.specs.Inner.Gatherings.{callers_in, is_caller}
-use Rattle.script_reader.proofs.Listed.Gathering.{count_callers, has_caller}
+use Rattle.script_reader.proofs.Grouped.Gathering.{count_callers, has_caller}
 use Rattle.script_reader.proofs.gathering.Gathering.is_full_for.Goals as goal
 
 -- a test beside one that passes

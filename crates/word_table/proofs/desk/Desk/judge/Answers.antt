@@ -3,8 +3,10 @@ use Rattle.history_model.specs.Fitting.{IsGood}
 use Rattle.history_model.specs.Views.{number}
 use Rattle.stamps_rule.specs.Stamps.{AreRestartsBounded}
 use Rattle.stamps_rule.specs.Steps.{MayJudgeStamp}
-use Rattle.word_table.specs.Desks.{DeskView}
+use Rattle.word_table.specs.Desks.{DeskView, RuleHolds}
 use Rattle.word_table.proofs.Calls.Judging.{judged_waits, judged_yields, judged_bounded, judged_cause}
+use Rattle.word_table.specs.Waits.{FoundWait}
+use Rattle.word_table.proofs.Runs.Looking.{found_wait}
 use Rattle.word_table.proofs.desk.Desk.judge.Given.{Over}
 use Rattle.word_table.proofs.desk.Desk.judge.Goals as goal
 
@@ -22,6 +24,12 @@ pub returns-clause-waits : goal.returns-clause-waits
 returns-clause-waits g c e = let t = c.self.inside.table in
     judged_waits (IsGood (g.S.Shape.word_count t.key.shape) (g.S.Shape.good t.key.shape)) t.key.seats t.key.base.items
     c.args.pass.now.view c.args.other c.judge_stamp.result c.judge_stamp.new.self.view c.judge_stamp.ensures.judged (may g c) e
+
+pub returns-clause-found : goal.returns-clause-found
+returns-clause-found g c k e met = let t = c.self.inside.table in let v = c.args.pass.now.view in
+    subst (λ (d : DeskView _). FoundWait (RuleHolds g.S.Shape d) d.seats k c.args.other c.judge_stamp.new.self.view) c.self.view_is
+    (found_wait (IsGood (g.S.Shape.word_count t.key.shape) (g.S.Shape.good t.key.shape)) t.key.seats t.key.base.items
+    v k c.args.other c.judge_stamp.result c.judge_stamp.new.self.view c.judge_stamp.ensures.judged (may g c) e met)
 
 pub returns-clause-yields : goal.returns-clause-yields
 returns-clause-yields g c stamp e = let t = c.self.inside.table in

@@ -34,12 +34,16 @@ returns-clause-taken g c = let p = c.self.inside in
     (λ j k. load_cause_stamp_action j c.args.other c.args.stamp) p.call.who 0 0 p.seat.me c.load-shown.new.seat.me.0
     p.seat.table_id c.args.self.now c.load-shown.result c.self.view_is c.self.invariant.call_is.who_is refl c.load-shown.ensures.took.0
 
+pub returns-clause-one : goal.returns-clause-one
+returns-clause-one g c = let p = c.self.inside in
+    own_number p.call.who p.seat.me.0 p.seat.table_id c.args.self.now c.self.view_is c.self.invariant.call_is.who_is
+
 pub returns-clause-fits : goal.returns-clause-fits
-returns-clause-fits g c ne = let p = c.self.inside in let i = c.self.invariant in
+returns-clause-fits g c ne =
     restart_reads (IsGood (g.S.Shape.word_count c.args.table.now.key.shape) (g.S.Shape.good c.args.table.now.key.shape))
     c.args.table.now.key.seats c.args.table.now.key.base.items c.args.other c.args.stamp c.args.self.now.view
     c.load-shown.new.seat.me.0 c.load-shown.result (returns-clause-taken g c) record {
-      who = own_number p.call.who p.seat.me.0 p.seat.table_id c.args.self.now c.self.view_is i.call_is.who_is;
+      who = returns-clause-one g c;
       phase = c.requires.phase;
       last = c.requires.cause;
       no_bit = c.requires.no_bit;

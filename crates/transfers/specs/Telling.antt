@@ -1,0 +1,13 @@
+-- What audits told among the requests that were done.
+use Rattle.std.specs.Prelude.{◌≡◌, ℕ, List, All, Vec, Some}
+use Rattle.std.specs.Global.{Global}
+use Rattle.transfer_jobs.specs.declared.audit.Audit.{Audit}
+use Rattle.transfer_jobs.specs.declared.request.Answer.{Answer}
+use Rattle.transfer_jobs.specs.declared.request.Answer.TheVariants.{Told}
+use Rattle.transfer_jobs.specs.declared.request.Request.{Request}
+use Rattle.txn_commit.specs.declared.lists.Done.{Done}
+use Rattle.txn_commit.specs.Jobs.{job_at}
+
+-- each request that is an audit was told this sum
+abbrev pub AreTold : ℕ → List (Vec Request Global) → List (Done Answer) → Type 0
+AreTold sum lists done = All (λ ran. (audit : Audit) → job_at lists ran.caller ran.index ≡ Some (Request.Audit audit) → ran.reply ≡ Told sum) done

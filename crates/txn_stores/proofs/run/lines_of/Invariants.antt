@@ -1,0 +1,7 @@
+use Rattle.std.proofs.Common.{◌≡◌, map, take}
+use Rattle.txn_stores.specs.Journals.{line_of_done}
+use Rattle.txn_stores.proofs.run.lines_of.Given as goal
+
+-- the items so far have their lines
+abbrev pub invariant-loop-item : goal.invariant-loop-item
+invariant-loop-item g l = l.lines.items ≡ map line_of_done (take l.item-index l.done)
