@@ -112,6 +112,15 @@ impl Values {
         }
     }
 
+    /// No values, with room for so many.
+    pub fn with_room(alloc: Global, count: usize) -> Result<Values, OutOfMemory>
+        ensures { IfOk result (λ values. values ≡ []) }
+    {
+        Ok(Values {
+            values: Vec::with_capacity(alloc, count)?,
+        })
+    }
+
     /// This value alone.
     pub fn only(alloc: Global, value: Value) -> Result<Values, OutOfMemory>
         ensures { IfOk result (λ values. values ≡ value ∷ []) }

@@ -1,9 +1,10 @@
 //! The text of a journal and of closing books.
 
-ghost use Rattle.std.specs.Prelude.{◌≡◌, ◌+◌, [], ◌∷◌, ◌++◌, length, All, IfOk, OnOk};
+ghost use Rattle.std.specs.Prelude.{◌≡◌, ◌+◌, ◌<◌, ◌^◌, [], ◌∷◌, ◌++◌, length, All, IfOk, OnOk};
 ghost use Rattle.std.specs.String.{string_bytes};
 ghost use Rattle.script_reader.specs.declared.words.TheConstants.{SPACE};
-ghost use Rattle.script_reader.specs.Text.{number};
+ghost use Rattle.script_reader.specs.declared.version.Version.TheVariants.{Two};
+ghost use Rattle.script_reader.specs.Text.{books_lines, finish_line, number};
 ghost use Rattle.script_reader.specs.Journal.{IsPlace};
 ghost use Rattle.books_report.specs.Output.{journal_line, journal_lines, text_of};
 ghost use Rattle.books_report.specs.Lines.{lent, place_of_line, ran_of_line, scripts_of};
@@ -52,24 +53,38 @@ pub(crate) fn write_line(
     text.push('\n')
 }
 
-fn write_lines(
+/// Appends a journal line for each line and reply, in their order, the first with this serial number.
+pub fn write_lines(
     text: &mut String,
     input: &Input,
+    first: u64,
     lines: &[Line],
     replies: &[&Reply],
 ) -> Result<(), AllocError>
     requires beside { length lines.now ≡ length replies.now }
     requires places { All (λ l. IsPlace input.now (place_of_line l)) lines.now }
+    requires numbers { first + length lines.now < 2 ^ 64 }
     ensures { OnOk result (string_bytes text.new ≡ string_bytes text.old
-        ++ journal_lines input.now 1 (scripts_of lines.now (lent replies.now))) }
+        ++ journal_lines input.now first (scripts_of lines.now (lent replies.now))) }
 {
-    let mut serial = 1;
+    let mut serial = first;
     for (line, reply) in lines.iter().zip(replies) {
         let name = input.name(line.caller);
         write_line(text, serial, name, *line, reply)?;
         serial += 1;
     }
     Ok(())
+}
+
+/// The whole output, of which the text before the closing books is given: behind it come these, and `finish`.
+pub fn with_closing(text: String, closing: &Books) -> Result<Vec<u8>, OutOfMemory>
+    ensures { IfOk result (λ bytes. bytes.items
+        ≡ string_bytes text ++ books_lines Two closing.now ++ finish_line) }
+{
+    let mut text = text;
+    write_books(&mut text, closing)?;
+    text.push_str("finish\n")?;
+    Ok(text.into_bytes())
 }
 
 /// The whole output: a journal line for each line and reply, in their order, the closing books, and `finish`.
@@ -86,8 +101,6 @@ pub fn journal_text(
         ≡ text_of input.now (scripts_of lines.now (lent replies.now)) closing.now) }
 {
     let mut text = String::from_str(alloc, "journal\n")?;
-    write_lines(&mut text, input, lines, replies)?;
-    write_books(&mut text, closing)?;
-    text.push_str("finish\n")?;
-    Ok(text.into_bytes())
+    write_lines(&mut text, input, 1, lines, replies)?;
+    with_closing(text, closing)
 }

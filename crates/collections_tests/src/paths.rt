@@ -106,16 +106,18 @@ fn reads_of_a_sum(alloc: Global, spacing: u32) -> Result<Option<usize>, Fail> {
 }
 
 // To the left: the way down goes to the left at six hundred nodes, more than a walk keeps. Down to the least key it reads a
-// name and a key of each, and the name at the end: 1201 words. The room was full once, and 344 nodes are left in it: their
-// values, and behind each but the last the name at the end, 687 words. Behind the last it reads one more, finds none kept,
-// and goes down again: past 256 nodes to the left and at the next to the right, 515 words. Of those 256 the values and the
-// names behind them, 512 words.
+// name and a key of each, and the name at the end: 1201 words. The room of 256 was full three times, each time half of it
+// went, and 216 nodes are left in it: their values, and behind each but the last the name at the end, 431 words. Behind the
+// last it reads one more, finds none kept, and goes down again: past 384 nodes to the left and at the next to the right, 771
+// words. Of the nearest 256 of those the values and the names between them, 511 words. Behind the last it reads one more, and
+// goes down once more: past 128 nodes to the left and at the next to the right, 259 words. Of those 128 the values and the
+// names behind them, 256 words.
 //
 // To the right: the next key is right of each, with nothing left of it: of each node a name, its key, the name on its left
 // and its value are read, 2400 words, and behind the last one the end.
 #[test]
 fn a_sum_on_a_path_reads_no_value_twice(rt: HostRuntime) -> Result<(), Fail> {
-    for (spacing, reads) in &[(196_418, 2916), (121_393, 2401)] {
+    for (spacing, reads) in &[(196_418, 3431), (121_393, 2401)] {
         assert_eq!(rt; reads_of_a_sum(rt.alloc(), *spacing)?, Some(*reads));
     }
     Ok(())

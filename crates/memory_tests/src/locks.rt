@@ -17,13 +17,11 @@ fn unshare_all(desk: &Desk<Wide>, pass: &mut Pass<Wide>)
         × (pass.new.view.phase ≢ Phase.Idle) }
     ensures words { pass.new.view.base ≡ pass.old.view.base }
 {
-    let mut from = 0;
     for _ in 0..LOCKS {
-        let Some(lock) = pass.next_bit_from(from) else {
+        let Some(lock) = pass.next_bit() else {
             return;
         };
         desk.unshare(pass, lock);
-        from = lock;
     }
 }
 

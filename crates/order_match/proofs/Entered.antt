@@ -49,10 +49,14 @@ module _ (shape : OrderShape) (buys : Bool) (instrument price quantity : ℕ) (l
   abbrev pub order_with : ℕ → Resting
   order_with number = record { number = number; instrument = instrument; buys = buys; price = price; quantity = quantity }
 
-  -- no number is left
-  pub enters_no_number : (x y : List ℕ) → Tells (Stands shape) (λ book. next_number book.last) None x y
-      → EntersOrder shape buys instrument price quantity outcome.Full x y
-  enters_no_number x y t = record {
+  -- a book after the trades of the order, which has no number yet
+  abbrev traded : OrderBook → OrderBook
+  traded book = record book { orders = (match_of (order_with 0) book.orders).orders }
+
+  -- no number is left, once it has traded
+  pub enters_no_number : (left : ℕ) (trades : List Trade) (x y z : List ℕ) → MatchesOrder shape (order_with 0) trades left x y
+      → Tells (Stands shape) (λ book. next_number book.last) None y z → EntersOrder shape buys instrument price quantity outcome.Full x z
+  enters_no_number left trades x y z m t = record {
     comes = λ book stand. (
       book,
       ap (λ b. if b || (nat_lt 0 (match_of (incoming book buys instrument price quantity) book.orders).left
@@ -60,7 +64,7 @@ module _ (shape : OrderShape) (buys : Bool) (instrument price quantity : ℕ) (l
           then step.Full
           else Gives (value.Entered (book.last + 1) (match_of (incoming book buys instrument price quantity) book.orders).trades)
           (entered (incoming book buys instrument price quantity) (match_of (incoming book buys instrument price quantity) book.orders) book))
-          (none_next book.last stand.book_is.room.last_is (t.told book stand)),
+          (none_next book.last stand.book_is.room.last_is (t.told (traded book) (m.others_are book stand))),
       tt,
     );
   }
@@ -118,16 +122,16 @@ module _ (shape : OrderShape) (buys : Bool) (instrument price quantity : ℕ) (l
     }
 
   -- with no room for what is left
-  pub enters_no_room : (number left : ℕ) (trades : List Trade) (x y z w : List ℕ) → Tells (Stands shape) (λ book. next_number book.last) (Some number) x y
-      → MatchesOrder shape (order_with number) trades left y z → RestsOrder shape (record (order_with number) { quantity = left }) false z w
+  pub enters_no_room : (number left : ℕ) (trades : List Trade) (x y z w : List ℕ) → MatchesOrder shape (order_with 0) trades left x y
+      → Tells (Stands shape) (λ book. next_number book.last) (Some number) y z → RestsOrder shape (record (order_with number) { quantity = left }) false z w
       → EntersOrder shape buys instrument price quantity outcome.Full x w
-  enters_no_room number left trades x y z w t m r = record {
+  enters_no_room number left trades x y z w m t r = record {
     comes = λ book stand.
-        let there = subst (λ (l : List ℕ). Stands shape l book) (sym t.same) stand in (
+        let others = m.others_are book stand in (
           book,
-          lacks_room number left trades book stand.book_is (t.told book stand) (m.trades_are book there) (m.left_is book there)
+          lacks_room number left trades book stand.book_is (t.told (traded book) others) (m.trades_are book stand) (m.left_is book stand)
               (turned (nat_lt 0 left && nat_lt book.blocks (blocks_of (match_of (order_with number) book.orders).orders + 2))
-              (r.answer _ (m.others_are book there))),
+              (r.answer (traded book) (subst (λ (l : List ℕ). Stands shape l (traded book)) (sym t.same) others))),
           tt,
         );
   }
@@ -137,19 +141,18 @@ module _ (shape : OrderShape) (buys : Bool) (instrument price quantity : ℕ) (l
       turned false e = absurd (cc)
 
   -- with room for it, or with nothing left
-  pub enters_done : (number left : ℕ) (trades : List Trade) (x y z v w : List ℕ)
-      → Tells (Stands shape) (λ book. next_number book.last) (Some number) x y
-      → MatchesOrder shape (order_with number) trades left y z → RestsOrder shape (record (order_with number) { quantity = left }) true z v
+  pub enters_done : (number left : ℕ) (trades : List Trade) (x y z v w : List ℕ) → MatchesOrder shape (order_with 0) trades left x y
+      → Tells (Stands shape) (λ book. next_number book.last) (Some number) y z
+      → RestsOrder shape (record (order_with number) { quantity = left }) true z v
       → Changes (HasParts shape) (with_last number) v w
       → EntersOrder shape buys instrument price quantity (outcome.Gives (value.Entered number trades)) x w
-  enters_done number left trades x y z v w t m r change = record {
+  enters_done number left trades x y z v w m t r change = record {
     comes = λ book stand.
-        let there = subst (λ (l : List ℕ). Stands shape l book) (sym t.same) stand in
-        let told = t.told book stand in
-        let trades_are = m.trades_are book there in
-        let left_is = m.left_is book there in
-        let others = m.others_are book there in
-        let room = turned (nat_lt 0 left && nat_lt book.blocks (blocks_of (match_of (order_with number) book.orders).orders + 2)) (r.answer _ others) in (
+        let told = t.told _ (m.others_are book stand) in
+        let trades_are = m.trades_are book stand in
+        let left_is = m.left_is book stand in
+        let others = subst (λ (l : List ℕ). Stands shape l (traded book)) (sym t.same) (m.others_are book stand) in
+        let room = turned (nat_lt 0 left && nat_lt book.blocks (blocks_of (match_of (order_with number) book.orders).orders + 2)) (r.answer (traded book) others) in (
           entered (order_with number) (match_of (order_with number) book.orders) book,
           gives number left trades book stand.book_is told trades_are left_is room,
           stands_entered number left trades book stand.book_is told trades_are left_is w stand.blocks_are room
@@ -158,7 +161,7 @@ module _ (shape : OrderShape) (buys : Bool) (instrument price quantity : ℕ) (l
                 last = number;
                 orders = (match_of (order_with number) book.orders).orders ++ rest_of (order_with number) n;
               })))
-              left_is (change _ (r.left refl _ others))),
+              left_is (change _ (r.left refl (traded book) others))),
         );
   }
     where

@@ -1,5 +1,5 @@
 -- The last order number, as it is read and written.
-use Rattle.std.proofs.Common.{◌≡◌, ℕ, ◌<◌, ◌++◌, ◌∷◌, [], List, length, slice_get, Some, refl, sym, ap, ◌∙◌, arith}
+use Rattle.std.proofs.Common.{◌≡◌, ℕ, ◌<◌, ◌++◌, ◌∷◌, [], List, length, slice_get, Some, refl, sym, ap, subst, ◌∙◌, arith}
 use Rattle.std.proofs.lemmas.Option.{same_Some}
 use Rattle.history_model.specs.declared.event.Event.TheVariants.{Read}
 use Rattle.history_model.specs.Traces.{Trace, after}
@@ -16,6 +16,11 @@ use Rattle.order_match.specs.declared.layout.TheConstants.{LAST_AT}
 use Rattle.order_match.specs.Standing.{HasParts, HasSomeParts}
 use Rattle.order_match.specs.Access.{with_last}
 use Rattle.order_match.proofs.Changes.{last_change_stands}
+
+-- what is read behind a call that left the words as they were is told of those from before it
+pub told_behind : {last : ℕ} (shape : OrderShape) (x y z : List ℕ) → y ≡ x → Tells (HasParts shape) (λ held. held.last) last y z
+    → Tells (HasParts shape) (λ held. held.last) last x z
+told_behind {last = last} shape x y z same told = subst (λ (l : List ℕ). Tells (HasParts shape) (λ held. held.last) last l z) same told
 
 module _ (shape : OrderShape) (n : ℕ) (G : List ℕ → Type 0) (t : Trace) where
   -- it is a word

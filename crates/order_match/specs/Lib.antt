@@ -1,6 +1,7 @@
 pub mod Layout
 pub mod Standing
 pub mod Access
+pub mod Holding
 pub mod Trading
 pub mod Statements
 pub mod Operating

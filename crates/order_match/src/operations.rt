@@ -22,7 +22,8 @@ use std::alloc::Global;
 use txn_stores::Outcome;
 use txn_words::{Stop, Words};
 
-// The next order trades, and what is left of it rests.
+// The next order trades, and what is left of it rests. Its number is asked for once it has traded: so orders of several
+// instruments trade side by side, and wait for each other's numbers alone.
 pub(crate) fn enter<W: Words>(
     alloc: Global,
     w: &mut W,
@@ -41,18 +42,20 @@ pub(crate) fn enter<W: Words>(
         (InEachState W.Words W.Shape.Shape w.new (IsGoodFor shape.now))) }
     ensures hands_on { HandsOn W.Words w.old w.new result }
 {
-    let Some(number) = next_number(w, shape)? else {
-        return Ok(Outcome::Full);
-    };
     let order = Resting {
-        number,
+        // None yet, and trades do not depend on it.
+        number: 0,
         instrument,
         buys,
         price,
         quantity,
     };
     let (trades, left) = trade_down(alloc, w, shape, &order)?;
+    let Some(number) = next_number(w, shape)? else {
+        return Ok(Outcome::Full);
+    };
     let rest = Resting {
+        number,
         quantity: left,
         ..order
     };

@@ -6,8 +6,10 @@ ghost use Rattle.books_model.specs.Ranges.{IsWithin};
 ghost use Rattle.txn_words.specs.Access.{Changes, Tells, TellsAndChanges};
 ghost use Rattle.txn_words.specs.Calls.{IsReady, GoesOn, InEachState, LeadsTo};
 ghost use Rattle.order_match.specs.Layout.{side_at};
+ghost use Rattle.order_match.specs.declared.layout.TheConstants.{LAST_AT};
 ghost use Rattle.order_match.specs.Standing.{HasParts, HasSomeParts};
 ghost use Rattle.order_match.specs.Access.{first_in, is_used_up, put_answer, put_by, with_last, with_places, with_side};
+ghost use Rattle.order_match.specs.Holding.{Writes};
 
 use crate::layout::{LAST_AT, Side};
 use crate::shape::OrderShape;
@@ -36,6 +38,21 @@ pub fn set_last_number<W: Words>(w: &mut W, shape: &OrderShape, last: u64) -> Re
     ensures goes_on { GoesOn W.Words w.old w.new result }
 {
     w.write(LAST_AT, last)
+}
+
+/// Asks for the lock of the last order number to write it, and leaves the number as it is. Whoever reads it first and writes it
+/// then may meet another who does so too, and one of them gives way; who asks to write at once waits.
+pub fn hold_last_number<W: Words>(w: &mut W, shape: &OrderShape) -> Result<(), Stop>
+    requires ready { IsReady W.Words w.old }
+    requires parts { InEachState W.Words W.Shape.Shape w.old (HasSomeParts shape.now) }
+    ensures same { OnOk result
+        (LeadsTo W.Words W.Shape.Shape w.old w.new (λ before now. now ≡ before)) }
+    ensures writes { OnOk result (Writes W.Words LAST_AT w.old w.new) }
+    ensures goes_on { GoesOn W.Words w.old w.new result }
+{
+    let before = w.mark();
+    w.write(LAST_AT, 0)?;
+    w.back_to(before)
 }
 
 /// The entry of a side with the lowest key, which is that of the order that is served first.

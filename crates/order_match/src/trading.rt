@@ -8,12 +8,14 @@ ghost use Rattle.order_text.specs.Ranges.{IsRestingOrder};
 ghost use Rattle.txn_words.specs.Access.{Changes, OfModel, Tells};
 ghost use Rattle.txn_words.specs.Calls.{IsReady, GoesOn, InEachState, LeadsTo};
 ghost use Rattle.order_match.specs.Standing.{HasSomeParts, IsGoodFor, Stands};
+ghost use Rattle.order_match.specs.declared.layout.TheConstants.{LAST_AT};
 ghost use Rattle.order_match.specs.Access.{first_of};
+ghost use Rattle.order_match.specs.Holding.{Writes};
 ghost use Rattle.order_match.specs.Trading.{MatchesOrder, PutsOrder, RestsOrder, after_trade, next_number};
 ghost use Rattle.txn_stores.specs.Standing.{HandsOn};
 
 use crate::layout::{HALF, Side, number_of};
-use crate::parts::{cut_on, cut_place, first_on, last_number, put_on, put_place};
+use crate::parts::{cut_on, cut_place, first_on, hold_last_number, last_number, put_on, put_place};
 use crate::shape::OrderShape;
 use order_text::limits::GREATEST_ORDER;
 use order_text::{Resting, Trade, Trades};
@@ -32,15 +34,17 @@ fn allows(order: &Resting, price: u64) -> bool
     }
 }
 
-/// The number of the next order. None: the last one was the greatest.
+/// The number of the next order. None: the last one was the greatest. Its lock is held to write then.
 pub fn next_number<W: Words>(w: &mut W, shape: &OrderShape) -> Result<Option<u32>, Stop>
     requires ready { IsReady W.Words w.old }
     requires stands { InEachState W.Words W.Shape.Shape w.old (IsGoodFor shape.now) }
     ensures told { IfOk result (λ answer. LeadsTo W.Words W.Shape.Shape w.old w.new
         (Tells (Stands shape.now) (λ book. next_number book.last) answer)) }
+    ensures writes { OnOk result (Writes W.Words LAST_AT w.old w.new) }
     ensures stands { OnOk result (InEachState W.Words W.Shape.Shape w.new (IsGoodFor shape.now)) }
     ensures goes_on { GoesOn W.Words w.old w.new result }
 {
+    hold_last_number(w, shape)?;
     let last = last_number(w, shape)?;
     if last < u64::from(GREATEST_ORDER) {
         Ok(Some(last as u32 + 1))

@@ -1,13 +1,12 @@
--- The lanes of a list, and who may come.
+-- The lanes of a list.
 use Rattle.std.proofs.Common.{◌≡◌, ℕ, zero, suc, ◌+◌, ◌-◌, ◌<◌, ◌≤◌, true, ⊎_elim, List, [], ◌∷◌}
 use Rattle.std.proofs.Common.{◌++◌, length, slice_get, replicate, Some, sym, ap, ◌∙◌, subst, arith}
 use mathlib.Core.Logic.{dite}
 use native.Mathlib.Decide.{ℕ_discrete, dec_lt}
 use Rattle.std.proofs.lemmas.Option.{slice_get_within}
 use Rattle.history_model.proofs.ListPlaces.{below_get, get_first, get_last, get_cases}
-use Rattle.history_model.specs.declared.item.LockUse.{LockUse}
 use Rattle.history_model.specs.declared.placed.Spot.{Spot}
-use Rattle.order_rebuild.specs.Lanes.{IsLane, AreCut, AreLanes, IsDue, AreDueBelow, AreDue}
+use Rattle.order_rebuild.specs.Lanes.{IsLane, AreCut, AreLanes}
 use Rattle.order_rebuild.specs.declared.lanes.Lane.{Lane}
 use Rattle.std.proofs.lemmas.List.{length-replicate}
 use Rattle.order_rebuild.proofs.Codes.{same_there}
@@ -75,18 +74,3 @@ lanes_sorted list n cut lanes whole is to from rising = record {
       let o = to w.1 (w.0, w.2) in (o.0, w.1, o.1, w.3);
   rising = rising;
 }
-
--- one use more is due; all are
-pub due_more : (list : List Spot) (placed : List ℕ) (p i : ℕ) (s : Spot) (u : LockUse) → slice_get list p ≡ Some s
-    → slice_get s.uses i ≡ Some u → AreDueBelow list placed p i → IsDue list placed u → AreDueBelow list placed p (i + 1)
-due_more list placed p i s u at use_at below is j t v e f l = dite (ℕ_discrete j i)
-    (λ z. let same : u ≡ v = same_there s.uses i u v use_at
-    (ap (λ (k : ℕ). slice_get s.uses k) (sym z) ∙ subst (λ (w : Spot). slice_get w.uses j ≡ Some v) (same_there list p t s e at) f) in
-    subst (IsDue list placed) same is)
-    (λ n. below j t v e f (omega arith))
-
-pub due_all : (list : List Spot) (placed : List ℕ) (p i : ℕ) (s : Spot) → slice_get list p ≡ Some s → length s.uses ≤ i
-    → AreDueBelow list placed p i → AreDue list placed p
-due_all list placed p i s at le below j t u e f =
-    let same = ap (λ (w : Spot). length w.uses) (same_there list p t s e at) in
-    below j t u e f (let w = slice_get_within t.uses j u f in omega (arith, w, same, le))

@@ -20,11 +20,19 @@ pub mod Loops
 pub mod Begin
 -- sums over the uses of calls
 pub mod Counts
--- rows of counts
-pub mod Cells
 -- the lanes of a list
 pub mod Callers
--- the counts tell who may come
+-- uses before others
 pub mod Due
--- one item more, by the counts
+-- the lanes, one item less
 pub mod Steps
+-- a list that stands in its order
+pub mod Stands
+-- versions followed and readers tallied
+pub mod ByTallies
+-- the locks go on by one use more
+pub mod Follows
+-- what is known of the first items of lanes
+pub mod Knows
+-- one item more, by the tallies
+pub mod Placings

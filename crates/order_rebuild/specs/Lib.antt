@@ -5,3 +5,6 @@ pub mod Lines
 pub mod Going
 pub mod Counts
 pub mod Lanes
+pub mod Standing
+pub mod Tallied
+pub mod Tallies

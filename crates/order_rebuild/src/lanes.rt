@@ -1,10 +1,8 @@
 //! The items that are left, caller by caller.
 
-ghost use Rattle.std.specs.Prelude.{◌≡◌, ℕ, ◌-◌, ◌<◌, ◌≤◌, ◌↔◌, IsTrue, IfSome, OnSome, map, length, slice_get, Some, replicate, true};
-ghost use Rattle.order_rebuild.specs.Counts.{AreRanks};
-ghost use Rattle.order_rebuild.specs.Lanes.{AreCut, AreLanes, AreDueBelow, AreDue};
+ghost use Rattle.std.specs.Prelude.{◌≡◌, ◌⊎◌, ◌^◌, ℕ, ◌+◌, ◌-◌, ◌<◌, ◌≤◌, IsTrue, IfSome, map, length, slice_get, Some, replicate, true};
+ghost use Rattle.order_rebuild.specs.Lanes.{AreCut, AreLanes, shorter};
 
-use crate::ranks::Ranks;
 use history_model::Placed;
 use std::alloc::Global;
 
@@ -78,27 +76,26 @@ pub(crate) fn lanes_of<P: Placed>(alloc: Global, done: &[P]) -> Option<Vec<Lane>
     Some(lanes)
 }
 
-/// Whether the item at p may come by its uses, of which the first `known` are known to be due.
-pub(crate) fn is_due<P: Placed>(
-    done: &[P],
-    ranks: &Ranks,
-    placed: &[usize],
-    p: usize,
-    known: &mut usize,
-) -> bool
-    requires ranks { AreRanks (map P.spot done.now) ranks.now.rows.items }
-    requires sized { length placed.now ≡ length ranks.now.rows.items }
-    requires inside { p < length done.now }
-    requires known { AreDueBelow (map P.spot done.now) placed.now p known.old }
-    ensures known { AreDueBelow (map P.spot done.now) placed.now p known.new }
-    ensures is { IsTrue result ↔ AreDue (map P.spot done.now) placed.now p }
+/// Takes the first item out of the lane.
+pub(crate) fn take_first(lane: &mut Lane) -> usize
+    requires { lane.old.next < lane.old.end }
+    ensures is { result ≡ lane.old.next }
+    ensures lane { lane.new ≡ shorter lane.old }
 {
-    let uses = done[p].uses();
-    for i in *known..uses.len() {
-        if !ranks.is_open(placed, &uses[i]) {
-            return false;
-        }
-        *known = i + 1;
+    let first = lane.next;
+    lane.next = first + 1;
+    first
+}
+
+/// From where on lanes have items, after one was taken out of the lane at `at`; those below `from` have none.
+pub(crate) fn first_with_items(from: usize, at: usize, lane: &Lane) -> usize
+    requires { at < 2 ^ 63 }
+    ensures { (result ≡ from)
+        ⊎ ((result ≡ from + 1) × (at ≡ from) × (lane.now.next ≡ lane.now.end)) }
+{
+    if at == from && lane.next == lane.end {
+        from + 1
+    } else {
+        from
     }
-    true
 }

@@ -3,30 +3,36 @@
 //! A call comes before another where both used a lock and it found the lower version, or the same one where it only read
 //! and the other wrote, and where the same caller made it earlier.
 //!
-//! Lists as a table gives them, in which versions leave few gaps and a caller's items stand side by side, are put in
-//! order by counting (`counted`, `ranks`, `lanes`): of each use it is known how many uses of its lock come before it,
-//! and of each lock how many uses are placed; so a caller's next item may come where for each of its uses so many are.
-//! That takes time in proportion to the uses, and to the items times the callers. Other lists go a longer way: each item
-//! stands in a line for each lock that it used and in one of its caller (`turn`); the lines are sorted once (`lines`),
-//! and the items are placed while the lines go on (`ready`, `placing`), in the time of that sort.
+//! A list that stands in its order already, as one worker leaves it, is seen in one look at each use (`standing`).
+//!
+//! Other lists as a table gives them, in which each lock is written from version 0 on without a gap and a caller's items
+//! stand side by side, are put in order by how many read each version (`readers`, `tallied`, `lanes`): of each lock it is
+//! known which version it has by what is placed, and how many readers of it are left; so a caller's next item may come if
+//! each of its uses found the version that its lock has, and no reader is left where it wrote. That takes time in
+//! proportion to the uses, and to the items times the callers. The rest go a longer way: each item stands in a line for
+//! each lock that it used and in one of its caller (`turn`); the lines are sorted once (`lines`), and the items are placed
+//! while the lines go on (`ready`, `placing`), in the time of that sort.
 #![tactic(auto)]
 
 ghost use Rattle.std.specs.Prelude.{map, IfOk, ℕ, ◌≡◌, ◌<◌, slice_index, vec_len};
 ghost use Rattle.order_rebuild.specs.Legal.{ArrangedIsOrderable, OrderIsLegal};
 ghost use Rattle.order_rebuild.specs.Order.{IsOrder, Orderable, OneOrder};
 
-use crate::counted::counted_order;
 use crate::placing::sorted_order;
+use crate::standing::standing_order;
+use crate::tallied::{counted_order, tallied_order};
 use history_model::{Placed, Shape};
 use io_ends::OutOfMemory;
+pub use readers::Readers;
 use std::alloc::Global;
 
-mod counted;
 mod lanes;
 mod lines;
 mod placing;
-mod ranks;
+mod readers;
 mod ready;
+mod standing;
+mod tallied;
 mod turn;
 
 /// The places of the items in the order in which they may be printed: again and again, of the items that may come, the
@@ -35,10 +41,32 @@ pub fn order_of<P: Placed>(alloc: Global, done: &[P]) -> Result<Vec<usize>, OutO
     ensures { Orderable (map P.spot done.now)
         → IfOk result (λ out. IsOrder (map P.spot done.now) out.items) }
 {
+    if let Some(out) = standing_order(alloc, done) {
+        return Ok(out);
+    }
     if let Some(out) = counted_order(alloc, done) {
         return Ok(out);
     }
     sorted_order(alloc, done)
+}
+
+/// The order of a list whose readers were counted as it was made, quicker than by `order_of` if they are those of its
+/// items: for any counts it is the same order.
+pub fn order_counted<P: Placed>(
+    alloc: Global,
+    done: &[P],
+    readers: &Readers,
+) -> Result<Vec<usize>, OutOfMemory>
+    ensures { Orderable (map P.spot done.now)
+        → IfOk result (λ out. IsOrder (map P.spot done.now) out.items) }
+{
+    if let Some(out) = standing_order(alloc, done) {
+        return Ok(out);
+    }
+    if let Some(out) = tallied_order(alloc, done, readers) {
+        return Ok(out);
+    }
+    order_of(alloc, done)
 }
 
 /// A list has one order alone, where no two items have the same caller and index.

@@ -65,7 +65,7 @@ pub(crate) fn sorted_order<P: Placed>(alloc: Global, done: &[P]) -> Result<Vec<u
 }
 
 /// The numbers below n.
-fn numbers(alloc: Global, n: usize) -> Result<Vec<usize>, OutOfMemory>
+pub(crate) fn numbers(alloc: Global, n: usize) -> Result<Vec<usize>, OutOfMemory>
     ensures count { IfOk result (λ v. vec_len v ≡ n) }
     ensures each { IfOk result (λ v. (i : ℕ) → i < n → slice_index v.items i ≡ i) }
 {

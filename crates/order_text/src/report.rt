@@ -83,7 +83,7 @@ pub fn orders_text(
         → IsOrderOutput input.now limit text.items) }
 {
     let mut text = String::from_str(alloc, "journal\n")?;
-    write_journal(&mut text, input.gathered(), lines, replies)?;
+    write_journal(&mut text, input, lines, replies)?;
     write_header(&mut text, input)?;
     write_orders(&mut text, closing)?;
     text.push_str("finish\n")?;

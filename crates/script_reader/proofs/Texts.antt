@@ -18,3 +18,5 @@ pub mod Gathered
 pub mod Fronting
 -- how many lines are read, and which of them is faulty
 pub mod Counting
+-- texts that are read in pieces
+pub mod Piecing

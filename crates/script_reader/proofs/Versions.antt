@@ -134,7 +134,7 @@ module _ (v : Version) (b : ClearingBooks) where
   script_within : (script : List Part) → IsScriptOf v b script → IsScriptWithin v script
   script_within script h = λ k d less. operation_within _ (h.each k d less)
 
-  script_of : (script : List Part) → IsScriptFor b script → IsScriptWithin v script → IsScriptOf v b script
+  pub script_of : (script : List Part) → IsScriptFor b script → IsScriptWithin v script → IsScriptOf v b script
   script_of script h fits = record {
     few = h.few;
     few_alternatives = h.few_alternatives;

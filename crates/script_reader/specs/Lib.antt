@@ -9,6 +9,7 @@ pub mod Faults
 pub mod Rows
 pub mod FaultWords
 pub mod Journal
+pub mod Pieces
 pub mod Gathered
 pub mod Reading
 pub mod ListLanguage

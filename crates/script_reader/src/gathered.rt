@@ -14,76 +14,76 @@ pub struct Gathered<S> {
 impl<S> Model for Gathered<S> {
     ghost use Rattle.std.specs.Prelude.{List};
     ghost use Rattle.script_reader.specs.Gathered.{CallerOf};
-    ghost use Rattle.script_reader.specs.Inner.Gatherings.{callers_in, IsEven};
+    ghost use Rattle.script_reader.specs.Inner.Gatherings.{callers_in, IsWhole};
 
     ghost Value = { List (CallerOf S) };
 
     ghost view = { λ g. callers_in g.gathering };
 
-    ghost invariant = { λ g. IsEven g.gathering };
+    ghost invariant = { λ g. IsWhole g.gathering };
 }
 
 impl<S: Drop> Gathered<S> {
     ghost use Rattle.script_reader.specs.Gathered.{caller_at, count_scripts};
-    ghost use Rattle.script_reader.specs.Inner.Gatherings.{callers_in, IsEven};
+    ghost use Rattle.script_reader.specs.Inner.Gatherings.{callers_in, IsWhole};
 
     // The callers that were gathered.
     pub(crate) fn new(gathering: Gathering<S>) -> Gathered<S>
-        requires { IsEven gathering }
+        requires { IsWhole gathering }
         ensures { result ≡ callers_in gathering }
     {
         Gathered { gathering }
     }
 
     /// How many callers there are.
-    pub fn callers(&self) -> usize
+    pub fn callers(&self) -> u32
         ensures { result ≡ length self.now }
     {
-        self.gathering.names.len()
+        self.gathering.names.len() as u32
     }
 
-    /// The name of a caller.
-    pub fn name(&self, caller: usize) -> &str
+    /// The name of a caller, by its number from 0.
+    pub fn name(&self, caller: u32) -> &str
         requires { caller < length self.now }
         ensures { result.now ≡ (caller_at self.now caller).name }
     {
-        self.gathering.names[caller].as_str()
+        self.gathering.names[caller as usize].as_str()
     }
 
-    /// The number of the caller with a name.
-    pub fn caller_named(&self, name: &str) -> Option<usize>
+    /// The number of the caller with a name, from 0.
+    pub fn caller_named(&self, name: &str) -> Option<u32>
         ensures found { IfSome result (λ caller. (caller < length self.now)
             × ((caller_at self.now caller).name ≡ name.now)) }
         ensures none { IfNone result ((caller : ℕ) → caller < length self.now
             → (caller_at self.now caller).name ≢ name.now) }
     {
         match self.gathering.names.get_index_of(name) {
-            Some(place) => Some(place),
+            Some(place) => Some(place as u32),
             None => None,
         }
     }
 
-    /// How many scripts a caller has.
-    pub fn scripts_of(&self, caller: usize) -> usize
+    /// How many scripts a caller has, by its number from 0.
+    pub fn scripts_of(&self, caller: u32) -> u32
         requires { caller < length self.now }
         ensures { result ≡ length (caller_at self.now caller).scripts }
     {
-        self.gathering.scripts[caller].len()
+        self.gathering.scripts[caller as usize].len() as u32
     }
 
-    /// A script of a caller.
-    pub fn script(&self, caller: usize, index: usize) -> &S
+    /// A script of a caller, both by their numbers from 0.
+    pub fn script(&self, caller: u32, index: u32) -> &S
         requires there { caller < length self.now }
         requires index { index < length (caller_at self.now caller).scripts }
         ensures { slice_get (caller_at self.now caller).scripts index ≡ Some result.now }
     {
-        &self.gathering.scripts[caller][index]
+        &self.gathering.scripts[caller as usize][index as usize]
     }
 
     /// How many scripts there are of all callers.
-    pub fn scripts(&self) -> usize
+    pub fn scripts(&self) -> u32
         ensures { result ≡ count_scripts self.now }
     {
-        self.gathering.count
+        self.gathering.count as u32
     }
 }

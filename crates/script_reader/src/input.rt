@@ -50,7 +50,7 @@ impl Input {
         // What holds of all inputs.
         ensures valid { IsInput self.now }
     {
-        self.callers.callers() as u32
+        self.callers.callers()
     }
 
     /// The name of a caller, by its number from 0.
@@ -58,7 +58,7 @@ impl Input {
         requires { caller < length self.now.callers }
         ensures { result.now ≡ (caller_at self.now caller).name }
     {
-        self.callers.name(caller as usize)
+        self.callers.name(caller)
     }
 
     /// The number of the caller with a name, from 0.
@@ -68,10 +68,7 @@ impl Input {
         ensures none { IfNone result ((caller : ℕ) → caller < length self.now.callers
             → (caller_at self.now caller).name ≢ name.now) }
     {
-        match self.callers.caller_named(name) {
-            Some(place) => Some(place as u32),
-            None => None,
-        }
+        self.callers.caller_named(name)
     }
 
     /// How many scripts a caller has, by its number from 0.
@@ -79,7 +76,7 @@ impl Input {
         requires { caller < length self.now.callers }
         ensures { result ≡ length (caller_at self.now caller).scripts }
     {
-        self.callers.scripts_of(caller as usize) as u32
+        self.callers.scripts_of(caller)
     }
 
     /// A script of a caller, both by their numbers from 0.
@@ -88,13 +85,13 @@ impl Input {
         requires index { index < length (caller_at self.now caller).scripts }
         ensures { result.now ≡ script_at self.now caller index }
     {
-        self.callers.script(caller as usize, index as usize)
+        self.callers.script(caller, index)
     }
 
     /// How many scripts there are of all callers.
     pub fn scripts(&self) -> u32
         ensures { result ≡ count_scripts self.now.callers }
     {
-        self.callers.scripts() as u32
+        self.callers.scripts()
     }
 }

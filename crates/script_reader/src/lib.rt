@@ -15,6 +15,7 @@ pub mod lines;
 mod names;
 pub mod numbers;
 mod operations;
+pub mod pieces;
 mod reader;
 mod rows;
 mod scripts;

@@ -38,6 +38,13 @@ impl<'a> Lines<'a> {
         self.left.len()
     }
 
+    /// What is left.
+    pub fn rest(&self) -> &'a [u8]
+        ensures { result.now ≡ self.now }
+    {
+        self.left
+    }
+
     /// The words of the next line. Where no whole line is left, nothing changes.
     pub fn words(&mut self) -> Result<Words<'a>, Fault>
         ensures found { IfOk result

@@ -181,7 +181,7 @@ fn add_parts(
 
 // The parts of a script, and the line that ends it. What is wrong with its lines does not depend on the scripts before it,
 // nor on its caller.
-fn script_of(
+pub(crate) fn script_of(
     alloc: Global,
     lines: &mut Lines<'_>,
     version: Version,

@@ -8,14 +8,14 @@ use std::alloc::Global;
 const TEXT: &str = "steps 1 most 5\nscripts\nscript bob\nadd 9 5\nshow 1\nend\nscript ann\nend\n\
                     script bob\nshow 9\nend\nfinish\n";
 
-fn script_of(callers: &Gathered<StepScript>, caller: usize, index: usize) -> Option<&StepScript> {
+fn script_of(callers: &Gathered<StepScript>, caller: u32, index: u32) -> Option<&StepScript> {
     if caller >= callers.callers() || index >= callers.scripts_of(caller) {
         return None;
     }
     Some(callers.script(caller, index))
 }
 
-fn step_at(callers: &Gathered<StepScript>, caller: usize, index: usize, i: usize) -> Option<Step> {
+fn step_at(callers: &Gathered<StepScript>, caller: u32, index: u32, i: usize) -> Option<Step> {
     let script = script_of(callers, caller, index)?;
     if i >= script.len() {
         return None;
@@ -23,7 +23,7 @@ fn step_at(callers: &Gathered<StepScript>, caller: usize, index: usize, i: usize
     Some(script.at(i))
 }
 
-fn is_named(callers: &Gathered<StepScript>, caller: usize, name: &str, scripts: usize) -> bool {
+fn is_named(callers: &Gathered<StepScript>, caller: u32, name: &str, scripts: u32) -> bool {
     caller < callers.callers()
         && callers.name(caller) == name
         && callers.scripts_of(caller) == scripts

@@ -1,13 +1,15 @@
 -- The text of a day is an output.
 use Rattle.std.proofs.lemmas.List.{get_or-map, length-map}
-use Rattle.std.proofs.Common.{◌≡◌, ℕ, suc, ◌<◌, List, [], ◌∷◌, All, map, length, refl, sym, ap, ◌∙◌, subst}
+use Rattle.std.proofs.Common.{◌≡◌, ℕ, suc, ◌<◌, List, [], ◌∷◌, ◌++◌, All, map, length, codes, refl, sym, ap, ◌∙◌, subst}
 use Rattle.std.proofs.lemmas.List.Elements.{All-map}
 use Rattle.books_model.specs.declared.reply.Reply.{Reply}
 use Rattle.books_model.specs.Books.{ClearingBooks}
+use Rattle.script_reader.specs.declared.version.Version.TheVariants.{Two}
+use Rattle.script_reader.specs.Text.{line, books_lines, finish_line}
 use Rattle.script_reader.specs.Input.{ClearingInput}
 use Rattle.script_reader.specs.Journal.{IsJournal, IsPlace}
 use Rattle.books_report.specs.declared.line.Line.{Line}
-use Rattle.books_report.specs.Output.{Ran, places_run, replies_of, books_after, text_of, output_of, IsOutput}
+use Rattle.books_report.specs.Output.{Ran, places_run, replies_of, books_after, journal_lines, text_of, output_of, IsOutput}
 use Rattle.books_report.specs.Lines.{scripts_of}
 use Rattle.books_report.specs.Lines as lines
 use Rattle.txn_stores.specs.Journals.{line_of_done}
@@ -31,19 +33,31 @@ pub beside : (done : List Done) → scripts_of (map line_of_done done) (map (λ 
 beside [] = refl
 beside (item ∷ done) = ap (λ rans. ran_of_item item ∷ rans) (beside done)
 
+-- the lines of items are of scripts of the input
+pub places_of_lines : (input : ClearingInput) (done : List Done) → All (λ (item : Done). IsPlace input (days.place_of_item item)) done
+    → All (λ (l : Line). IsPlace input (lines.place_of_line l)) (map line_of_done done)
+places_of_lines input done each = All-map (λ (l : Line). IsPlace input (lines.place_of_line l)) line_of_done done each
+
 pub as_many : (done : List Done) → length (map line_of_done done) ≡ length (map (λ (item : Done). item.reply) done)
 as_many [] = refl
 as_many (item ∷ done) = ap (λ n. suc n) (as_many done)
 
 module _ (input : ClearingInput) (workers : ℕ) (day : DayEnd) (is : IsDayOf input workers day) where
-  -- each line is of a script of the input
-  pub lines_places : All (λ (l : Line). IsPlace input (lines.place_of_line l)) (map line_of_done day.done.items)
-  lines_places = All-map (λ (l : Line). IsPlace input (lines.place_of_line l)) line_of_done day.done.items
-      (All-from_map day.done.items is.is_day.journal.only)
+  -- each item is of a script of the input
+  pub items_places : All (λ (item : Done). IsPlace input (days.place_of_item item)) day.done.items
+  items_places = All-from_map day.done.items is.is_day.journal.only
     where
       All-from_map : (done : List Done) → All (IsPlace input) (days.places_of_items done) → All (λ (item : Done). IsPlace input (days.place_of_item item)) done
       All-from_map done all k d lt = subst (IsPlace input) (get_or-map days.place_of_item done k d (days.place_of_item d) lt)
           (all k (days.place_of_item d) (subst (λ n. k < n) (sym (length-map done days.place_of_item)) lt))
+
+  -- and so is each line
+  pub lines_places : All (λ (l : Line). IsPlace input (lines.place_of_line l)) (map line_of_done day.done.items)
+  lines_places = places_of_lines input day.done.items items_places
+
+  -- closing books are those that the interpreter leaves down the journal
+  closing_is : (closing : ClearingBooks) → closing ≡ closing_books input day → closing ≡ books_after input input.books (places_run (journal_of day))
+  closing_is closing closed = closed ∙ ap (books_after input input.books) (sym (places_same day.done.items))
 
   -- the books that it left close the output
   pub text_is : (text : List ℕ) (lines : List Line) (replies : List Reply) (closing : ClearingBooks)
@@ -51,9 +65,15 @@ module _ (input : ClearingInput) (workers : ℕ) (day : DayEnd) (is : IsDayOf in
       → text ≡ text_of input (scripts_of lines replies) closing → text ≡ output_of input (journal_of day)
   text_is text lines replies closing lines_are replies_are closed told =
       let scripts : scripts_of lines replies ≡ journal_of day = (λ i. scripts_of (lines_are i) (replies_are i)) ∙ beside day.done.items in
-      let books : closing ≡ books_after input input.books (places_run (journal_of day)) = closed
-      ∙ ap (books_after input input.books) (sym (places_same day.done.items)) in
-      told ∙ (λ i. text_of input (scripts i) (books i))
+      told ∙ (λ i. text_of input (scripts i) (closing_is closing closed i))
+
+  -- and so they do of lines that were written behind the first one
+  pub joined_is : (text head journal : List ℕ) (closing : ClearingBooks) → closing ≡ closing_books input day → head ≡ line (codes "journal" ∷ [])
+      → journal ≡ head ++ journal_lines input 1 (journal_of day) → text ≡ journal ++ books_lines Two closing ++ finish_line
+      → text ≡ output_of input (journal_of day)
+  joined_is text head journal closing closed begun written told =
+      told ∙ ap (λ t. t ++ books_lines Two closing ++ finish_line) (written ∙ ap (λ t. t ++ journal_lines input 1 (journal_of day)) begun)
+      ∙ ap (text_of input (journal_of day)) (closing_is closing closed)
 
   -- the text for the items of a day is an output, with each number of restarts below that of the workers
   pub day_output : (text : List ℕ) → text ≡ output_of input (journal_of day) → IsOutput input workers text

@@ -1,5 +1,7 @@
 -- the text of a day is an output
 pub mod Days
+-- lines of a journal that are written in two pieces
+pub mod Printed
 -- command lines of a few words
 pub mod Commands
 -- sums over the entries of a map, in the order of their keys

@@ -10,12 +10,15 @@ ghost use Rattle.twoplsf.specs.Answer.{Answers, IsRunOf, IsText, refused_line, s
 ghost use Rattle.twoplsf.specs.Day.{IsDayOf, closing_books, journal_of};
 
 use crate::day::run_day;
+use crate::printing::write_shared;
+use crate::reading::read_shared;
 use crate::status::Status;
 use books_model::Books;
+use books_report::journal::with_closing;
 use books_report::journal_text;
 use io_ends::OutOfMemory;
 use order_match::OrderDay;
-use script_reader::{Fault, Input, InputFault, read_input};
+use script_reader::{Fault, Input, InputFault};
 use std::alloc::Global;
 use std::sync::Wait;
 use std::thread::Threads;
@@ -121,6 +124,27 @@ pub(crate) fn output_of(
     journal_text(alloc, input, &lines, &replies, closing)
 }
 
+// The same text, the lines of its journal by as many threads as there are workers.
+fn shared_output<R: Threads + Sync>(
+    rt: &R,
+    alloc: Global,
+    input: &Input,
+    workers: u32,
+    day: &DayEnd,
+    closing: &Books,
+) -> Result<Vec<u8>, OutOfMemory>
+    requires day { IsDayOf input.now workers day.now }
+    requires closing { closing.now ≡ closing_books input.now day.now }
+    ensures { IfOk result (λ text. text.items ≡ output_of input.now (journal_of day.now)) }
+{
+    if workers < 2 {
+        return output_of(alloc, input, workers, day, closing);
+    }
+    let head = String::from_str(alloc, "journal\n")?;
+    let journal = write_shared(rt, alloc, head, input, 1, &day.done, workers)?;
+    with_closing(journal, closing)
+}
+
 // Runs the scripts of an input by so many workers, and makes the text of the journal.
 fn day_and_text<R: Threads + Wait + Sync, G: Gate + Sync>(
     rt: &R,
@@ -135,7 +159,7 @@ fn day_and_text<R: Threads + Wait + Sync, G: Gate + Sync>(
 {
     let day = run_day(rt, alloc, input, workers, gate)?;
     let closing = closing_of(alloc, input, workers, &day)?;
-    let text = output_of(alloc, input, workers, &day, &closing)?;
+    let text = shared_output(rt, alloc, input, workers, &day, &closing)?;
     Ok((day, text))
 }
 
@@ -150,7 +174,7 @@ pub fn run_answer<R: Threads + Wait + Sync, G: Gate + Sync>(
     requires workers { IsWithin 1 MOST_WORKERS workers }
     ensures { IfOk result (Answers Spells IsFirstFault (IsRunOf workers) bytes.now) }
 {
-    match read_input(alloc, bytes) {
+    match read_shared(rt, alloc, bytes, workers) {
         Ok(input) => {
             let (day, text) = day_and_text(rt, alloc, &input, workers, gate)?;
             Ok(Answer::Day { text, day })

@@ -11,11 +11,12 @@ ghost use Rattle.twoplsf.specs.Records.{IsRecordsText, PrintsRecordOutput};
 ghost use Rattle.twoplsf.specs.Ending.{EndsWith, exit_status};
 ghost use Rattle.twoplsf.specs.declared.status.Status.{Status};
 
-use crate::serve::serve;
+use crate::serve::{Served, serve};
 use crate::status::Status;
 use io_ends::{OutOfMemory, Sink, Source};
 use script_reader::limits::MOST_INPUT_BYTES;
 use std::alloc::Global;
+use std::mem;
 use std::sync::Wait;
 use std::thread::Threads;
 use txn_cells::Coded;
@@ -92,7 +93,17 @@ pub fn run_program<R: Threads + Wait + Sync, S: Source, K: Sink, G: Gate + Sync>
     ensures untouched { IfErr words (λ _. (source.new ≡ source.old) × (sink.new ≡ sink.old)) }
 {
     match words {
-        Ok(words) => serve(rt, alloc, &words, source, sink, gate).status.code(),
+        Ok(words) => last_code(serve(rt, alloc, &words, source, sink, gate)),
         Err(OutOfMemory) => Status::OutOfMemory.code(),
     }
+}
+
+// The number that a process ends with that was served so. What it holds is not freed, list by list: the process gives its
+// memory back as a whole.
+fn last_code(served: Served) -> u8
+    ensures { result ≡ exit_status served.status }
+{
+    let code = served.status.code();
+    mem::forget(served);
+    code
 }

@@ -155,7 +155,8 @@ fn run_script<W: Words>(
     ensures stands { OnOk result (InEachState W.Words W.Shape.Shape w.new (IsGoodFor shape.now)) }
     ensures hands_on { HandsOn W.Words w.old w.new result }
 {
-    let mut values = Values::new(alloc);
+    // Room is asked for before any lock is held.
+    let mut values = Values::with_room(alloc, script.len())?;
     let mut number = 1;
     for part in script {
         match part {

@@ -1,23 +1,27 @@
 -- What asking for the lock of a word comes to in an attempt, and what a load after it leaves.
-use Rattle.std.proofs.Common.{◌≡◌, ℕ, [], ◌∷◌, ◌++◌, Option, Some, refl, sym, ap, ◌∙◌, subst}
+use Rattle.std.proofs.Common.{◌≡◌, ◌≢◌, ℕ, true, false, List, [], ◌∷◌, ◌++◌, Option, Some, refl, sym, ap, ◌∙◌, subst}
 use Rattle.history_model.specs.declared.event.Cause.{Cause}
 use Rattle.history_model.specs.declared.event.Event.TheVariants.{Read}
 use Rattle.history_model.specs.declared.shape.Shape.{Ghosts as Shapes}
 use Rattle.history_model.specs.declared.view.View.{View}
 use Rattle.history_model.specs.Locks.{lock_of_word}
 use Rattle.history_model.specs.Traces.{Trace}
+use Rattle.history_model.specs.Views.{IsGranted}
+use Rattle.history_model.proofs.SetLemmas.{differ}
 use Rattle.word_table.specs.Desks.{DeskView}
+use Rattle.word_table.specs.Versions.{HasUse}
 use Rattle.lock_or_yield.specs.declared.turn.Intent.{Intent}
 use Rattle.lock_or_yield.specs.declared.turn.Intent.TheVariants as intent
 use Rattle.lock_or_yield.specs.declared.want.Got.TheVariants as got
 use Rattle.lock_or_yield.specs.Asking.{Asks, GainsAtMost}
 use Rattle.lock_or_yield.specs.Intents.{AsksSince, AsksTo, IsHeldTo}
 use Rattle.lock_or_yield.proofs.Wanting.{asks_none, locks_none}
+use Rattle.txn_commit.specs.declared.attempt.Asked.{Asked}
 use Rattle.txn_commit.specs.declared.attempt.Asked.TheVariants as asked
 use Rattle.txn_commit.specs.declared.attempt.Halt.{Halt}
 use Rattle.txn_commit.specs.declared.attempt.Halt.TheVariants as halt
-use Rattle.txn_commit.specs.Inner.Asking.{AsksForWord}
-use Rattle.txn_commit.proofs.Attempts.{gave_way_to}
+use Rattle.txn_commit.specs.Inner.Asking.{AsksForWord, FindsUse, UsesLock}
+use Rattle.txn_commit.proofs.Attempts.{gave_way_to, held_not_yield}
 use Rattle.txn_commit.proofs.Footprints.{met_cause}
 
 -- it was held before
@@ -57,12 +61,45 @@ module _ {S : Type 0} (shapes : Shapes S) (desk : DeskView S) (i : Intent) (a : 
     goes_on = λ no. absurd (no refl);
   }
 
+-- a lock that was held or is granted has its first use then, and one that had a use is held
+pub goes_on_used : (n a : ℕ) (v between new : View) (before after : Option Halt) (answer : Asked)
+    → AsksForWord n intent.Read a v before answer before between → answer ≢ asked.Yield → after ≡ before → FindsUse (lock_of_word a) between new
+    → UsesLock n a v before true after new
+goes_on_used n a v between new before after answer asks on same finds = record {
+  between = between;
+  answer = answer;
+  asks = subst (λ (h : Option Halt). AsksForWord n intent.Read a v before answer h between) (sym same) asks;
+  finds = λ _. (on, finds);
+  yields = λ e. absurd (differ true refl e);
+}
+
+pub used_before : (n a : ℕ) (v : View) (h : Option Halt) → v.met ≡ [] → IsGranted v (lock_of_word a) → HasUse v (lock_of_word a)
+    → UsesLock n a v h true h v
+used_before n a v h none held used = goes_on_used n a v v v h h asked.Held (asked_held n intent.Read a v h none held) held_not_yield refl (refl, used)
+
+-- an attempt that gives way has none
+pub yields_unused : (n a : ℕ) (v new : View) (before after : Option Halt) → AsksForWord n intent.Read a v before asked.Yield after new
+    → UsesLock n a v before false after new
+yields_unused n a v new before after asks = record {
+  between = new;
+  answer = asked.Yield;
+  asks = asks;
+  finds = λ e. absurd (differ false e refl);
+  yields = λ _. (refl, refl);
+}
+
 -- what asking for a lock, and a load after that, leave of the trace, of the words asked for and of locks
 pub asks_trace : (a : ℕ) (first asked : View) → Asks a first asked → asked.trace ≡ first.trace
 asks_trace a first asked asks = ap (λ (v : View). v.trace) asks.rest
 
 abbrev pub Loads : ℕ → ℕ → View → View → Type 0
 Loads a x asked loaded = loaded ≡ record asked { trace = asked.trace ++ Read a x ∷ []; uses = loaded.uses }
+
+-- a load under a lock whose first use was found after it was asked for
+pub used_load : (a x : ℕ) (between used loaded : View) → used ≡ record between { uses = used.uses }
+    → loaded ≡ record used { trace = used.trace ++ Read a x ∷ [] } → Loads a x between loaded
+used_load a x between used loaded finds event = event ∙ (ap (λ (v : View). record v { trace = v.trace ++ Read a x ∷ [] }) finds
+    ∙ ap (λ (uses : List (ℕ × ℕ)). record between { trace = between.trace ++ Read a x ∷ []; uses = uses }) (sym (ap (λ (v : View). v.uses) event)))
 
 pub load_trace : (a x : ℕ) (first asked loaded : View) → Asks a first asked → Loads a x asked loaded → loaded.trace ≡ first.trace ++ Read a x ∷ []
 load_trace a x first asked loaded asks event = ap (λ (v : View). v.trace) event ∙ ap (λ (t : Trace). t ++ Read a x ∷ []) (asks_trace a first asked asks)

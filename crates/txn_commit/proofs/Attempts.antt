@@ -30,7 +30,8 @@ use Rattle.txn_commit.specs.declared.attempt.Asked.TheVariants as asked
 use Rattle.txn_commit.specs.declared.attempt.Halt.{Halt}
 use Rattle.txn_commit.specs.declared.attempt.Halt.TheVariants as halt
 use Rattle.txn_commit.specs.declared.attempt.TheConstants.{UNDO_ROOM}
-use Rattle.txn_commit.specs.Attempts.{DidEvents, GaveWayTo, IsSoundAttempt, Runs, StaysInCall, stop_of}
+use Rattle.txn_commit.specs.Attempts.{DidEvents, GaveWayTo, IsSoundAttempt, Runs, StaysInCall, start_of, stop_of}
+use Rattle.txn_commit.specs.Inner.Asking.{HasBegun}
 use Rattle.txn_commit.proofs.Footprints.{footprint_events, footprint_loaded, footprint_yields}
 
 -- an attempt that gave way, and what the pass then had seen
@@ -201,6 +202,21 @@ module _ {S : Type 0} (word_count : S → ℕ) (good : S → List ℕ → Type 0
   pub noted_there : (i a was : ℕ) → slice_get log.list i ≡ Some (a, was)
       → (w : List ℕ) → Fits (word_count desk.shape) (good desk.shape) pass.view.trace w → slice_get (notes_of pass.view.trace w) i ≡ Some (a, was)
   noted_there i a was e w fit = ap (λ (l : Notes). slice_get l i) (sym (s.noted w fit)) ∙ e
+
+-- the same attempt, by other names
+pub begun_origin : {S : Type 0} (desk desk' : DeskView S) (name name' : ℕ) (began began' : PassView) → HasBegun desk name began desk' name' began'
+    → start_of desk' name' began' ≡ start_of desk name began
+begun_origin {S} desk desk' name name' began began' same = ap (λ (d : DeskView S). start_of d name' began') same.0
+    ∙ (ap (λ (n : ℕ). start_of desk n began') same.1 ∙ ap (λ (p : PassView). start_of desk name p) same.2)
+
+pub sound_as : {S : Type 0} (word_count : S → ℕ) (good : S → List ℕ → Type 0) (desk desk' : DeskView S) (began began' pass : PassView)
+    (log log' : Room) (halted halted' : Option Halt) → desk' ≡ desk → began' ≡ began → log' ≡ log → halted' ≡ halted
+    → IsSoundAttempt word_count good desk began pass log halted → IsSoundAttempt word_count good desk' began' pass log' halted'
+sound_as {S} word_count good desk desk' began began' pass log log' halted halted' ed eb el eh s =
+    subst (λ (d : DeskView S). IsSoundAttempt word_count good d began' pass log' halted') (sym ed)
+    (subst (λ (p : PassView). IsSoundAttempt word_count good desk p pass log' halted') (sym eb)
+    (subst (λ (l : Room). IsSoundAttempt word_count good desk began pass l halted') (sym el)
+    (subst (λ (h : Option Halt). IsSoundAttempt word_count good desk began pass log h) (sym eh) s)))
 
 module _ {S : Type 0} (word_count : S → ℕ) (good : S → List ℕ → Type 0) (desk : DeskView S) (began : PassView) where
   -- the attempt asked for a lock and gave way

@@ -5,9 +5,9 @@ use Rattle.history_model.specs.declared.TheConstants.{LOCKS}
 use Rattle.history_model.specs.declared.view.View.{View}
 use Rattle.history_model.specs.declared.view.Phase.{Phase}
 use Rattle.history_model.specs.declared.view.Phase.TheVariants.{Idle, Running, Yielding, Withdrawing, Releasing}
-use Rattle.history_model.specs.Views.{HasBit, HasClaim}
+use Rattle.history_model.specs.Views.{HasClaim}
 use Rattle.history_model.proofs.SetLemmas.{has-without}
-use Rattle.locks_rule.specs.Steps.{released_phase, release_writer_action, clear_read_bit_action}
+use Rattle.locks_rule.specs.Steps.{released_phase, release_writer_action}
 use Rattle.word_table.specs.Calls.{paid}
 use Rattle.word_table.specs.Least.{IsLeast}
 use Rattle.txn_commit.specs.Inner.Releasing.{Releases, turns_left}
@@ -86,15 +86,20 @@ claim_given_up v new j k e = subst (λ (w : View). Releases v w) (sym e) (record
 pub claims_without : (v new : View) (j k l : ℕ) → new ≡ (release_writer_action j k (paid k v)).view 0 → HasClaim new l → HasClaim v l
 claims_without v new j k l e h = (has-without l k v.claims (subst (λ (w : View). HasClaim w l) e h)).1
 
--- a step that clears a bit
-pub bit_cleared : (v new : View) (j k : ℕ) → new ≡ (clear_read_bit_action j k v).view 0 → Releases v new
-bit_cleared v new j k e = subst (λ (w : View). Releases v w) (sym e) (record { rest = refl; phase = inr refl })
-
-pub claims_stay : (v new : View) (j k : ℕ) → new ≡ (clear_read_bit_action j k v).view 0 → new.claims ≡ v.claims
-claims_stay v new j k e = ap (λ (w : View). w.claims) e
-
-pub bits_without : (v new : View) (j k l : ℕ) → new ≡ (clear_read_bit_action j k v).view 0 → HasBit new l → HasBit v l
-bits_without v new j k l e h = (has-without l k v.bits (subst (λ (w : View). HasBit w l) e h)).1
+-- the same where bits and grants alone were given up
+pub bits_given_up : (v new : View) → new ≡ record v { phase = new.phase; bits = new.bits; reads = new.reads }
+    → (new.phase ≡ v.phase) ⊎ (new.phase ≡ released_phase v.phase) → Releases v new
+bits_given_up v new e phase = record {
+  rest = e ∙ ap (λ (u : View). record v {
+    phase = new.phase;
+    bits = new.bits;
+    reads = new.reads;
+    claims = u.claims;
+    scans = u.scans;
+    owed = u.owed;
+  }) (sym e);
+  phase = phase;
+}
 
 -- what was undone stays so, or the call has ended
 pub still_undone : (v new : View) → Releases v new → (v.undo ≡ []) ⊎ (v.phase ≡ Releasing) → (new.undo ≡ []) ⊎ (new.phase ≡ Releasing)

@@ -3,15 +3,16 @@
 ghost use Rattle.std.specs.Prelude.{◌≡◌, ◌+◌, ◌<◌, ◌≤◌, [], ◌∷◌, None, length, OnOk, OnErr};
 ghost use Rattle.history_model.specs.declared.view.View.{View};
 ghost use Rattle.history_model.specs.Locks.{lock_of_word};
-ghost use Rattle.history_model.specs.Views.{HasReadGrant};
+ghost use Rattle.history_model.specs.Views.{IsGranted};
 ghost use Rattle.lock_or_yield.specs.Asking.{AsksToRead, AsksToWrite};
 ghost use Rattle.lock_or_yield.specs.Intents.{MeetsFirst};
 ghost use Rattle.word_table.specs.Desks.{RuleHolds};
+ghost use Rattle.word_table.specs.Versions.{HasUse};
 ghost use Rattle.history_model.specs.Marks.{count_writes};
 ghost use Rattle.history_model.specs.Traces.{Begins};
 ghost use Rattle.txn_words.specs.Marks.{PutsBack, TakesBack};
 ghost use Rattle.txn_commit.specs.Attempts.{DidEvents, IsSoundAttempt};
-ghost use Rattle.txn_commit.specs.Inner.Asking.{AsksForWord};
+ghost use Rattle.txn_commit.specs.Inner.Asking.{AsksForWord, FindsUse, HasBegun, UsesLock};
 
 use history_model::{Cause, Phase, Shape, lock_of};
 use io_ends::OutOfMemory;
@@ -89,63 +90,122 @@ enum Asked {
     Yield,
 }
 
-// Goes on asking for the lock of word a, to read it, once the seat `other` was met.
+// The gate is told that the lock of word a is held, to read it, and the lock's version is found.
+#[inline(always)]
+fn use_lock<S: Shape, G: Gate, R: Wait>(attempt: &mut Attempt<S, G, R>, a: u64)
+    requires desk { attempt.old.pass.now.table ≡ attempt.old.desk.now.table }
+    requires phase { attempt.old.pass.now.view.phase ≡ Phase.Running }
+    requires granted { IsGranted attempt.old.pass.now.view (lock_of_word a) }
+    requires unused { ¬ HasUse attempt.old.pass.now.view (lock_of_word a) }
+    ensures begun { HasBegun attempt.old.desk.now attempt.old.pass.ghost_name
+        attempt.old.began.value attempt.new.desk.now attempt.new.pass.ghost_name attempt.new.began.value }
+    ensures log { attempt.new.undo ≡ attempt.old.undo }
+    ensures halt { attempt.new.halt ≡ attempt.old.halt }
+    ensures table { attempt.new.pass.now.table ≡ attempt.old.pass.now.table }
+    ensures finds { FindsUse (lock_of_word a) attempt.old.pass.now.view attempt.new.pass.now.view }
+{
+    tell(
+        attempt,
+        Stage::Granted {
+            word: a,
+            write: false,
+        },
+    );
+    attempt.desk.find_new(attempt.pass, a);
+}
+
+// The first use of the lock of word a, once the seat `other` was met: whether the attempt goes on, or gives way.
 #[cold]
 #[inline(never)]
-fn go_on_to_read<R: Wait, S: Shape>(
-    rt: &R,
-    desk: &Desk<S>,
-    pass: &mut Pass<S>,
+fn first_use_met<S: Shape, G: Gate, R: Wait>(
+    attempt: &mut Attempt<S, G, R>,
     a: u64,
     other: u32,
-    halt: &mut Option<Halt>,
-) -> Asked
-    requires desk { pass.old.table ≡ desk.now.table }
-    requires phase { pass.old.view.phase ≡ Phase.Running }
-    requires word { a < length pass.old.view.base }
-    requires other { other < pass.old.view.seats }
-    requires met { pass.old.view.met ≡ other ∷ [] }
-    ensures desk { pass.new.table ≡ pass.old.table }
-    ensures asked { (old : View)
-        → MeetsFirst Intent.Read (RuleHolds S.Shape desk.now) a other old pass.old.view
-        → AsksForWord desk.now.seats Intent.Read a old halt.old result halt.new pass.new.view }
+) -> bool
+    requires desk { attempt.old.pass.now.table ≡ attempt.old.desk.now.table }
+    requires phase { attempt.old.pass.now.view.phase ≡ Phase.Running }
+    requires word { a < length attempt.old.pass.now.view.base }
+    requires met { (old : View) × MeetsFirst Intent.Read (RuleHolds S.Shape attempt.old.desk.now) a
+        other old attempt.old.pass.now.view }
+    requires unused { ¬ HasUse attempt.old.pass.now.view (lock_of_word a) }
+    ensures begun { HasBegun attempt.old.desk.now attempt.old.pass.ghost_name
+        attempt.old.began.value attempt.new.desk.now attempt.new.pass.ghost_name attempt.new.began.value }
+    ensures log { attempt.new.undo ≡ attempt.old.undo }
+    ensures table { attempt.new.pass.now.table ≡ attempt.old.pass.now.table }
+    ensures uses { (old : View)
+        → MeetsFirst Intent.Read (RuleHolds S.Shape attempt.old.desk.now) a other old
+        attempt.old.pass.now.view
+        → UsesLock attempt.old.desk.now.seats a old attempt.old.halt result attempt.new.halt
+        attempt.new.pass.now.view }
 {
-    match go_on(rt, desk, pass, a, Intent::Read, other) {
-        Got::Granted => Asked::Granted,
+    match go_on(
+        attempt.rt,
+        attempt.desk,
+        attempt.pass,
+        a,
+        Intent::Read,
+        other,
+    ) {
+        Got::Granted => {
+            use_lock(attempt, a);
+            true
+        }
         Got::Yield(cause) => {
-            *halt = Some(Halt::Yield(cause));
-            Asked::Yield
+            attempt.halt = Some(Halt::Yield(cause));
+            false
         }
     }
 }
 
-// Asks for the lock of word a, to read it, where it is not held so. It stands by itself, so that a read whose lock is
-// held is short enough to stand where it is called; and what comes once a seat was met stands by itself too, so that a
-// lock that is granted costs few instructions.
+// The first use of the lock of word a, to read it: it is asked for, where it is not held, and its version is found. It
+// answers whether the attempt goes on, or gives way. It stands by itself, so that a read whose lock is in use is short
+// enough to stand where it is called; and what comes once a seat was met stands by itself too, so that a lock that is
+// granted costs few instructions.
 #[inline(never)]
-fn ask_to_read<R: Wait, S: Shape>(
-    rt: &R,
-    desk: &Desk<S>,
-    pass: &mut Pass<S>,
-    a: u64,
-    halt: &mut Option<Halt>,
-) -> Asked
-    requires desk { pass.old.table ≡ desk.now.table }
-    requires phase { pass.old.view.phase ≡ Phase.Running }
-    requires word { a < length pass.old.view.base }
-    requires judged { pass.old.view.met ≡ [] }
-    requires unheld { ¬ HasReadGrant pass.old.view (lock_of_word a) }
-    ensures desk { pass.new.table ≡ pass.old.table }
-    ensures asked { AsksForWord desk.now.seats Intent.Read a pass.old.view halt.old result halt.new
-        pass.new.view }
+fn first_use<S: Shape, G: Gate, R: Wait>(attempt: &mut Attempt<S, G, R>, a: u64) -> bool
+    requires desk { attempt.old.pass.now.table ≡ attempt.old.desk.now.table }
+    requires phase { attempt.old.pass.now.view.phase ≡ Phase.Running }
+    requires word { a < length attempt.old.pass.now.view.base }
+    requires judged { attempt.old.pass.now.view.met ≡ [] }
+    requires unused { ¬ HasUse attempt.old.pass.now.view (lock_of_word a) }
+    ensures begun { HasBegun attempt.old.desk.now attempt.old.pass.ghost_name
+        attempt.old.began.value attempt.new.desk.now attempt.new.pass.ghost_name attempt.new.began.value }
+    ensures log { attempt.new.undo ≡ attempt.old.undo }
+    ensures table { attempt.new.pass.now.table ≡ attempt.old.pass.now.table }
+    ensures uses { UsesLock attempt.old.desk.now.seats a attempt.old.pass.now.view attempt.old.halt
+        result attempt.new.halt attempt.new.pass.now.view }
 {
-    if pass.has_write(lock_of(a)) {
-        return Asked::Held;
+    if attempt.pass.is_granted(lock_of(a)) {
+        attempt.desk.find_new(attempt.pass, a);
+        return true;
     }
-    match desk.share_new(pass, a) {
-        Shared::Granted => Asked::Granted,
-        Shared::Met(other) => go_on_to_read(rt, desk, pass, a, other, halt),
+    match attempt.desk.share_new(attempt.pass, a) {
+        Shared::Granted => {
+            use_lock(attempt, a);
+            true
+        }
+        Shared::Met(other) => first_use_met(attempt, a, other),
     }
+}
+
+// The attempt has a use of the lock of word a by now, or gives way. Without a use it asks for one.
+#[inline(always)]
+fn use_or_yield<S: Shape, G: Gate, R: Wait>(attempt: &mut Attempt<S, G, R>, a: u64) -> bool
+    requires desk { attempt.old.pass.now.table ≡ attempt.old.desk.now.table }
+    requires phase { attempt.old.pass.now.view.phase ≡ Phase.Running }
+    requires word { a < length attempt.old.pass.now.view.base }
+    requires judged { attempt.old.pass.now.view.met ≡ [] }
+    ensures begun { HasBegun attempt.old.desk.now attempt.old.pass.ghost_name
+        attempt.old.began.value attempt.new.desk.now attempt.new.pass.ghost_name attempt.new.began.value }
+    ensures log { attempt.new.undo ≡ attempt.old.undo }
+    ensures table { attempt.new.pass.now.table ≡ attempt.old.pass.now.table }
+    ensures uses { UsesLock attempt.old.desk.now.seats a attempt.old.pass.now.view attempt.old.halt
+        result attempt.new.halt attempt.new.pass.now.view }
+{
+    if attempt.pass.has_use(lock_of(a)) {
+        return true;
+    }
+    first_use(attempt, a)
 }
 
 // Asks for the lock of word a, to write it, where it is not held so.
@@ -288,21 +348,10 @@ impl<'a, S: Shape, G: Gate, R: Wait> Words for Attempt<'a, S, G, R> {
         ensures asked { GainsAtMost a self.old.pass.now.view.asked self.new.pass.now.view.asked }
         ensures reads { AsksToRead (lock_of_word a) self.old.pass.now.view self.new.pass.now.view }
     {
-        if self.pass.has_read(lock_of(a)) {
-            return Ok(self.desk.load(self.pass, a));
+        if !use_or_yield(self, a) {
+            return Err(Stop::Yield);
         }
-        match ask_to_read(self.rt, self.desk, self.pass, a, &mut self.halt) {
-            Asked::Held => {}
-            Asked::Granted => {
-                let stage = Stage::Granted {
-                    word: a,
-                    write: false,
-                };
-                self.gate.at(self.rt, self.caller.at(stage));
-            }
-            Asked::Yield => return Err(Stop::Yield),
-        }
-        Ok(self.desk.load(self.pass, a))
+        Ok(self.desk.load_used(self.pass, a))
     }
 
     /// Puts `v` into the word at place `a`, under its exclusive lock, once its old value is noted. It finds no memory

@@ -1,6 +1,6 @@
 //! Lists of jobs on workers, and what was run in the order that is rebuilt from what it used.
 
-ghost use Rattle.std.specs.Prelude.{◌≡◌, ◌≤◌, ◌<◌, ℕ, All, length, slice_get, Some, IfOk};
+ghost use Rattle.std.specs.Prelude.{◌≡◌, ◌≤◌, ◌<◌, ℕ, All, length, slice_get, Some, IfOk, IsTrue};
 ghost use Rattle.history_model.specs.Fitting.{IsGood};
 ghost use Rattle.word_table.specs.declared.limits.TheConstants.{LAST_CALL, MOST_PASSES, MOST_WORDS};
 ghost use Rattle.word_table.specs.Closing.{AreRecords, IsCoherent, IsLegalInEachOrder};
@@ -15,12 +15,24 @@ use std::alloc::Global;
 use std::sync::Wait;
 use std::thread::Threads;
 
-/// The items at the places, in their order.
-pub fn arrange<T: Drop>(
-    alloc: Global,
-    items: Vec<T>,
-    places: &[usize],
-) -> Result<Vec<T>, OutOfMemory>
+// Whether these are so many places in turn, from the first on.
+fn are_in_turn(places: &[usize], count: usize) -> bool
+    ensures count { IsTrue result → length places.now ≡ count }
+    ensures each { IsTrue result → (i p : ℕ) → slice_get places.now i ≡ Some p → p ≡ i }
+{
+    if places.len() != count {
+        return false;
+    }
+    for place in 0..count {
+        if places[place] != place {
+            return false;
+        }
+    }
+    true
+}
+
+// The items at the places, in their order, in a list of their own.
+fn take_out<T: Drop>(alloc: Global, items: Vec<T>, places: &[usize]) -> Result<Vec<T>, OutOfMemory>
     requires within { (i p : ℕ) → slice_get places.now i ≡ Some p → p < length items.items }
     requires once { (i j p : ℕ) → slice_get places.now i ≡ Some p
         → slice_get places.now j ≡ Some p → i ≡ j }
@@ -38,6 +50,23 @@ pub fn arrange<T: Drop>(
         arranged.push(item)?;
     }
     Ok(arranged)
+}
+
+/// The items at the places, in their order. Where they stand so already, they are not moved.
+pub fn arrange<T: Drop>(
+    alloc: Global,
+    items: Vec<T>,
+    places: &[usize],
+) -> Result<Vec<T>, OutOfMemory>
+    requires within { (i p : ℕ) → slice_get places.now i ≡ Some p → p < length items.items }
+    requires once { (i j p : ℕ) → slice_get places.now i ≡ Some p
+        → slice_get places.now j ≡ Some p → i ≡ j }
+    ensures { IfOk result (λ arranged. AreAt items.items places.now arranged.items) }
+{
+    if are_in_turn(places, items.len()) {
+        return Ok(items);
+    }
+    take_out(alloc, items, places)
 }
 
 /// Runs the jobs of all callers as `run_lists` does, and puts what was run in the order that is rebuilt from what it

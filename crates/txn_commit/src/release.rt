@@ -25,23 +25,6 @@ fn release_claims<S: Shape>(desk: &Desk<S>, pass: &mut Pass<S>)
     }
 }
 
-// Clears all read bits, the least lock first.
-fn release_bits<S: Shape>(desk: &Desk<S>, pass: &mut Pass<S>)
-    requires desk { pass.old.table ≡ desk.now.table }
-    requires undone { (pass.old.view.undo ≡ []) ⊎ (pass.old.view.phase ≡ Phase.Releasing) }
-    requires begun { pass.old.view.phase ≢ Phase.Idle }
-    requires no_claim { (k : ℕ) → ¬ HasClaim pass.old.view k }
-    ensures desk { pass.new.table ≡ pass.old.table }
-    ensures released { Releases pass.old.view pass.new.view }
-    ensures nothing { HoldsNothing pass.new.view }
-{
-    let mut next = pass.next_bit();
-    while let Some(lock) = next {
-        desk.unshare(pass, lock);
-        next = pass.next_bit_from(lock / 64 * 64);
-    }
-}
-
 // Gives up all locks. It takes no memory.
 pub(crate) fn release_all<S: Shape>(desk: &Desk<S>, pass: &mut Pass<S>)
     requires desk { pass.old.table ≡ desk.now.table }
@@ -52,5 +35,5 @@ pub(crate) fn release_all<S: Shape>(desk: &Desk<S>, pass: &mut Pass<S>)
     ensures nothing { HoldsNothing pass.new.view }
 {
     release_claims(desk, pass);
-    release_bits(desk, pass);
+    desk.unshare_all(pass);
 }

@@ -27,6 +27,7 @@ pub(crate) fn side(left: bool) -> u64
 }
 
 /// The node that the word at the place names, if it names one.
+#[inline(always)]
 pub(crate) fn look<W: Words>(w: &mut W, map: &TreeMap, place: u64) -> Result<Option<Named>, Stop>
     requires ready { IsReady W.Words w.old }
     requires top { InEachState W.Words W.Shape.Shape w.old (HasTop map.now place) }
@@ -53,6 +54,7 @@ pub(crate) fn look<W: Words>(w: &mut W, map: &TreeMap, place: u64) -> Result<Opt
 }
 
 /// Looks for the key, from the root downwards.
+#[inline(always)]
 pub(crate) fn find<W: Words>(w: &mut W, map: &TreeMap, key: u64) -> Result<Option<Found>, Stop>
     requires ready { IsReady W.Words w.old }
     requires order { InEachState W.Words W.Shape.Shape w.old (HasMap (tree_part map.now)) }

@@ -22,7 +22,7 @@ use txn_alloc::arena::RIGHT;
 use txn_words::{Stop, Words};
 
 /// How many nodes a walk keeps at most.
-pub(crate) const KEPT: usize = 512;
+pub(crate) const KEPT: usize = 256;
 
 /// How far a walk has come.
 #[derive(Drop)]

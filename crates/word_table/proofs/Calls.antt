@@ -8,6 +8,8 @@ pub mod Versioning
 pub mod Answering
 -- what a step on locks leaves: the call, and every lock that was held
 pub mod Staying
+-- read bits given up, by rising lock
+pub mod Unsharing
 -- what judge comes to
 pub mod Judging
 -- what a call on values tells beside its step: that some good words fit the trace, and what a commit came to

@@ -11,17 +11,17 @@ use Rattle.history_model.specs.Counts.{is_open}
 use Rattle.history_model.specs.Legal.{IsIn}
 use Rattle.history_model.specs.Locks.{lock_of_word}
 use Rattle.history_model.specs.Sets.{has, has_pair, flag}
-use Rattle.history_model.specs.Table.{row_word, writer_word, value_word, table_words}
+use Rattle.history_model.specs.Table.{row_word, writer_word, version_word, value_word, table_words}
 use Rattle.history_model.specs.Traces.{Trace, Touches}
 use Rattle.history_model.specs.Undoing.{Notes}
-use Rattle.history_model.specs.Views.{HasBit, HasClaim}
+use Rattle.history_model.specs.Views.{HasBit, HasClaim, IsGranted}
 use Rattle.locks_rule.specs.Splits.{opening_view}
 use Rattle.locks_rule.specs.Versions.{locks_of}
 use Rattle.word_table.specs.declared.copies.CallCopy.{CallCopy}
 use Rattle.word_table.specs.declared.copies.LockCopy.{LockCopy}
 use Rattle.word_table.specs.declared.copies.VersionCopy.{VersionCopy}
 use Rattle.word_table.specs.declared.limits.TheConstants.{MOST_PASSES, MOST_WORDS}
-use Rattle.word_table.specs.Versions.{locks_found}
+use Rattle.word_table.specs.Versions.{HasUse, locks_found}
 
 -- a pass: the table that it is of, what it knows, and how many steps it took
 pub record PassView : Type 0 where
@@ -94,12 +94,17 @@ pub record HoldsNothing (v : View) : Type 0 where
   pub no_bit : (k : ℕ) → ¬ HasBit v k
   pub no_claim : (k : ℕ) → ¬ HasClaim v k
 
+-- an attempt that runs holds each lock that it has a use of
+abbrev pub HoldsUsed : View → Type 0
+HoldsUsed v = v.phase ≡ Running → (k : ℕ) → HasUse v k → IsGranted v k
+
 -- what a pass keeps is a copy of what its seat knows
 pub record IsCopy (call : CallCopy) (locks : LockCopy) (table : TableId) (me : Me (Unit {0}) View) : Type 0 where
   pub slots : me.1 ≡ []
   pub others_are : ShowsOthers call.others call.seats call.who
   pub row_is : call.row ≡ row_word call.seats call.who 0
   pub writers_are : call.writers ≡ writer_word call.seats 0
+  pub versions_are : call.versions ≡ version_word call.seats 0
   pub values_are : call.values ≡ value_word call.seats 0
   pub below : call.who < call.seats
   pub few : call.seats ≤ MOST_PASSES
@@ -109,3 +114,4 @@ pub record IsCopy (call : CallCopy) (locks : LockCopy) (table : TableId) (me : M
   pub locks_are : IsLockCopy locks me.0
   -- between calls
   pub rests : me.0.phase ≡ Idle → HoldsNothing me.0
+  pub holds_used : HoldsUsed me.0

@@ -9,6 +9,8 @@ pub mod Closing
 pub mod Gathering
 pub mod Unscanned
 pub mod Calls
+pub mod Unsharing
+pub mod Inner
 pub mod Runs
 pub mod Meetings
 pub mod Words

@@ -104,6 +104,20 @@ pub(crate) fn least_from(row: &[u64; 16], from: u32) -> Option<u32>
     None
 }
 
+/// The least lock of the set that has its bit in the word i.
+#[inline(always)]
+pub(crate) fn least_in(row: &[u64; 16], i: u32) -> Option<u32>
+    requires { i < 16 }
+    ensures { (locks : List ℕ) → ShowsLocks row.now locks
+        → IsLeast (λ k. (k / 64 ≡ i) × (has k locks ≡ true)) result }
+{
+    let word = row[i as usize];
+    if word == 0 {
+        return None;
+    }
+    Some(64 * i + word.trailing_zeros())
+}
+
 /// How many locks the set has.
 pub(crate) fn count(row: &[u64; 16]) -> u32
     ensures { result ≡ sum_by count_ones row.now }

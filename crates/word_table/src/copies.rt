@@ -6,8 +6,9 @@ ghost use Rattle.word_table.specs.Uses.{IsCopied};
 use crate::bits;
 use history_model::{LOCKS, LockUse, Phase};
 
-/// The call: how many seats there are, the own number, the others as a bit for each, where the own row, the writer words
-/// and the values begin in the table, how many calls were begun, where the pass is in its calls, and the call's timestamp.
+/// The call: how many seats there are, the own number, the others as a bit for each, where the own row, the writer
+/// words, the versions and the values begin in the table, how many calls were begun, where the pass is in its calls,
+/// and the call's timestamp.
 #[derive(Clone, Copy)]
 pub(crate) struct CallCopy {
     pub(crate) seats: u32,
@@ -15,6 +16,7 @@ pub(crate) struct CallCopy {
     pub(crate) others: u64,
     pub(crate) row: u32,
     pub(crate) writers: u32,
+    pub(crate) versions: u32,
     pub(crate) values: u32,
     pub(crate) calls: u32,
     pub(crate) phase: Phase,

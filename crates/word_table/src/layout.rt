@@ -64,12 +64,13 @@ pub(crate) fn place_of_commit(seats: u32, seat: u32) -> usize
 }
 
 /// The word that has a lock's version.
-pub(crate) fn place_of_version(seats: u32, lock: u32) -> usize
-    requires seats { seats ≤ MOST_PASSES }
+pub(crate) fn place_of_version(call: &CallCopy, lock: u32) -> usize
+    requires seats { call.now.seats ≤ MOST_PASSES }
+    requires versions { call.now.versions ≡ version_word call.now.seats 0 }
     requires lock { lock < LOCKS }
-    ensures { result ≡ version_word seats lock }
+    ensures { result ≡ version_word call.now.seats lock }
 {
-    2 + 19 * seats as usize + LOCKS as usize + lock as usize
+    (call.versions + lock) as usize
 }
 
 /// The word that has a value of the memory.

@@ -4,7 +4,7 @@
 //! contracts alone. What a pass tells stands here; its steps stand in modules of their own, by what they are on: locks,
 //! versions, values, the clock, and notes.
 
-ghost use Rattle.std.specs.Prelude.{◌≡◌, ◌↔◌, ◌⊎◌, ◌<◌, ◌≤◌, ◌+◌, true, IsTrue, IfSome, IsNone, length, [], ◌∷◌, replicate, ℕ};
+ghost use Rattle.std.specs.Prelude.{◌≡◌, ◌↔◌, ◌⊎◌, ◌<◌, ◌≤◌, ◌+◌, ◌/◌, true, IsTrue, IfSome, IsNone, length, [], ◌∷◌, replicate, ℕ};
 ghost use Rattle.history_model.specs.Legal.{IsIn};
 ghost use Rattle.history_model.specs.Sets.{has};
 ghost use Rattle.history_model.specs.Table.{table_words};
@@ -79,6 +79,7 @@ impl<S: Shape> Pass<S> {
             others: bits::all_but(seats, who),
             row: 2 + 2 * seats + 16 * who,
             writers: 2 + 18 * seats,
+            versions: 2 + 19 * seats + LOCKS as u32,
             values: place_of_values(seats) as u32,
             calls: 0,
             phase: Phase::Idle,
@@ -179,6 +180,18 @@ impl<S: Shape> Pass<S> {
         bits::test(&self.locks.reads, k)
     }
 
+    /// Whether the attempt has a use of the lock: it has found the version. While the attempt runs, it holds each such
+    /// lock.
+    #[inline(always)]
+    pub fn has_use(&self, k: u32) -> bool
+        requires { k < LOCKS }
+        ensures used { IsTrue result ↔ HasUse self.now.view k }
+        ensures granted { IsTrue result → self.now.view.phase ≡ Phase.Running
+            → IsGranted self.now.view k }
+    {
+        bits::test(&self.locks.versions.used, k)
+    }
+
     /// The least other seat that was not yet found clear for the own claim on the lock. Without a claim there is none.
     pub fn unscanned(&self, k: u32) -> Option<u32>
         requires { k < LOCKS }
@@ -204,8 +217,8 @@ impl<S: Shape> Pass<S> {
         self.unscanned(k).is_none()
     }
 
-    // Whether the lock is held at all.
-    pub(crate) fn is_granted(&self, k: u32) -> bool
+    /// Whether the lock is held at all, to read or to write.
+    pub fn is_granted(&self, k: u32) -> bool
         requires { k < LOCKS }
         ensures { IsTrue result ↔ IsGranted self.now.view k }
     {
@@ -258,12 +271,13 @@ impl<S: Shape> Pass<S> {
         bits::least_from(&self.locks.bits, 0)
     }
 
-    /// The least lock from `from` on whose read bit the pass has set. So who clears all bits goes on from the last one.
-    pub fn next_bit_from(&self, from: u32) -> Option<u32>
-        requires { from < LOCKS }
-        ensures least { IsLeast (λ k. (from ≤ k) × HasBit self.now.view k) result }
+    // The least lock of the word i of the own row whose read bit the pass has set.
+    #[inline(always)]
+    pub(crate) fn bit_in(&self, i: u32) -> Option<u32>
+        requires { i < 16 }
+        ensures least { IsLeast (λ k. (k / 64 ≡ i) × HasBit self.now.view k) result }
         ensures lock { IfSome result (λ k. k < LOCKS) }
     {
-        bits::least_from(&self.locks.bits, from)
+        bits::least_in(&self.locks.bits, i)
     }
 }

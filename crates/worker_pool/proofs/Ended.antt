@@ -13,9 +13,6 @@ use Rattle.history_model.specs.declared.entry.Entry.{Entry}
 use Rattle.history_model.specs.Fitting.{IsGood}
 use Rattle.history_model.specs.Histories.{replay}
 use Rattle.history_model.specs.Legal.{IsIn}
-use Rattle.history_model.specs.Traces.{after}
-use Rattle.history_model.proofs.ListPlaces.{map_at}
-use Rattle.books_model.specs.declared.reply.Reply.{Reply}
 use Rattle.books_model.specs.Laws.{RefusedChangesNothing}
 use Rattle.script_reader.specs.Input.{ClearingInput}
 use Rattle.script_reader.specs.Journal.{Place, IsPlace, IsJournal}

@@ -1,6 +1,6 @@
 -- The interpreter, run down the items of a day: by the lemma for every store it replies what they reply, and the words before
 -- and after each stand for its books.
-use Rattle.std.proofs.Common.{◌≡◌, ◌≢◌, ℕ, ◌≤◌, Bool, true, false, List, [], ◌∷◌, map, length, take, refl, sym, ap, ◌∙◌, subst, arith, true≢false}
+use Rattle.std.proofs.Common.{◌≡◌, ◌≢◌, ℕ, ◌≤◌, Bool, true, false, List, [], ◌∷◌, map, length, take, refl, sym, ap, ◌∙◌, subst, true≢false}
 use Rattle.history_model.specs.Fitting.{IsGood}
 use Rattle.history_model.specs.Histories.{replay}
 use Rattle.books_model.specs.declared.reply.Reply.{Reply}

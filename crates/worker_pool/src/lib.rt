@@ -10,6 +10,7 @@ mod dealing;
 pub mod done;
 mod ends;
 mod finish;
+pub mod heap;
 pub mod laws;
 mod rule;
 pub mod run;

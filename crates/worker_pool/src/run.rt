@@ -19,6 +19,7 @@ ghost use Rattle.worker_pool.specs.Inner.Workers.{number_of, seat_of, workers_of
 use crate::dealing::{Deques, deal_out};
 use crate::done::{DayEnd, Done};
 use crate::finish::settle;
+use crate::heap::keep_blocks;
 use crate::rule::{DequePass, Owner};
 use crate::taker::Taker;
 use crate::worker::{Share, Worker, run_caller};
@@ -26,7 +27,7 @@ use crate::workshop::Workshop;
 use books_model::laws::refused_changes_nothing;
 use crossbeam_utils::CachePadded;
 use io_ends::OutOfMemory;
-use order_rebuild::order_of;
+use order_rebuild::{Readers, order_counted};
 use script_reader::Input;
 use std::alloc::Global;
 use std::sync::Wait;
@@ -70,6 +71,8 @@ fn seat_workers<R: Wait, G: Gate>(
         let Some(row) = rows.pop() else {
             unreachable!()
         };
+        let done = Vec::new(shop.alloc);
+        let readers = Readers::new(shop.alloc)?;
         workers.push(CachePadded::new(Worker {
             taker: Taker {
                 own,
@@ -79,7 +82,8 @@ fn seat_workers<R: Wait, G: Gate>(
             },
             share: Share {
                 pass,
-                done: Vec::new(shop.alloc),
+                done,
+                readers,
             },
             failed: false,
         }))?;
@@ -263,31 +267,38 @@ fn add_share(
     share: Share,
     passes: &mut Vec<Pass<BooksShape>>,
     all: &mut Vec<Done>,
+    readers: &mut Readers,
 ) -> Result<(), OutOfMemory>
     ensures pass { OnOk result (passes.new.items ≡ passes.old.items ++ share.pass ∷ []) }
     ensures done { OnOk result (all.new.items ≡ all.old.items ++ share.done.items) }
 {
-    let Share { pass, mut done } = share;
+    let Share {
+        pass,
+        mut done,
+        readers: own,
+    } = share;
+    readers.add(&own);
     passes.push(pass)?;
     all.append(&mut done)?;
     Ok(())
 }
 
-// All passes, and all items, each in the order of the shares.
+// All passes, and all items, each in the order of the shares; and how many of the items read each version.
 fn join_shares(
     alloc: Global,
     shares: Vec<Share>,
-) -> Result<(Vec<Pass<BooksShape>>, Vec<Done>), OutOfMemory>
+) -> Result<(Vec<Pass<BooksShape>>, Vec<Done>, Readers), OutOfMemory>
     ensures passes { IfOk result (λ all. all.0.items ≡ map (λ share. share.pass) shares.items) }
     ensures done { IfOk result (λ all.
         all.1.items ≡ flat_map (λ share. share.done.items) shares.items) }
 {
     let mut passes = Vec::new(alloc);
     let mut all = Vec::new(alloc);
+    let mut readers = Readers::new(alloc)?;
     for share in shares {
-        add_share(share, &mut passes, &mut all)?;
+        add_share(share, &mut passes, &mut all, &mut readers)?;
     }
-    Ok((passes, all))
+    Ok((passes, all, readers))
 }
 
 // Closes the table, and puts the items in the order that is rebuilt from what they used.
@@ -311,11 +322,11 @@ fn end_day(
 {
     refused_changes_nothing();
     desk.began_good();
-    let (passes, done) = join_shares(alloc, shares)?;
+    let (passes, done, readers) = join_shares(alloc, shares)?;
     let Ok(closed) = desk.close(alloc, passes) else {
         return Err(OutOfMemory);
     };
-    let places = order_of(alloc, done.as_slice())?;
+    let places = order_counted(alloc, done.as_slice(), &readers)?;
     let done = arrange(alloc, done, places.as_slice())?;
     Ok(DayEnd { done, closed })
 }
@@ -368,6 +379,7 @@ pub fn run_callers<R: Threads + Wait + Sync, G: Gate + Sync>(
         input,
         gate,
     };
+    keep_blocks(alloc);
     let shares = run_all(&shop, passes, owners, rows, left)?;
     end_day(alloc, desk, input, shares)
 }

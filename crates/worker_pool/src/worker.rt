@@ -13,10 +13,12 @@ ghost use Rattle.worker_pool.specs.Inner.Takers.{dealt_to};
 ghost use Rattle.worker_pool.specs.Inner.Workers.{number_of, FitTogether, HasEndedItsPart, HasDoneItsPart, IsSeated};
 
 use crate::done::Done;
+use crate::heap::enlarge;
 use crate::taker::Taker;
 use crate::workshop::Workshop;
 use books_model::laws::scripts_go_by_instruments;
 use io_ends::OutOfMemory;
+use order_rebuild::Readers;
 use script_reader::limits::MOST_SCRIPTS;
 use std::sync::Wait;
 use txn_books::{BooksShape, ScriptJob};
@@ -29,6 +31,8 @@ use worker_gate::Gate;
 pub(crate) struct Share {
     pub pass: Pass<BooksShape>,
     pub done: Vec<Done>,
+    /// How many of its items read each version of each lock.
+    pub readers: Readers,
 }
 
 /// What a worker has for its own.
@@ -83,11 +87,19 @@ fn run_script<R: Wait, G: Gate>(
     })
 }
 
+// Counts what an item read. One worker alone leaves its items in their order, and nothing is counted.
+fn count_readers<R: Wait, G: Gate>(shop: &Workshop<R, G>, readers: &mut Readers, item: &Done) {
+    if shop.thieves.len() > 1 {
+        readers.count(&item.uses);
+    }
+}
+
 // All scripts of one caller of the input, in their order.
 fn run_scripts<R: Wait, G: Gate>(
     shop: &Workshop<R, G>,
     pass: &mut Pass<BooksShape>,
     done: &mut Vec<Done>,
+    readers: &mut Readers,
     caller: u32,
 ) -> Result<(), OutOfMemory>
     requires fit { FitTogether shop.now.desk.now shop.now.shape shop.now.input.now }
@@ -108,6 +120,7 @@ fn run_scripts<R: Wait, G: Gate>(
 {
     for index in 0..shop.input.scripts_of(caller) {
         let item = run_script(shop, pass, caller, index)?;
+        count_readers(shop, readers, &item);
         done.push(item)?;
     }
     Ok(())
@@ -133,7 +146,13 @@ pub(crate) fn run_caller<R: Wait, G: Gate>(
         ≤ length share.old.done.items + MOST_SCRIPTS) }
 {
     if caller < shop.input.callers() {
-        run_scripts(shop, &mut share.pass, &mut share.done, caller)?;
+        run_scripts(
+            shop,
+            &mut share.pass,
+            &mut share.done,
+            &mut share.readers,
+            caller,
+        )?;
     }
     Ok(())
 }
@@ -148,6 +167,7 @@ impl Worker {
         ensures worked { OnOk result
             (HasDoneItsPart shop.now.thieves.now shop.now.desk.now shop.now.input.now self.new) }
     {
+        enlarge(shop.alloc);
         for _ in shop.rt.forever() {
             let Some(caller) = self.taker.next(shop.rt, shop.thieves) else {
                 return Ok(());

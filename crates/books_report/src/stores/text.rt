@@ -100,7 +100,7 @@ pub fn write_journal<O: Drop, V: ToldValue>(
 {
     let mut serial = 1;
     for (line, reply) in lines.iter().zip(replies) {
-        let name = callers.name(line.caller as usize);
+        let name = callers.name(line.caller);
         write_line(text, serial, name, *line, reply)?;
         serial += 1;
     }

@@ -1,5 +1,5 @@
 -- Callers with scripts of any type, as they are gathered while a text is read.
-use Rattle.std.specs.Prelude.{◌≡◌, ℕ, suc, zero, Bool, not, ◌&&◌, ◌||◌, nat_le, List, [], ◌∷◌, ◌++◌, map, length, if◌then◌else◌}
+use Rattle.std.specs.Prelude.{◌≡◌, ℕ, ◌≤◌, suc, zero, Bool, not, ◌&&◌, ◌||◌, nat_le, List, [], ◌∷◌, ◌++◌, map, length, if◌then◌else◌}
 use Rattle.std.specs.List.{list_any}
 use Rattle.std.specs.Str.{bytes_eq}
 use Rattle.std.specs.String.{string_bytes}
@@ -28,6 +28,12 @@ module _ {S : Type 0} where
   pub record IsEven (store : Gathering S) : Type 0 where
     pub beside : length store.names.keys ≡ length store.scripts.items
     pub counted : store.count ≡ count_scripts (callers_in store)
+
+  -- callers that were gathered, as few as a text can have, and their scripts
+  pub record IsWhole (store : Gathering S) : Type 0 where
+    pub even : IsEven store
+    pub few : length (callers_in store) ≤ MOST_CALLERS
+    pub few_scripts : count_scripts (callers_in store) ≤ MOST_SCRIPTS
 
   -- the callers with one more script, behind those that its caller has
   abbrev pub add_submission : List (CallerOf S) → SubmissionOf S → List (CallerOf S)

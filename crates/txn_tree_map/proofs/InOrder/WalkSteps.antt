@@ -40,7 +40,7 @@ keeps_one node old mid new kept whole put same = go (length old.kept.items == KE
     go : (full : Bool) → (length old.kept.items == KEPT) ≡ full → mid.kept.items ≡ (if full then drop (KEPT / 2) old.kept.items else old.kept.items)
         → mid.whole ≡ (if full then false else old.whole) → Keeps node old new
     go true e k w =
-        let long : length old.kept.items ≡ 512 = grind (arith, nat_tests, e) in
+        let long : length old.kept.items ≡ KEPT = grind (arith, nat_tests, e) in
         record {
           gone = take (KEPT / 2) old.kept.items;
           near = drop (KEPT / 2) old.kept.items;

@@ -8,12 +8,13 @@ use Rattle.history_model.specs.Sets.{has, without_first}
 use Rattle.history_model.specs.Views.{number, HasBit, HasReadGrant, HasClaim, IsGranted}
 use Rattle.locks_rule.specs.Steps.{is_free, set_read_bit_action, clear_read_bit_action, load_writer_action, claim_writer_action, scan_row_action}
 use Rattle.locks_rule.specs.Steps.{release_writer_action, after_asking, after_meeting}
-use Rattle.history_model.proofs.SetLemmas.{differ, has-join_old, has-without_same, pair-join_old, pair-without_other}
+use Rattle.history_model.proofs.SetLemmas.{differ, has-without_same}
 use Rattle.word_table.specs.declared.answer.Shared.{Shared}
 use Rattle.word_table.specs.declared.answer.Claimed.{Claimed}
 use Rattle.word_table.specs.declared.answer.Scanned.{Scanned}
 use Rattle.word_table.specs.Calls.{with_bit, SharedBy, ClaimedBy, ScannedBy, SameCall, GrantsStay}
 use Rattle.word_table.proofs.Calls.Answering.{with_bit_cases}
+use Rattle.word_table.proofs.Copied.After.{grants_read, grants_claim, grants_scan}
 
 -- a step on locks leaves the call and the locks that are held
 pub record Leaves (old new : View) : Type 0 where
@@ -34,11 +35,11 @@ share_leaves sound v a r u (inr t) =
     leaves_at v ((load_writer_action j k a (with_bit k a v)).view s.found) u s.taken.view
     (with_bit_cases k a v (λ m. Leaves v (after m (is_free j s.found)))
     (λ held. elim (is_free j s.found) as (λ (b : Bool). Leaves v (after v b)) [
-      | true ↦ record { call = refl; grants = λ l. (λ y. has-join_old l k v.reads y, λ y. y) }
+      | true ↦ record { call = refl; grants = grants_read v k }
       | false ↦ record { call = refl; grants = λ l. (λ y. y, λ y. y) }
     ])
     (elim (is_free j s.found) as (λ (b : Bool). Leaves v (after set b)) [
-      | true ↦ record { call = refl; grants = λ l. (λ y. has-join_old l k v.reads y, λ y. y) }
+      | true ↦ record { call = refl; grants = grants_read v k }
       | false ↦ record { call = refl; grants = λ l. (λ y. y, λ y. y) }
     ]))
 
@@ -51,14 +52,7 @@ claim_leaves sound v a r u (inr t) =
     (elim (s.found == 0) as (λ (b : Bool). Leaves v (if b then won else after_meeting (after_asking v a) k (s.found - 1))) [
       | true ↦ record {
         call = refl;
-        grants =
-            λ l. (
-              λ y. y,
-              λ y. (
-                has-join_old l k v.claims y.0,
-                λ i lt away. pair-without_other l i k v.scans (λ e. t.0 (subst (λ (x : ℕ). HasClaim v x) e y.0)) ∙ y.1 i lt away,
-              ),
-            );
+        grants = grants_claim v k t.0;
       }
       | false ↦ record { call = refl; grants = λ l. (λ y. y, λ y. y) }
     ])
@@ -68,7 +62,7 @@ scan_leaves sound v k i r u s =
     let clear : View = record v { scans = (k, i) ∷ v.scans } in
     leaves_at v ((scan_row_action (number v) k i v).view s.found) u s.taken.view
     (elim (bit_at s.found (k % 64) == 0) as (λ (b : Bool). Leaves v (if b then clear else after_meeting v k i)) [
-      | true ↦ record { call = refl; grants = λ l. (λ y. y, λ y. (y.0, λ m lt away. pair-join_old l m k i v.scans (y.1 m lt away))) }
+      | true ↦ record { call = refl; grants = grants_scan v k i }
       | false ↦ record { call = refl; grants = λ l. (λ y. y, λ y. y) }
     ])
 

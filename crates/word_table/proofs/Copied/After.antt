@@ -1,5 +1,6 @@
 -- A pass's copy after a step.
-use Rattle.std.proofs.Common.{◌≡◌, ◌≢◌, ℕ, ◌-◌, ◌%◌, ◌^◌, ◌/◌, ◌<◌, ◌≤◌, Bool, true, false, List, [], ◌∷◌, length, refl, sym, ap, ◌∙◌, subst, ◌==◌}
+use Rattle.std.proofs.Common.{◌≡◌, ◌≢◌, ℕ, ◌-◌, ◌%◌, ◌^◌, ◌/◌, ◌<◌, ◌≤◌, Bool, true, false, List, [], ◌∷◌, length, inl, inr, ⊎_elim}
+use Rattle.std.proofs.Common.{refl, sym, ap, ◌∙◌, subst, ◌==◌}
 use Rattle.std.proofs.Common.{if◌then◌else◌}
 use Rattle.std.specs.Prelude.{bit_and}
 use Rattle.std.specs.Int.{bit_at}
@@ -9,14 +10,18 @@ use Rattle.atomic_table.specs.Seated.{TableId}
 use Rattle.history_model.specs.declared.view.View.{View}
 use Rattle.history_model.specs.declared.view.Phase.{Phase}
 use Rattle.history_model.specs.declared.view.Phase.TheVariants.{Idle, Running, Yielding, Withdrawing, Releasing}
-use Rattle.history_model.specs.Sets.{without_first}
-use Rattle.history_model.specs.Table.{row_word, writer_word, value_word, table_words}
+use Rattle.history_model.specs.Sets.{has, without_first}
+use Rattle.history_model.specs.Table.{row_word, writer_word, version_word, value_word, table_words}
+use Rattle.history_model.specs.Views.{HasClaim}
+use Rattle.history_model.proofs.SetLemmas.{differ, has-nil, has-join_old, pair-join_old, pair-without_other}
 use Rattle.locks_rule.specs.Steps.{is_free, released_phase, load_writer_action, claim_writer_action, scan_row_action, after_asking, after_meeting}
+use Rattle.values_rule.specs.Steps.{undoing_phase}
 use Rattle.stamps_rule.specs.Steps.{after_waiting, after_restarting}
 use Rattle.word_table.specs.declared.limits.TheConstants.{MOST_PASSES, MOST_WORDS}
 use Rattle.word_table.specs.declared.copies.CallCopy.{CallCopy}
 use Rattle.word_table.specs.declared.copies.LockCopy.{LockCopy}
-use Rattle.word_table.specs.Copies.{ShowsLocks, ShowsOthers, ShowsPairs, HoldsNothing, IsVersionCopy, IsLockCopy, IsCallCopy, IsCopy}
+use Rattle.word_table.specs.Calls.{GrantsStay}
+use Rattle.word_table.specs.Copies.{ShowsLocks, ShowsOthers, ShowsPairs, HoldsNothing, HoldsUsed, IsVersionCopy, IsLockCopy, IsCallCopy, IsCopy}
 use Rattle.word_table.specs.Versions.{locks_found}
 use Rattle.word_table.proofs.Copied.VersionCopies.{versions_restarted}
 
@@ -38,13 +43,14 @@ pub copy_called : {call : CallCopy} {locks : LockCopy} {table : TableId} {me : M
     → IsCopy call locks table me → (phase : Phase) (calls : ℕ) (locks' : LockCopy) (table' : TableId) (me' : Me (Unit {0}) View) (w : View)
     → table' ≡ table → me'.0 ≡ w → me'.1 ≡ me.1 → w.base ≡ me.0.base → w.seats ≡ me.0.seats → w.who ≡ me.0.who
     → w.call ≡ calls → w.stamp ≡ me.0.stamp → w.announced ≡ me.0.announced → w.phase ≡ phase → IsLockCopy locks' w
-    → (w.phase ≡ Idle → HoldsNothing w) → IsCopy (record call { phase = phase; calls = calls }) locks' table' me'
-copy_called {call} {locks} {table} {me} i phase calls locks' table' me' w et ew es eb en eo ec ez ea ep copy rests =
+    → (w.phase ≡ Idle → HoldsNothing w) → HoldsUsed w → IsCopy (record call { phase = phase; calls = calls }) locks' table' me'
+copy_called {call} {locks} {table} {me} i phase calls locks' table' me' w et ew es eb en eo ec ez ea ep copy rests holds =
     subst (λ (t : TableId). IsCopy (record call { phase = phase; calls = calls }) locks' t me') (sym et) record {
       slots = es ∙ i.slots;
       others_are = i.others_are;
       row_is = i.row_is;
       writers_are = i.writers_are;
+      versions_are = i.versions_are;
       values_are = i.values_are;
       below = i.below;
       few = i.few;
@@ -60,6 +66,7 @@ copy_called {call} {locks} {table} {me} i phase calls locks' table' me' w et ew 
       };
       locks_are = subst (λ (x : View). IsLockCopy locks' x) (sym ew) copy;
       rests = subst (λ (x : View). x.phase ≡ Idle → HoldsNothing x) (sym ew) rests;
+      holds_used = subst HoldsUsed (sym ew) holds;
     }
 
 -- a pass's copies after a step that tells the view, from a copy of the call and one of its locks
@@ -67,15 +74,16 @@ pub copy_made : {call : CallCopy} {locks : LockCopy} {table : TableId} {me : Me 
     → IsCopy call locks table me → (call' : CallCopy) (locks' : LockCopy) (table' : TableId) (me' : Me (Unit {0}) View) (w : View)
     → table' ≡ table → me'.0 ≡ w → me'.1 ≡ me.1 → w.base ≡ me.0.base
     → call'.seats ≡ call.seats → call'.who ≡ call.who → call'.others ≡ call.others → call'.row ≡ call.row → call'.writers ≡ call.writers
-    → call'.values ≡ call.values
-    → IsCallCopy call' w → IsLockCopy locks' w → (w.phase ≡ Idle → HoldsNothing w) → IsCopy call' locks' table' me'
-copy_made {call} {locks} {table} {me} i call' locks' table' me' w et ew es eb cs cw co cr cp cv calls copy rests =
+    → call'.values ≡ call.values → call'.versions ≡ call.versions
+    → IsCallCopy call' w → IsLockCopy locks' w → (w.phase ≡ Idle → HoldsNothing w) → HoldsUsed w → IsCopy call' locks' table' me'
+copy_made {call} {locks} {table} {me} i call' locks' table' me' w et ew es eb cs cw co cr cp cv cx calls copy rests holds =
     subst (λ (t : TableId). IsCopy call' locks' t me') (sym et) record {
       slots = es ∙ i.slots;
       others_are = subst (λ (m : ℕ). ShowsOthers m call'.seats call'.who) (sym co)
           (subst (λ (m : ℕ). ShowsOthers call.others m call'.who) (sym cs) (subst (λ (m : ℕ). ShowsOthers call.others call.seats m) (sym cw) i.others_are));
       row_is = cr ∙ (i.row_is ∙ (ap (λ (m : ℕ). row_word m call.who 0) (sym cs) ∙ ap (λ (m : ℕ). row_word call'.seats m 0) (sym cw)));
       writers_are = cp ∙ (i.writers_are ∙ ap (λ (m : ℕ). writer_word m 0) (sym cs));
+      versions_are = cx ∙ (i.versions_are ∙ ap (λ (m : ℕ). version_word m 0) (sym cs));
       values_are = cv ∙ (i.values_are ∙ ap (λ (m : ℕ). value_word m 0) (sym cs));
       below = subst (λ (m : ℕ). m < call'.seats) (sym cw) (subst (λ (m : ℕ). call.who < m) (sym cs) i.below);
       few = subst (λ (m : ℕ). m ≤ MOST_PASSES) (sym cs) i.few;
@@ -85,6 +93,7 @@ copy_made {call} {locks} {table} {me} i call' locks' table' me' w et ew es eb cs
       call_is = subst (λ (x : View). IsCallCopy call' x) (sym ew) calls;
       locks_are = subst (λ (x : View). IsLockCopy locks' x) (sym ew) copy;
       rests = subst (λ (x : View). x.phase ≡ Idle → HoldsNothing x) (sym ew) rests;
+      holds_used = subst HoldsUsed (sym ew) holds;
     }
 
 -- a call that goes on is not over, and neither is one that gives up a lock
@@ -105,18 +114,61 @@ releases_on Releasing on e = cc
 pub copy_after : {call : CallCopy} {locks : LockCopy} {table : TableId} {me : Me (Unit {0}) View}
     → IsCopy call locks table me → (phase : Phase) (locks' : LockCopy) (table' : TableId) (me' : Me (Unit {0}) View) (w : View)
     → table' ≡ table → me'.0 ≡ w → me'.1 ≡ me.1 → SameSeat me.0 w → w.phase ≡ phase → IsLockCopy locks' w
-    → (w.phase ≡ Idle → HoldsNothing w) → IsCopy (record call { phase = phase }) locks' table' me'
-copy_after {call} {locks} {table} {me} i phase locks' table' me' w et ew es same ep copy rests =
+    → (w.phase ≡ Idle → HoldsNothing w) → HoldsUsed w → IsCopy (record call { phase = phase }) locks' table' me'
+copy_after {call} {locks} {table} {me} i phase locks' table' me' w et ew es same ep copy rests holds =
     copy_called i phase call.calls locks' table' me' w et ew es same.base same.seats same.who (same.call
-    ∙ i.call_is.calls_are) same.stamp same.announced ep copy rests
+    ∙ i.call_is.calls_are) same.stamp same.announced ep copy rests holds
 
 -- the same after a store, which tells the view as a whole
 pub copy_stored : {call : CallCopy} {locks : LockCopy} {table : TableId} {me : Me (Unit {0}) View}
     → IsCopy call locks table me → (phase : Phase) (locks' : LockCopy) (table' : TableId) (me' : Me (Unit {0}) View) (w : View)
     → table' ≡ table → me' ≡ (w, me.1) → SameSeat me.0 w → w.phase ≡ phase → IsLockCopy locks' w
-    → (w.phase ≡ Idle → HoldsNothing w) → IsCopy (record call { phase = phase }) locks' table' me'
+    → (w.phase ≡ Idle → HoldsNothing w) → HoldsUsed w → IsCopy (record call { phase = phase }) locks' table' me'
 copy_stored {call} {locks} {table} {me} i phase locks' table' me' w et em = let after : Me (Unit {0}) View = (w, me.1) in
     copy_after i phase locks' table' me' w et (ap (λ (m : Me (Unit {0}) View). m.0) {y = after} em) (ap (λ (m : Me (Unit {0}) View). m.1) {y = after} em)
+
+-- a lock that was held is held once another is held to read, claimed, or scanned for
+pub grants_read : (v : View) (k : ℕ) → GrantsStay v (record v { reads = k ∷ v.reads })
+grants_read v k l = (λ y. has-join_old l k v.reads y, λ y. y)
+
+pub grants_claim : (v : View) (k : ℕ) → ¬ HasClaim v k → GrantsStay v (record v { claims = k ∷ v.claims; scans = without_first k v.scans })
+grants_claim v k free l = (
+  λ y. y,
+  λ y. (
+    has-join_old l k v.claims y.0,
+    λ i lt away. pair-without_other l i k v.scans (λ e. free (subst (λ (x : ℕ). HasClaim v x) e y.0)) ∙ y.1 i lt away,
+  ),
+)
+
+pub grants_scan : (v : View) (k i : ℕ) → GrantsStay v (record v { scans = (k, i) ∷ v.scans })
+grants_scan v k i l = (λ y. y, λ y. (y.0, λ m lt away. pair-join_old l m k i v.scans (y.1 m lt away)))
+
+-- so the locks of the uses are
+pub holds_on : (v w : View) → w.phase ≡ v.phase → w.uses ≡ v.uses → GrantsStay v w → HoldsUsed v → HoldsUsed w
+holds_on v w same uses stays holds runs k used = ⊎_elim (λ r. inl ((stays k).0 r)) (λ r. inr ((stays k).1 r))
+    (holds (sym same ∙ runs) k (subst (λ (u : List (ℕ × ℕ)). has k (locks_found u) ≡ true) uses used))
+
+-- without a use, or once it does not run, an attempt need hold none
+pub holds_none : (w : View) → w.uses ≡ [] → HoldsUsed w
+holds_none w none runs k used =
+    absurd (differ (has k []) (subst (λ (u : List (ℕ × ℕ)). has k (locks_found u) ≡ true) none used) (has-nil k))
+
+pub holds_off : (w : View) (phase : Phase) → w.phase ≡ phase → phase ≢ Running → HoldsUsed w
+holds_off w phase same off runs k used = absurd (off (sym same ∙ runs))
+
+pub released_stands : (p : Phase) → released_phase p ≢ Running
+released_stands Idle e = cc
+released_stands Running e = cc
+released_stands Yielding e = cc
+released_stands Withdrawing e = cc
+released_stands Releasing e = cc
+
+pub undoing_stands : (p : Phase) → undoing_phase p ≢ Running
+undoing_stands Idle e = cc
+undoing_stands Running e = cc
+undoing_stands Yielding e = cc
+undoing_stands Withdrawing e = cc
+undoing_stands Releasing e = cc
 
 -- a copy's versions are a view's
 abbrev pub VersionsAre : LockCopy → View → Type 0
@@ -162,6 +214,14 @@ load_copy copy j k a v w sb sr sc ss sv = let granted : View = record (after_ask
       | false ↦ λ s. record { bits_are = sb; reads_are = s; claims_are = sc; scans_are = ss; versions_are = sv }
     ]) sr
 
+pub load_holds : (j k a : ℕ) (v : View) (w : ℕ) → HoldsUsed v → HoldsUsed ((load_writer_action j k a v).view w)
+load_holds j k a v w holds = let granted : View = record (after_asking v a) { reads = k ∷ v.reads } in
+    let met : View = after_meeting (after_asking v a) k (w - 1) in
+    elim (is_free j w) as (λ (b : Bool). HoldsUsed (if b then granted else met)) [
+      | true ↦ holds_on v granted refl refl (grants_read v k) holds
+      | false ↦ holds
+    ]
+
 -- after a claim, by whether the writer word was 0
 pub claim_same : (j k a : ℕ) (v : View) (w : ℕ) → SameSeat v ((claim_writer_action j k a v).view w)
 claim_same j k a v w = let won : View = record (after_asking v a) {
@@ -197,6 +257,14 @@ claim_copy copy j k a v w sb sr sc ss sv = let won : View = record (after_asking
       | false ↦ λ s t. record { bits_are = sb; reads_are = sr; claims_are = s; scans_are = t; versions_are = sv }
     ]) sc ss
 
+pub claim_holds : (j k a : ℕ) (v : View) (w : ℕ) → ¬ HasClaim v k → HoldsUsed v → HoldsUsed ((claim_writer_action j k a v).view w)
+claim_holds j k a v w free holds = let won : View = record (after_asking v a) { claims = k ∷ v.claims; scans = without_first k v.scans } in
+    let met : View = after_meeting (after_asking v a) k (w - 1) in
+    elim (w == 0) as (λ (b : Bool). HoldsUsed (if b then won else met)) [
+      | true ↦ holds_on v won refl refl (grants_claim v k free) holds
+      | false ↦ holds
+    ]
+
 -- after a scan, by whether the bit was clear
 pub scan_same : (j k i : ℕ) (v : View) (w : ℕ) → SameSeat v ((scan_row_action j k i v).view w)
 scan_same j k i v w = let clear : View = record v { scans = (k, i) ∷ v.scans } in
@@ -220,6 +288,13 @@ scan_copy copy j k i v w sb sr sc ss sv = let clear : View = record v { scans = 
       | false ↦ λ t. record { bits_are = sb; reads_are = sr; claims_are = sc; scans_are = t; versions_are = sv }
     ]) ss
 
+pub scan_holds : (j k i : ℕ) (v : View) (w : ℕ) → HoldsUsed v → HoldsUsed ((scan_row_action j k i v).view w)
+scan_holds j k i v w holds = let clear : View = record v { scans = (k, i) ∷ v.scans } in
+    elim (bit_at w (k % 64) == 0) as (λ (b : Bool). HoldsUsed (if b then clear else after_meeting v k i)) [
+      | true ↦ holds_on v clear refl refl (grants_scan v k i) holds
+      | false ↦ holds
+    ]
+
 -- the bit that the code looks at
 pub clear_bit : (masks : List ℕ) (w i : ℕ) (a b : List (ℕ × ℕ))
     → ShowsPairs masks (if bit_and (w / 2 ^ i) 1 == 0 then a else b) → ShowsPairs masks (if bit_at w i == 0 then a else b)
@@ -238,6 +313,10 @@ look_same false v = steady v (after_restarting v) refl refl refl refl refl refl
 pub look_phase : (b : Bool) (v : View) → v.phase ≡ Yielding → (if b then after_waiting v else after_restarting v).phase ≡ (if b then Yielding else Running)
 look_phase true v yields = yields
 look_phase false v yields = refl
+
+pub look_holds : (b : Bool) (v : View) → v.phase ≡ Yielding → HoldsUsed (if b then after_waiting v else after_restarting v)
+look_holds true v yields = holds_off (after_waiting v) Yielding yields (λ e. cc)
+look_holds false v yields = holds_none (after_restarting v) refl
 
 pub look_copy : (copy : LockCopy) (v : View) (b : Bool) (used : List ℕ) → IsLockCopy copy v → v.phase ≡ Yielding → v.undo ≡ []
     → ((locks : List ℕ) → ShowsLocks copy.versions.used locks → ShowsLocks used (if b then locks else []))

@@ -68,11 +68,11 @@ all_scanned v k (Some j) least is claim = cc
 pub no_claim_none : (v : View) (k : ℕ) → has k v.claims ≡ false → IsLeast (IsUnscanned v k) None
 no_claim_none v k none j u = differ (has k v.claims) u.claim none
 
--- the least lock of a set that is shown is one of the locks
-pub least_near : (row locks : List ℕ) (from : ℕ) (o : Option ℕ) → ShowsLocks row locks
-    → IsLeast (λ k. (from ≤ k) × (has k locks ≡ true)) o → IfSome o (λ k. k < LOCKS)
-least_near row locks from None h l = tt
-least_near row locks from (Some k) h l = h.near k l.0.1
+-- the least lock of some kind of a set that is shown is one of the locks
+pub near_least : (row locks : List ℕ) (P : ℕ → Type 0) (o : Option ℕ) → ShowsLocks row locks
+    → IsLeast (λ k. P k × (has k locks ≡ true)) o → IfSome o (λ k. k < LOCKS)
+near_least row locks P None h l = tt
+near_least row locks P (Some k) h l = h.near k l.0.1
 
 -- the least from 0 on is the least
 pub least_of_all : (locks : List ℕ) (o : Option ℕ) → IsLeast (λ k. (0 ≤ k) × (has k locks ≡ true)) o → IsLeast (λ k. has k locks ≡ true) o

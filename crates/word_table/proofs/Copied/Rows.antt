@@ -171,6 +171,25 @@ none_more row from i before zeroed k le lt = ⊎_elim
     ap (λ (m : ℕ). bit_at (slice_index row m) (k % 64)) same ∙ no_bit (slice_index row i) (k % 64) zeroed)
     (cases_lt k (64 * i))
 
+-- the least lock that has its bit in the word i, and none where the word is 0
+pub least_within : (row locks : List ℕ) (i : ℕ) → i < 16 → slice_index row i ≢ 0 → slice_index row i < 2 ^ 64 → ShowsLocks row locks
+    → (((64 * i + trailing_zeros w64 (slice_index row i)) / 64 ≡ i) × (has (64 * i + trailing_zeros w64 (slice_index row i)) locks ≡ true))
+    × ((k : ℕ) → k < 64 * i + trailing_zeros w64 (slice_index row i) → ¬ ((k / 64 ≡ i) × (has k locks ≡ true)))
+least_within row locks i small some_bit fits h =
+    let w : ℕ = slice_index row i in let t : ℕ = trailing_zeros w64 w in
+    let below : t < 64 = (bit_at-trailing_zeros w64 w (omega arith) fits).0 in
+    let found = least_at row locks (64 * i) i w small some_bit fits (λ b lt le. refl) (λ b lt. absurd (omega arith)) (λ k le lt. absurd (omega arith)) h in (
+      (omega arith, found.0.1),
+      λ k lt it. found.1 k lt (let word = it.0 in omega arith, it.1),
+    )
+
+pub none_within : (row locks : List ℕ) (i : ℕ) → slice_index row i ≡ 0 → ShowsLocks row locks → (k : ℕ) → ¬ ((k / 64 ≡ i) × (has k locks ≡ true))
+none_within row locks i zeroed h k it =
+    let set : bit_at (slice_index row (k / 64)) (k % 64) ≡ 1 = word_of_lock row locks k h it.1 in
+    let clear : bit_at (slice_index row (k / 64)) (k % 64) ≡ 0 = ap (λ (m : ℕ). bit_at (slice_index row m) (k % 64)) it.0
+    ∙ no_bit (slice_index row i) (k % 64) zeroed in
+    absurd (omega arith)
+
 -- all seats but one, as the code makes them
 pub shows_others : (seats who : ℕ) → who < seats → seats ≤ MOST_PASSES
     → ShowsOthers (bit_and ((2 ^ 64 - 1) / 2 ^ (64 - seats)) (bit_not w64 (1 * 2 ^ who % 2 ^ 64))) seats who

@@ -94,6 +94,11 @@ pub this_found : (uses : List (ℕ × ℕ)) (k x : ℕ) → has k (locks_found (
 this_found uses k x = subst (λ (s : List ℕ). has k s ≡ true) (sym (found_push uses k x))
     (push_same (locks_found uses) k k ∙ has-join_same k (locks_found uses))
 
+-- a lock of one use more is that of the use, or one of those before
+pub found_before : (uses : List (ℕ × ℕ)) (k x l : ℕ) → has l (locks_found (uses ++ (k, x) ∷ [])) ≡ true → (l ≡ k) ⊎ (has l (locks_found uses) ≡ true)
+found_before uses k x l h = has-join l k (locks_found uses)
+    (sym (push_same (locks_found uses) k l) ∙ subst (λ (s : List ℕ). has l s ≡ true) (found_push uses k x) h)
+
 -- a lock of fewer notes is one of the notes
 fewer_notes : (notes : Notes) (m k : ℕ) → has k (locks_of (take m notes)) ≡ true → has k (locks_of notes) ≡ true
 fewer_notes notes m k h =

@@ -10,7 +10,7 @@ use Rattle.atomic_table.specs.Table.{State, Me, Splits}
 use Rattle.atomic_table.specs.Seated.{TableId}
 use Rattle.history_model.specs.declared.TheConstants.{LOCKS}
 use Rattle.history_model.specs.declared.view.View.{View}
-use Rattle.history_model.specs.declared.view.Phase.TheVariants.{Idle}
+use Rattle.history_model.specs.declared.view.Phase.TheVariants.{Idle, Running}
 use Rattle.history_model.specs.Counts.{is_open, open_count}
 use Rattle.history_model.specs.Sets.{has, without, flag}
 use Rattle.history_model.specs.Table.{Knows, clock_word, stamps_word, row_word, writer_word, version_word, value_word, table_words}
@@ -168,16 +168,18 @@ last_me base n j me least e f = let one : n - j ≡ 1 = omega arith in f
 pub opening_copy : (base : List ℕ) (call : CallCopy) (locks : LockCopy) (table : TableId) (me : Me (Unit {0}) View)
     → me ≡ (opening_view base call.seats (call.who ∷ []) [], []) → call.phase ≡ Idle → call.calls ≡ 0 → call.stamp ≡ 0
     → call.announced ≡ false → ShowsOthers call.others call.seats call.who → call.row ≡ row_word call.seats call.who 0
-    → call.writers ≡ writer_word call.seats 0 → call.values ≡ value_word call.seats 0 → call.who < call.seats → call.seats ≤ MOST_PASSES
+    → call.writers ≡ writer_word call.seats 0 → call.versions ≡ version_word call.seats 0
+    → call.values ≡ value_word call.seats 0 → call.who < call.seats → call.seats ≤ MOST_PASSES
     → length base ≤ MOST_WORDS → table.words ≡ table_words call.seats (length base) → locks.bits ≡ zeros 16
     → locks.reads ≡ zeros 16 → locks.claims ≡ zeros 16 → locks.scans.items ≡ replicate LOCKS 0
     → locks.versions.used ≡ zeros 16 → locks.versions.written ≡ zeros 16 → locks.versions.found.items ≡ replicate LOCKS 0 → IsCopy call locks table me
-opening_copy base call locks table me em idle fresh unstamped unannounced others row writers values below few short long eb er
+opening_copy base call locks table me em idle fresh unstamped unannounced others row writers versions values below few short long eb er
     ec es eu ew ev = subst (λ (m : Me (Unit {0}) View). IsCopy call locks table m) (sym em) record {
       slots = refl;
       others_are = others;
       row_is = row;
       writers_are = writers;
+      versions_are = versions;
       values_are = values;
       below = below;
       few = few;
@@ -215,6 +217,7 @@ opening_copy base call locks table me em idle fresh unstamped unannounced others
         };
       };
       rests = λ e. record { no_bit = λ k t. differ (has k []) t (has-nil k); no_claim = λ k t. differ (has k []) t (has-nil k) };
+      holds_used = λ e. let z : Idle ≡ Running = e in cc;
     }
   where
     small : (x : ℕ) → x ≡ 0 → x + 1 < 2 ^ 64

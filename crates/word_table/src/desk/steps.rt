@@ -10,15 +10,17 @@ ghost use Rattle.history_model.specs.Locks.{lock_of_word};
 ghost use Rattle.history_model.specs.Traces.{after, IsLegalTrace};
 ghost use Rattle.history_model.specs.Undoing.{Notes};
 ghost use Rattle.history_model.specs.Views.{number, HasBit, HasReadGrant, HasClaim, IsScanned, HasWriteGrant, IsGranted};
-ghost use Rattle.locks_rule.specs.Steps.{load_writer_action, claim_writer_action, scan_row_action, release_writer_action, clear_read_bit_action};
-ghost use Rattle.values_rule.specs.Steps.{begin_call_action, store_value_action, undo_store_action, clear_stamp_action};
+ghost use Rattle.locks_rule.specs.Steps.{clear_read_bit_action, load_writer_action, claim_writer_action, scan_row_action, release_writer_action, released_phase};
+ghost use Rattle.locks_rule.specs.Versions.{load_version_action};
+ghost use Rattle.values_rule.specs.Steps.{begin_call_action, load_value_action, store_value_action, undo_store_action, clear_stamp_action};
 ghost use Rattle.values_rule.specs.Records.{Knew};
 ghost use Rattle.values_rule.specs.Steps.{after_commit, commit_call_action, entry_of};
 ghost use Rattle.stamps_rule.specs.Causes.{newest, past_causes};
 ghost use Rattle.stamps_rule.specs.Stamps.{AreRestartsBounded};
 ghost use Rattle.stamps_rule.specs.Steps.{draw_stamp_action, announce_stamp_action, load_cause_stamp_action};
 ghost use Rattle.history_model.specs.Sets.{flag, has, has_pair, without};
-ghost use Rattle.word_table.specs.Versions.{locks_found};
+ghost use Rattle.word_table.specs.Unsharing.{ClearsEach, rising};
+ghost use Rattle.word_table.specs.Versions.{HasUse, locks_found};
 ghost use Rattle.word_table.specs.Calls.{ClaimedBy, GainsUse, GaveUp, GaveWay, GrantsStay, JudgedBy, LoadedBy, MetOn, ReadsArranged, SameCall, ScannedBy, SharedBy, paid, with_bit};
 ghost use Rattle.word_table.specs.Kinds.{TakenIn};
 ghost use Rattle.word_table.specs.Desks.{AreGoodWords, RuleHolds};
@@ -173,6 +175,29 @@ impl<S: Shape> Desk<S> {
         pass.clear_read_bit(&self.table, k);
     }
 
+    /// Clears all own read bits, by rising lock, each by a step of its own. The call ends with the first, unless it gives
+    /// way. Where no bit is set, it takes no step.
+    pub fn unshare_all(&self, pass: &mut Pass<S>)
+        requires desk { pass.old.table ≡ self.now.table }
+        requires undone { (pass.old.view.undo ≡ []) ⊎ (pass.old.view.phase ≡ Phase.Releasing) }
+        requires begun { pass.old.view.phase ≢ Phase.Idle }
+        ensures desk { pass.new.table ≡ pass.old.table }
+        ensures steps { pass.new.steps ≡ pass.old.steps + length (rising pass.old.view.bits) }
+        ensures taken { ClearsEach (RuleHolds S.Shape self.now) (rising pass.old.view.bits)
+            pass.old.view pass.new.view }
+        ensures rest { pass.new.view ≡ record pass.old.view {
+          phase = pass.new.view.phase;
+          bits = pass.new.view.bits;
+          reads = pass.new.view.reads;
+        } }
+        ensures phase { (pass.new.view.phase ≡ pass.old.view.phase)
+            ⊎ (pass.new.view.phase ≡ released_phase pass.old.view.phase) }
+        ensures gone { (k : ℕ) → ¬ HasBit pass.new.view k }
+        ensures grants { (k : ℕ) → HasBit pass.old.view k → ¬ HasReadGrant pass.new.view k }
+    {
+        pass.clear_read_bits(&self.table);
+    }
+
     /// Begins the pass's next call, and gives its number, from 1. What the pass has seen is the call's floor.
     pub fn begin(&self, pass: &mut Pass<S>) -> u32
         requires desk { pass.old.table ≡ self.now.table }
@@ -214,6 +239,48 @@ impl<S: Shape> Desk<S> {
             self.now.seats self.now.base pass.new.view }
     {
         pass.find_version(&self.table, a);
+        self.load_used(pass, a)
+    }
+
+    /// Finds the version of the lock of word a, which the attempt holds and has no use of yet: what `load` does first
+    /// then.
+    #[inline(always)]
+    pub fn find_new(&self, pass: &mut Pass<S>, a: u64)
+        requires desk { pass.old.table ≡ self.now.table }
+        requires phase { pass.old.view.phase ≡ Phase.Running }
+        requires granted { IsGranted pass.old.view (lock_of_word a) }
+        requires unused { ¬ HasUse pass.old.view (lock_of_word a) }
+        ensures desk { pass.new.table ≡ pass.old.table }
+        ensures steps { pass.new.steps ≡ pass.old.steps + 1 }
+        ensures view { pass.new.view ≡ record pass.old.view { uses = pass.new.view.uses } }
+        ensures uses { (version : ℕ)
+            × (pass.new.view.uses ≡ pass.old.view.uses ++ (lock_of_word a, version) ∷ []) }
+        ensures taken { (found : ℕ) × TakenIn (RuleHolds S.Shape self.now)
+            (load_version_action (number pass.old.view) (lock_of_word a) pass.old.view)
+            pass.old.view found pass.new.view }
+        ensures used { HasUse pass.new.view (lock_of_word a) }
+    {
+        pass.load_version(&self.table, a);
+    }
+
+    /// Loads the value of word a, whose lock the attempt has a use of: what `load` does then, by one step, with no test
+    /// whether there is one.
+    #[inline(always)]
+    pub fn load_used(&self, pass: &mut Pass<S>, a: u64) -> u64
+        requires desk { pass.old.table ≡ self.now.table }
+        requires phase { pass.old.view.phase ≡ Phase.Running }
+        requires word { a < length pass.old.view.base }
+        requires used { HasUse pass.old.view (lock_of_word a) }
+        ensures desk { pass.new.table ≡ pass.old.table }
+        ensures steps { pass.new.steps ≡ pass.old.steps + 1 }
+        ensures event { pass.new.view
+            ≡ record pass.old.view { trace = pass.old.view.trace ++ Read a result ∷ [] } }
+        ensures taken { TakenIn (RuleHolds S.Shape self.now)
+            (load_value_action (number pass.old.view) a pass.old.view) pass.old.view result
+            pass.new.view }
+        ensures fits { ReadsArranged (AreGoodWords S.Shape self.now)
+            self.now.seats self.now.base pass.new.view }
+    {
         pass.load_value(&self.table, a)
     }
 

@@ -1,14 +1,16 @@
 //! The steps of a pass on locks: a read bit is set or cleared, a writer word is claimed, looked at or given up, and a row
 //! is scanned.
 
-ghost use Rattle.std.specs.Prelude.{◌≡◌, ◌≢◌, ◌⊎◌, ◌<◌, ◌≤◌, ◌+◌, ℕ, [], ◌∷◌, false};
+ghost use Rattle.std.specs.Prelude.{◌≡◌, ◌≢◌, ◌⊎◌, ◌<◌, ◌≤◌, ◌+◌, ◌*◌, ℕ, [], ◌∷◌, false, length};
 ghost use Rattle.history_model.specs.Locks.{lock_of_word};
 ghost use Rattle.history_model.specs.Sets.{flag, has};
 ghost use Rattle.history_model.specs.Views.{number, HasBit, HasClaim, IsGranted};
 ghost use Rattle.locks_rule.specs.Steps.{released_phase, set_read_bit_action, clear_read_bit_action, load_writer_action, claim_writer_action, scan_row_action, release_writer_action};
 ghost use Rattle.word_table.specs.Calls.{Looked, MakesSeen, ScannedBy, with_bit};
 ghost use Rattle.word_table.specs.Kinds.{TakenIn};
+ghost use Rattle.word_table.specs.Inner.Unsharing.{ClearsMore};
 ghost use Rattle.word_table.specs.Sound.{GroundHolds};
+ghost use Rattle.word_table.specs.Unsharing.{ClearsEach, rising};
 
 use super::Pass;
 use crate::answer::{Scanned, Shared, is_unclaimed, scanned_by, shared_by};
@@ -260,5 +262,46 @@ impl<S: Shape> Pass<S> {
                 lock: k,
             },
         );
+    }
+
+    // Clears the read bits of the word i of the own row, by rising lock.
+    #[inline(always)]
+    fn clear_word(&mut self, table: &TableWords<S>, i: u32)
+        requires table { self.old.table ≡ table.now.table_id }
+        requires word { i < 16 }
+        requires before { (k : ℕ) → k < 64 * i → ¬ HasBit self.old.view k }
+        requires undone { (self.old.view.undo ≡ []) ⊎ (self.old.view.phase ≡ Phase.Releasing) }
+        requires begun { self.old.view.phase ≢ Phase.Idle }
+        ensures table { self.new.table ≡ self.old.table }
+        ensures clears { ClearsMore (GroundHolds S.word_count S.good table.now.key) self.old self.new }
+        ensures before { (k : ℕ) → k < 64 * (i + 1) → ¬ HasBit self.new.view k }
+    {
+        while let Some(lock) = self.bit_in(i) {
+            self.clear_read_bit(table, lock);
+        }
+    }
+
+    // Read bits are of locks alone. The call does nothing: its contract says it.
+    fn only_locks_have_bits(&self)
+        ensures { (k : ℕ) → HasBit self.now.view k → k < LOCKS }
+    {
+        let _bits = &self.locks.bits;
+    }
+
+    // Clears all read bits, by rising lock.
+    pub(crate) fn clear_read_bits(&mut self, table: &TableWords<S>)
+        requires table { self.old.table ≡ table.now.table_id }
+        requires undone { (self.old.view.undo ≡ []) ⊎ (self.old.view.phase ≡ Phase.Releasing) }
+        requires begun { self.old.view.phase ≢ Phase.Idle }
+        ensures table { self.new.table ≡ self.old.table }
+        ensures steps { self.new.steps ≡ self.old.steps + length (rising self.old.view.bits) }
+        ensures clears { ClearsEach (GroundHolds S.word_count S.good table.now.key)
+            (rising self.old.view.bits) self.old.view self.new.view }
+        ensures none { (k : ℕ) → ¬ HasBit self.new.view k }
+    {
+        self.only_locks_have_bits();
+        for i in 0..16u32 {
+            self.clear_word(table, i);
+        }
     }
 }

@@ -4,7 +4,7 @@ ghost use Rattle.std.specs.Prelude.{◌≡◌, ◌<◌, ◌+◌, ℕ, true, fals
 ghost use Rattle.history_model.specs.declared.entry.Entry.{Entry};
 ghost use Rattle.history_model.specs.Legal.{IsIn};
 ghost use Rattle.history_model.specs.Locks.{lock_of_word};
-ghost use Rattle.history_model.specs.Views.{number, HasWriteGrant, IsGranted};
+ghost use Rattle.history_model.specs.Views.{number, HasWriteGrant};
 ghost use Rattle.history_model.specs.declared.event.Event.{Event};
 ghost use Rattle.history_model.specs.declared.event.Event.TheVariants.{Read};
 ghost use Rattle.history_model.specs.Counts.{is_attempt, is_open};
@@ -74,12 +74,11 @@ impl<S: Shape> Pass<S> {
         next
     }
 
-    // The load of the value of word a.
+    // The load of the value of word a, whose lock the attempt has a use of, and so holds.
     pub(crate) fn load_value(&mut self, table: &TableWords<S>, a: u64) -> u64
         requires table { self.old.table ≡ table.now.table_id }
         requires phase { self.old.view.phase ≡ Phase.Running }
         requires word { a < length self.old.view.base }
-        requires granted { IsGranted self.old.view (lock_of_word a) }
         requires used { HasUse self.old.view (lock_of_word a) }
         ensures table { self.new.table ≡ self.old.table }
         ensures steps { self.new.steps ≡ self.old.steps + 1 }

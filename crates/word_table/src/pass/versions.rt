@@ -19,9 +19,8 @@ use crate::{bits, step};
 use history_model::{LOCKS, Phase, Shape, lock_of};
 
 impl<S: Shape> Pass<S> {
-    // The load of the version of the lock of word a, at the attempt's first use of the lock. It stands by itself, so that
-    // a load of a value whose lock was used before is short.
-    #[inline(never)]
+    // The load of the version of the lock of word a, at the attempt's first use of the lock.
+    #[inline(always)]
     pub(crate) fn load_version(&mut self, table: &TableWords<S>, a: u64)
         requires table { self.old.table ≡ table.now.table_id }
         requires phase { self.old.view.phase ≡ Phase.Running }
@@ -37,7 +36,7 @@ impl<S: Shape> Pass<S> {
         let version = step::load(
             table,
             &mut self.seat,
-            place_of_version(self.call.seats, lock),
+            place_of_version(&self.call, lock),
             &Step::LoadVersion {
                 seat: self.call.who,
                 lock,
@@ -86,7 +85,7 @@ impl<S: Shape> Pass<S> {
         step::store(
             table,
             &mut self.seat,
-            place_of_version(self.call.seats, k),
+            place_of_version(&self.call, k),
             found + 1,
             &Step::StoreVersion {
                 seat: self.call.who,

@@ -10,10 +10,10 @@ use Rattle.books_report.proofs.journal.write_lines.Given as goal
 -- the text so far and the lines that are left are the whole
 abbrev pub invariant-loop-line : goal.invariant-loop-line
 invariant-loop-line l = record {
-  left : l.serial + length (iter_rest (zip_first l.line-iterator)) ≡ length l.lines + 1;
+  left : l.serial + length (iter_rest (zip_first l.line-iterator)) ≡ l.first + length l.lines;
   beside : length (iter_rest (zip_first l.line-iterator)) ≡ length (iter_rest (zip_second l.line-iterator));
   places : All (λ x. IsPlace l.input (place_of_line x)) (iter_rest (zip_first l.line-iterator));
   text : string_bytes l.text
       ++ journal_lines l.input l.serial (scripts_of (iter_rest (zip_first l.line-iterator)) (lent (iter_rest (zip_second l.line-iterator))))
-      ≡ string_bytes l.fn.text ++ journal_lines l.input 1 (scripts_of l.lines (lent l.replies));
+      ≡ string_bytes l.fn.text ++ journal_lines l.input l.first (scripts_of l.lines (lent l.replies));
 }

@@ -1,9 +1,8 @@
-use Rattle.std.proofs.Common.{◌≡◌, ◌≢◌, ◌<◌, []}
-use Rattle.history_model.specs.declared.TheConstants.{LOCKS}
+use Rattle.std.proofs.Common.{◌≡◌, ◌≢◌, []}
 use Rattle.history_model.specs.declared.view.Phase.TheVariants.{Idle}
 use Rattle.memory_tests.proofs.locks.unshare_all.Given as goal
 
--- nothing is left to undo, the call has begun, and the search goes on from a lock of the same words
+-- nothing is left to undo, the call has begun, and the words are the same
 abbrev pub invariant-loop : goal.invariant-loop
 invariant-loop l = (l.pass.table ≡ l.desk.table) × (l.pass.view.undo ≡ []) × (l.pass.view.phase ≢ Idle)
-    × (l.from < LOCKS) × (l.pass.view.base ≡ l.initial.pass.view.base)
+    × (l.pass.view.base ≡ l.initial.pass.view.base)

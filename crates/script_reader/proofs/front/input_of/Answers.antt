@@ -16,6 +16,13 @@ returns-in_err-callers-clause-fault c why e =
     c.books_of.new.lines
     c.scripts_of.new.lines why c.in_ok-version.ensures.text (c.scripts_of.ensures.fault why (c.in_err-callers.was ∙ ap Err same))
 
+pub new-requires : goal.new-requires
+new-requires c = record {
+  even = c.in_ok-callers.ensures.even;
+  few = c.in_ok-callers.ensures.found.valid.few;
+  few_scripts = c.in_ok-callers.ensures.found.valid.few_scripts;
+}
+
 pub new-requires-2 : goal.new-requires-2
 new-requires-2 c = record {
   books = c.in_ok-version.ensures.range;

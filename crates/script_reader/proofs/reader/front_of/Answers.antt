@@ -20,6 +20,13 @@ returns-in_err-callers-clause-fault g c why e =
     c.sizes_of.new.lines
     c.scripts_of.new.lines why c.in_ok-sizes.ensures.text (c.scripts_of.ensures.fault why (c.in_err-callers.was ∙ ap Err same))
 
+pub new-requires : goal.new-requires
+new-requires g c = record {
+  even = c.in_ok-callers.ensures.even;
+  few = c.in_ok-callers.ensures.found.valid.few;
+  few_scripts = c.in_ok-callers.ensures.found.valid.few_scripts;
+}
+
 pub returns-clause-found : goal.returns-clause-found
 returns-clause-found g c =
     let language = g.L.Language.language in

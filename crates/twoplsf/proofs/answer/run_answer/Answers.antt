@@ -11,7 +11,7 @@ use Rattle.twoplsf.proofs.answer.run_answer.Goals as goal
 pub returns-in-Err-Line : goal.returns-in-Err-Line
 returns-in-Err-Line g c =
     let line = c.in-Err-Line.line in let why = c.in-Err-Line.why in let bytes = c.args.bytes.now in
-    let first = c.read_input.ensures.refused line why (c.in-Err-Line.is ∙ ap Err c.in-Err-Line.field-0-is) in
+    let first = c.read_shared.ensures.refused line why (c.in-Err-Line.is ∙ ap Err c.in-Err-Line.field-0-is) in
     IfOk-weaker c.refusal.result _ _
     (refusing Spells IsFirstFault (IsRunOf c.args.workers) bytes line why first (no_input bytes line why first)) c.refusal.ensures
 

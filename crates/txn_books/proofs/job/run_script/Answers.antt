@@ -24,7 +24,7 @@ loop-part-init g c =
       left = omega (arith, c.requires.range.few, ap (λ (parts : List Part). length (operations_of parts)) all);
       each = subst (λ parts. All (IsOperationIn c.args.shape.now) (operations_of parts)) all c.requires.range.each;
       run = subst (λ values. Turned g.W.Words g.W.Shape.Shape c.args.shape.now c.args.w.now c.args.w.now
-          (SoFar (run_parts 1 c.args.script.now) values (run_parts 1 (iter_rest c.into_iter-part-iterator.result)))) (sym c.new-values.ensures)
+          (SoFar (run_parts 1 c.args.script.now) values (run_parts 1 (iter_rest c.into_iter-part-iterator.result)))) (sym c.in_ok-values.ensures)
           (run_begins c.args.w.now _ _ [] (λ books. after_values-none _ ∙ ap (λ parts. run_parts 1 parts books) (sym all)));
     }
 
@@ -120,19 +120,19 @@ loop-part-preserved g c =
       left = omega (
         arith,
         i.left,
-        c.len.ensures,
         c.len-in-Either.ensures,
+        c.len-in-Either-2.ensures,
         more,
         length-append (c.in-Either.first ++ c.in-Either.second) (operations_of rest),
         ap (λ parts. length (operations_of parts)) (from_here g here p c.in-Either.is),
       );
       each = All-back (IsOperationIn c.args.shape.now) (c.in-Either.first ++ c.in-Either.second) (operations_of rest) (ranges g here p c.in-Either.is);
       run = subst (λ values. Turned g.W.Words g.W.Shape.Shape c.args.shape.now c.args.w.now c.run_either.new.w
-          (SoFar (run_parts 1 c.args.script.now) values (run_parts (c.loop-part.number + (c.len.result + c.len-in-Either.result)) rest)))
+          (SoFar (run_parts 1 c.args.script.now) values (run_parts (c.loop-part.number + (c.len-in-Either.result + c.len-in-Either-2.result)) rest)))
           (sym c.in_ok-append-in-Done.ensures.ok)
           (subst (λ n. Turned g.W.Words g.W.Shape.Shape c.args.shape.now c.args.w.now c.run_either.new.w
           (SoFar (run_parts 1 c.args.script.now) (c.loop-part.values ++ c.in-Done.more) (run_parts (c.loop-part.number + n) rest)))
-          (omega (arith, more, c.len.ensures, c.len-in-Either.ensures))
+          (omega (arith, more, c.len-in-Either.ensures, c.len-in-Either-2.ensures))
           (part_done _ c.loop-part.values c.loop-part.number p rest _ hands (whole g here p c.in-Either.is)
           c.in_ok-refused-in-Either.ensures.runs c.in-Done.more c.in-Done.is));
     }

@@ -20,7 +20,7 @@ loop-share-preserved c =
     }
 
 pub returns-in_err-add_share : goal.returns-in_err-add_share
-returns-in_err-add_share c = let failed = c.from_residual.ensures.0 in search IfOk-from_err
+returns-in_err-add_share c = let failed = c.from_residual-in_err-add_share.ensures.0 in search IfOk-from_err
 
 pub returns : goal.returns
 returns c =

@@ -25,7 +25,7 @@ loop-pass-preserved g c =
     let own = c.in-Some-pop.own in
     let row = c.in-Some-pop-2.row in
     let taker : Taker = record { own = own; passes = row; seat = c.len.result; count = 0 } in
-    let worker : Worker = record { taker = taker; share = record { pass = pass; done = c.new.result }; failed = false } in
+    let worker : Worker = record { taker = taker; share = record { pass = pass; done = c.new-done.result; readers = c.in_ok-readers.readers }; failed = false } in
     let before = workers_of at.workers.items in
     let more : workers_of c.push.new.self.items ≡ before ++ worker ∷ [] =
     one_apart at.workers.items c.push.new.self.items c.new-in-loop-pass.result worker c.in_ok-push.ensures.items c.new-in-loop-pass.ensures in
@@ -54,7 +54,7 @@ loop-pass-preserved g c =
       rows = left.0;
       seated = All-same (IsSeated thieves desk) _ _ more
           (All-push (IsSeated thieves desk) before worker i.seated
-          (seated_at thieves desk (length at.yielded) worker end unused new c.new.ensures.items refl));
+          (seated_at thieves desk (length at.yielded) worker end unused new c.new-done.ensures.items refl));
       numbers = numbers_push number_of (λ (p : PassView). number p.view) before (workers_of c.push.new.self.items)
           at.yielded worker pass more refl i.numbers;
     }

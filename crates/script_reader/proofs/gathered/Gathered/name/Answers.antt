@@ -11,12 +11,12 @@ index-requires g c =
       arith,
       c.requires,
       ap length c.self.view_is,
-      count_callers string_bytes (λ v. v.items) c.self.inside.gathering.names.keys c.self.inside.gathering.scripts.items c.self.invariant.beside,
+      count_callers string_bytes (λ v. v.items) c.self.inside.gathering.names.keys c.self.inside.gathering.scripts.items c.self.invariant.even.beside,
     )
 
 pub returns : goal.returns
 returns g c =
     c.as_str.ensures.value
     ∙ sym (name_beside string_bytes (λ v. v.items) c.self.inside.gathering.names.keys c.self.inside.gathering.scripts.items
-    c.args.caller c.index.result.now (record { name = []; scripts = [] }) c.self.invariant.beside c.index.ensures)
+    c.args.caller c.index.result.now (record { name = []; scripts = [] }) c.self.invariant.even.beside c.index.ensures)
     ∙ ap (λ l. (caller_at l c.args.caller).name) c.self.view_is

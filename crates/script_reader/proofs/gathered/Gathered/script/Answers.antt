@@ -11,26 +11,26 @@ index-requires g c =
       arith,
       c.requires.there,
       ap length c.self.view_is,
-      c.self.invariant.beside,
-      count_callers string_bytes (λ v. v.items) c.self.inside.gathering.names.keys c.self.inside.gathering.scripts.items c.self.invariant.beside,
+      c.self.invariant.even.beside,
+      count_callers string_bytes (λ v. v.items) c.self.inside.gathering.names.keys c.self.inside.gathering.scripts.items c.self.invariant.even.beside,
     )
 
 pub index-requires-2 : goal.index-requires-2
 index-requires-2 g c =
-    let many = count_callers string_bytes (λ v. v.items) c.self.inside.gathering.names.keys c.self.inside.gathering.scripts.items c.self.invariant.beside in
+    let many = count_callers string_bytes (λ v. v.items) c.self.inside.gathering.names.keys c.self.inside.gathering.scripts.items c.self.invariant.even.beside in
     let less : c.args.caller < length c.self.inside.gathering.scripts.items =
-    omega (arith, c.requires.there, ap length c.self.view_is, c.self.invariant.beside, many) in
+    omega (arith, c.requires.there, ap length c.self.view_is, c.self.invariant.even.beside, many) in
     let scripts = scripts_beside string_bytes (λ v. v.items) c.self.inside.gathering.names.keys c.self.inside.gathering.scripts.items
-    c.args.caller c.index.result.now (record { name = []; scripts = [] }) c.self.invariant.beside less (sym c.index.ensures) in
+    c.args.caller c.index.result.now (record { name = []; scripts = [] }) c.self.invariant.even.beside less (sym c.index.ensures) in
     omega (arith, c.requires.index, ap length scripts, ap (λ l. length (caller_at l c.args.caller).scripts) c.self.view_is)
 
 pub returns : goal.returns
 returns g c =
-    let many = count_callers string_bytes (λ v. v.items) c.self.inside.gathering.names.keys c.self.inside.gathering.scripts.items c.self.invariant.beside in
+    let many = count_callers string_bytes (λ v. v.items) c.self.inside.gathering.names.keys c.self.inside.gathering.scripts.items c.self.invariant.even.beside in
     let less : c.args.caller < length c.self.inside.gathering.scripts.items =
-    omega (arith, c.requires.there, ap length c.self.view_is, c.self.invariant.beside, many) in
+    omega (arith, c.requires.there, ap length c.self.view_is, c.self.invariant.even.beside, many) in
     let scripts = scripts_beside string_bytes (λ v. v.items) c.self.inside.gathering.names.keys c.self.inside.gathering.scripts.items
-    c.args.caller c.index.result.now (record { name = []; scripts = [] }) c.self.invariant.beside less (sym c.index.ensures) in
+    c.args.caller c.index.result.now (record { name = []; scripts = [] }) c.self.invariant.even.beside less (sym c.index.ensures) in
     let inner : c.args.index < length c.index.result.now.items = omega (
       arith,
       c.requires.index,

@@ -1,9 +1,30 @@
-use Rattle.std.proofs.Common.{refl}
+use Rattle.std.proofs.Common.{true, refl, ap, ◌∙◌}
+use Rattle.atomic_table.specs.Table.{Me}
+use Rattle.history_model.specs.declared.view.View.{View}
 use Rattle.history_model.specs.Fitting.{IsGood}
 use Rattle.stamps_rule.specs.Steps.{announce_stamp_action}
+use Rattle.word_table.specs.Copies.{PassView}
 use Rattle.word_table.specs.Sound.{IsSound}
+use Rattle.word_table.proofs.Copied.After.{copy_made, lock_copy, busy, runs_on}
 use Rattle.word_table.proofs.Calls.Taken.{taken_in}
 use Rattle.word_table.proofs.pass.Pass.announce_stamp.Goals as goal
+
+pub invariant_of-self : goal.invariant_of-self
+invariant_of-self g c = let i = c.self.invariant in let p = c.self.inside in let l = i.locks_are in let v : View = p.seat.me.0 in
+    let w : View = (announce_stamp_action p.call.who v).view 0 in let after : Me (Unit {0}) View = (w, p.seat.me.1) in
+    copy_made i (record p.call { announced = true }) p.locks c.store.new.seat.table_id c.store.new.seat.me w c.store.ensures.seat
+    (ap (λ (m : Me (Unit {0}) View). m.0) {y = after} c.store.ensures.view) (ap (λ (m : Me (Unit {0}) View). m.1) {y = after} c.store.ensures.view)
+    refl refl refl refl refl refl refl refl
+    record {
+      seats_are = i.call_is.seats_are;
+      who_is = i.call_is.who_is;
+      phase_is = i.call_is.phase_is;
+      calls_are = i.call_is.calls_are;
+      stamp_is = i.call_is.stamp_is;
+      announced_is = refl;
+    }
+    (lock_copy p.locks w l.bits_are l.reads_are l.claims_are l.scans_are l.versions_are)
+    (busy w (runs_on v w refl (ap (λ (x : PassView). x.view.phase) c.self.view_is ∙ c.requires.phase))) i.holds_used
 
 pub returns-clause-taken : goal.returns-clause-taken
 returns-clause-taken g c = let p = c.self.inside in let t = c.store.ensures.took in (

@@ -7,7 +7,7 @@ use Rattle.values_rule.specs.Steps.{begin_call_action}
 use Rattle.word_table.specs.Sound.{IsSound}
 use Rattle.word_table.specs.declared.copies.LockCopy.{LockCopy}
 use Rattle.word_table.proofs.Copied.Rows.{zeros, shows_none}
-use Rattle.word_table.proofs.Copied.After.{copy_called, lock_copy, busy}
+use Rattle.word_table.proofs.Copied.After.{copy_called, lock_copy, busy, holds_none}
 use Rattle.word_table.proofs.Copied.VersionCopies.{versions_begun}
 use Rattle.word_table.proofs.Calls.Committing.{begin_reads}
 use Rattle.word_table.proofs.Calls.Taken.{taken_in, own_number}
@@ -22,7 +22,7 @@ invariant_of-self g c = let i = c.self.invariant in let p = c.self.inside in let
     refl refl refl (ap (λ (x : ℕ). x + 1) i.call_is.calls_are) refl refl refl
     (lock_copy locks w l.bits_are l.reads_are l.claims_are l.scans_are
     (versions_begun p.locks.versions v.uses v.owed v.trace v.undo v.phase l.versions_are (zeros 16) (zeros 16) shows_none shows_none))
-    (busy w (λ e. let z : Running ≡ Idle = e in cc))
+    (busy w (λ e. let z : Running ≡ Idle = e in cc)) (holds_none w refl)
 
 pub returns-clause-taken : goal.returns-clause-taken
 returns-clause-taken g c = let p = c.self.inside in let t = c.store.ensures.took in (

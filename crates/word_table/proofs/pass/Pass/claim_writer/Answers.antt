@@ -8,7 +8,7 @@ use Rattle.word_table.specs.declared.limits.TheConstants.{MOST_PASSES}
 use Rattle.word_table.specs.Copies.{PassView}
 use Rattle.word_table.proofs.Calls.Found.{not_own_found, writer_small}
 use Rattle.word_table.proofs.Calls.Taken.{taken_in}
-use Rattle.word_table.proofs.Copied.After.{copy_after, claim_same, claim_phase, claim_copy, busy, runs_on}
+use Rattle.word_table.proofs.Copied.After.{copy_after, claim_same, claim_phase, claim_copy, claim_holds, busy, runs_on}
 use Rattle.word_table.proofs.pass.Pass.claim_writer.Goals as goal
 
 pub invariant_of-self : goal.invariant_of-self
@@ -24,6 +24,8 @@ invariant_of-self g c = let i = c.self.invariant in let p = c.self.inside in let
     (busy ((claim_writer_action p.call.who k c.args.a p.seat.me.0).view w)
     (runs_on p.seat.me.0 ((claim_writer_action p.call.who k c.args.a p.seat.me.0).view w)
     (claim_phase p.call.who k c.args.a p.seat.me.0 w) (ap (λ (x : PassView). x.view.phase) c.self.view_is ∙ c.requires.phase)))
+    (claim_holds p.call.who k c.args.a p.seat.me.0 w (λ claim. c.requires.claim (subst (λ (m : ℕ). HasClaim c.args.self.now.view m)
+    c.lock_of-lock.ensures.lock (subst (λ (x : PassView). HasClaim x.view k) c.self.view_is claim))) i.holds_used)
 
 pub returns-clause-taken : goal.returns-clause-taken
 returns-clause-taken g c = let p = c.self.inside in

@@ -8,7 +8,7 @@ use Rattle.word_table.specs.Sound.{IsSound}
 use Rattle.word_table.proofs.Calls.Taken.{taken_in, own_number}
 use Rattle.history_model.specs.Views.{number, HasBit, HasClaim}
 use Rattle.word_table.specs.Copies.{PassView}
-use Rattle.word_table.proofs.Copied.After.{copy_made, lock_copy}
+use Rattle.word_table.proofs.Copied.After.{copy_made, lock_copy, holds_off}
 use Rattle.word_table.proofs.Copied.VersionCopies.{versions_over}
 use Rattle.stamps_rule.proofs.Bounds.{restarts_bounded}
 use Rattle.word_table.proofs.pass.Pass.clear_stamp.Goals as goal
@@ -18,7 +18,7 @@ invariant_of-self g c = let i = c.self.invariant in let p = c.self.inside in let
     let w : View = (clear_stamp_action p.call.who v).view 0 in let after : Me (Unit {0}) View = (w, p.seat.me.1) in
     copy_made i (record p.call { phase = Idle; stamp = 0; announced = false }) p.locks c.store.new.seat.table_id c.store.new.seat.me w c.store.ensures.seat
     (ap (λ (m : Me (Unit {0}) View). m.0) {y = after} c.store.ensures.view) (ap (λ (m : Me (Unit {0}) View). m.1) {y = after} c.store.ensures.view)
-    refl refl refl refl refl refl refl
+    refl refl refl refl refl refl refl refl
     record {
       seats_are = i.call_is.seats_are;
       who_is = i.call_is.who_is;
@@ -34,6 +34,7 @@ invariant_of-self g c = let i = c.self.invariant in let p = c.self.inside in let
       no_bit = λ k t. c.requires.no_bit k (subst (λ (x : PassView). HasBit x.view k) c.self.view_is t);
       no_claim = λ k t. c.requires.no_claim k (subst (λ (x : PassView). HasClaim x.view k) c.self.view_is t);
     })
+    (holds_off w Idle refl (λ e. cc))
 
 pub returns-clause-taken : goal.returns-clause-taken
 returns-clause-taken g c = let p = c.self.inside in let t = c.store.ensures.took in (

@@ -6,7 +6,7 @@ use Rattle.values_rule.specs.Steps.{commit_call_action}
 use Rattle.word_table.specs.Sound.{IsSound}
 use Rattle.word_table.specs.declared.copies.LockCopy.{LockCopy}
 use Rattle.word_table.specs.Copies.{PassView}
-use Rattle.word_table.proofs.Copied.After.{copy_stored, steady, lock_copy, busy}
+use Rattle.word_table.proofs.Copied.After.{copy_stored, steady, lock_copy, busy, holds_off}
 use Rattle.word_table.proofs.Copied.VersionCopies.{versions_committed}
 use Rattle.word_table.proofs.Calls.Committing.{commit_knew}
 use Rattle.word_table.proofs.Calls.Taken.{taken_in, own_number}
@@ -23,7 +23,7 @@ invariant_of-self g c = let i = c.self.invariant in let p = c.self.inside in let
     (lock_copy locks w l.bits_are l.reads_are l.claims_are l.scans_are
     (versions_committed p.locks.versions v.uses v.owed v.trace v.undo v.phase l.versions_are c.args.kept c.clear_unless.new.row
     (λ k. ap (λ (x : PassView). x.view.phase) c.self.view_is ∙ c.requires.runs k) c.clear_unless.ensures))
-    (busy w (λ e. let z : Releasing ≡ Idle = e in cc))
+    (busy w (λ e. let z : Releasing ≡ Idle = e in cc)) (holds_off w Releasing refl (λ e. cc))
 
 pub returns-clause-taken : goal.returns-clause-taken
 returns-clause-taken g c = let p = c.self.inside in let t = c.store.ensures.took in (

@@ -4,7 +4,7 @@ use Rattle.history_model.specs.declared.view.Phase.TheVariants.{Idle, Running, Y
 use Rattle.history_model.specs.Fitting.{IsGood}
 use Rattle.stamps_rule.specs.Steps.{load_cause_stamp_action, after_waiting, after_restarting}
 use Rattle.word_table.specs.Copies.{PassView}
-use Rattle.word_table.proofs.Copied.After.{copy_after, busy, look_same, look_phase, look_copy}
+use Rattle.word_table.proofs.Copied.After.{copy_after, busy, look_same, look_phase, look_copy, look_holds}
 use Rattle.word_table.specs.Sound.{IsSound}
 use Rattle.word_table.proofs.Calls.Committing.{restart_reads}
 use Rattle.word_table.proofs.Calls.Taken.{taken_in, own_number}
@@ -25,7 +25,7 @@ invariant_of-self g c = let i = c.self.invariant in let p = c.self.inside in let
     c.load-shown.new.seat.table_id c.load-shown.new.seat.me w c.load-shown.ensures.seat t.0.view t.1 (look_same b v) phase_is
     (look_copy p.locks v b c.clear_unless.new.row i.locks_are yields
     (ap (λ (x : PassView). x.view.undo) c.self.view_is ∙ c.requires.undone) c.clear_unless.ensures)
-    (busy w (λ e. going b (sym (look_phase b v yields) ∙ e)))
+    (busy w (λ e. going b (sym (look_phase b v yields) ∙ e))) (look_holds b v yields)
 
 pub returns-clause-taken : goal.returns-clause-taken
 returns-clause-taken g c = let p = c.self.inside in

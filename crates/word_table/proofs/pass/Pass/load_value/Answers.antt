@@ -15,14 +15,15 @@ use Rattle.word_table.proofs.Calls.Taken.{taken_in, own_number}
 use Rattle.word_table.proofs.pass.Pass.load_value.Goals as goal
 
 pub load-requires-clause-may : goal.load-requires-clause-may
-load-requires-clause-may g c = let p = c.self.inside in let i = c.self.invariant in let v : View = p.seat.me.0 in record {
-  who = i.call_is.who_is;
-  phase = ap (λ (x : PassView). x.view.phase) c.self.view_is ∙ c.requires.phase;
-  word = subst (λ (x : PassView). c.args.a < length x.view.base) (sym c.self.view_is) c.requires.word;
-  granted = subst (λ (x : PassView). IsGranted x.view (lock_of_word c.args.a)) (sym c.self.view_is) c.requires.granted;
-  used = use_found v.uses (lock_of_word c.args.a)
-      (ap (λ (x : PassView). has (lock_of_word c.args.a) (locks_found x.view.uses)) c.self.view_is ∙ c.requires.used);
-}
+load-requires-clause-may g c = let p = c.self.inside in let i = c.self.invariant in let v : View = p.seat.me.0 in
+    let runs = ap (λ (x : PassView). x.view.phase) c.self.view_is ∙ c.requires.phase in
+    let used = ap (λ (x : PassView). has (lock_of_word c.args.a) (locks_found x.view.uses)) c.self.view_is ∙ c.requires.used in record {
+      who = i.call_is.who_is;
+      phase = runs;
+      word = subst (λ (x : PassView). c.args.a < length x.view.base) (sym c.self.view_is) c.requires.word;
+      granted = i.holds_used runs (lock_of_word c.args.a) used;
+      used = use_found v.uses (lock_of_word c.args.a) used;
+    }
 
 pub invariant_of-self : goal.invariant_of-self
 invariant_of-self g c = let i = c.self.invariant in let p = c.self.inside in let l = i.locks_are in let v : View = p.seat.me.0 in
@@ -32,7 +33,7 @@ invariant_of-self g c = let i = c.self.invariant in let p = c.self.inside in let
     (lock_copy p.locks w l.bits_are l.reads_are l.claims_are l.scans_are
     (versions_read p.locks.versions v.uses v.owed v.trace v.undo v.phase l.versions_are c.args.a c.load.result
     (ap (λ (x : PassView). has (lock_of_word c.args.a) (locks_found x.view.uses)) c.self.view_is ∙ c.requires.used)))
-    (busy w (runs_on v w refl (ap (λ (x : PassView). x.view.phase) c.self.view_is ∙ c.requires.phase)))
+    (busy w (runs_on v w refl (ap (λ (x : PassView). x.view.phase) c.self.view_is ∙ c.requires.phase))) i.holds_used
 
 pub returns-clause-taken : goal.returns-clause-taken
 returns-clause-taken g c = let p = c.self.inside in
@@ -49,6 +50,8 @@ returns-clause-fits g c = let p = c.self.inside in let i = c.self.invariant in
       who = own_number p.call.who p.seat.me.0 p.seat.table_id c.args.self.now c.self.view_is i.call_is.who_is;
       phase = c.requires.phase;
       word = c.requires.word;
-      granted = c.requires.granted;
+      granted = subst (λ (x : PassView). IsGranted x.view (lock_of_word c.args.a)) c.self.view_is
+          (i.holds_used (ap (λ (x : PassView). x.view.phase) c.self.view_is ∙ c.requires.phase) (lock_of_word c.args.a)
+          (ap (λ (x : PassView). has (lock_of_word c.args.a) (locks_found x.view.uses)) c.self.view_is ∙ c.requires.used));
       used = use_found c.args.self.now.view.uses (lock_of_word c.args.a) c.requires.used;
     }

@@ -1,4 +1,4 @@
-use Rattle.std.proofs.Common.{◌≡◌, ℕ, ◌+◌, ◌^◌, ◌<◌, ◌≤◌, false, slice_set, refl, sym, ap, ◌∙◌, subst, arith}
+use Rattle.std.proofs.Common.{◌≡◌, ℕ, ◌+◌, ◌^◌, ◌<◌, ◌≤◌, false, ⊎_elim, slice_set, refl, sym, ap, ◌∙◌, subst, arith}
 use Rattle.history_model.specs.declared.view.View.{View}
 use Rattle.history_model.specs.Fitting.{IsGood}
 use Rattle.history_model.specs.Sets.{has}
@@ -9,7 +9,7 @@ use Rattle.word_table.specs.declared.limits.TheConstants.{MOST_PASSES}
 use Rattle.word_table.specs.Copies.{PassView}
 use Rattle.word_table.specs.Versions.{locks_found}
 use Rattle.word_table.proofs.Copied.After.{copy_after, steady, lock_copy, busy, runs_on}
-use Rattle.word_table.proofs.Copied.VersionCopies.{found_use, versions_found}
+use Rattle.word_table.proofs.Copied.VersionCopies.{found_before, found_use, versions_found}
 use Rattle.word_table.proofs.Kept.Growing.{version_grows}
 use Rattle.word_table.proofs.pass.Pass.load_version.Goals as goal
 
@@ -37,9 +37,13 @@ invariant_of-self g c = let i = c.self.invariant in let p = c.self.inside in let
     i.call_is.who_is few c.lock_of-lock.ensures.below c.args.table.now.key.seats c.args.table.now.key.base.items
     t.0.words t.0.views t.0.place t.0.holds t.0.knows) in
     let w : View = (load_version_action p.call.who k v).view x in
+    let granted : IsGranted v k = subst (λ (y : PassView). IsGranted y.view k) (sym c.self.view_is)
+    (subst (λ (m : ℕ). IsGranted c.args.self.now.view m) (sym c.lock_of-lock.ensures.lock) c.requires.granted) in
     copy_after i p.call.phase _ c.load-version.new.seat.table_id c.load-version.new.seat.me w c.load-version.ensures.seat t.0.view t.1
     (steady v w refl refl refl refl refl refl) i.call_is.phase_is
     (lock_copy _ w l.bits_are l.reads_are l.claims_are l.scans_are
     (versions_found p.locks.versions v.uses v.owed v.trace v.undo v.phase l.versions_are k x c.raise.new.row
     (slice_set p.locks.versions.found.items k x) c.lock_of-lock.ensures.below fresh fits c.raise.ensures refl _ refl refl refl))
     (busy w (runs_on v w refl (ap (λ (y : PassView). y.view.phase) c.self.view_is ∙ c.requires.phase)))
+    (λ runs l used. ⊎_elim (λ (e : l ≡ k). subst (λ (m : ℕ). IsGranted v m) (sym e) granted) (λ old. i.holds_used runs l old)
+    (found_before v.uses k x l used))

@@ -7,7 +7,7 @@ use Rattle.word_table.specs.declared.limits.TheConstants.{MOST_PASSES}
 use Rattle.word_table.proofs.Calls.Found.{writer_small}
 use Rattle.word_table.proofs.Calls.Taken.{taken_in}
 use Rattle.word_table.specs.Copies.{PassView}
-use Rattle.word_table.proofs.Copied.After.{copy_after, load_same, load_phase, load_copy, same_test, busy, runs_on}
+use Rattle.word_table.proofs.Copied.After.{copy_after, load_same, load_phase, load_copy, load_holds, same_test, busy, runs_on}
 use Rattle.word_table.proofs.pass.Pass.load_writer.Goals as goal
 
 pub invariant_of-self : goal.invariant_of-self
@@ -22,6 +22,7 @@ invariant_of-self g c = let i = c.self.invariant in let p = c.self.inside in let
     (busy ((load_writer_action p.call.who k c.args.a p.seat.me.0).view w)
     (runs_on p.seat.me.0 ((load_writer_action p.call.who k c.args.a p.seat.me.0).view w)
     (load_phase p.call.who k c.args.a p.seat.me.0 w) (ap (λ (x : PassView). x.view.phase) c.self.view_is ∙ c.requires.phase)))
+    (load_holds p.call.who k c.args.a p.seat.me.0 w i.holds_used)
 
 pub returns-clause-taken : goal.returns-clause-taken
 returns-clause-taken g c = let p = c.self.inside in

@@ -1,8 +1,8 @@
-use Rattle.std.proofs.Common.{subst}
+use Rattle.std.proofs.Common.{◌≤◌, subst}
 use Rattle.history_model.specs.Views.{HasClaim}
 use Rattle.word_table.specs.Copies.{PassView}
 use Rattle.word_table.specs.Least.{IsLeast}
-use Rattle.word_table.proofs.Copied.Passes.{least_of_all, least_near}
+use Rattle.word_table.proofs.Copied.Passes.{least_of_all, near_least}
 use Rattle.word_table.proofs.pass.Pass.next_claim.Goals as goal
 
 pub returns-clause-least : goal.returns-clause-least
@@ -12,4 +12,4 @@ returns-clause-least g c = let v = c.self.inside.seat.me.0 in let i = c.self.inv
 
 pub returns-clause-lock : goal.returns-clause-lock
 returns-clause-lock g c = let v = c.self.inside.seat.me.0 in let i = c.self.invariant.locks_are in
-    least_near c.self.inside.locks.claims v.claims 0 c.least_from.result i.claims_are (c.least_from.ensures v.claims i.claims_are)
+    near_least c.self.inside.locks.claims v.claims (λ k. 0 ≤ k) c.least_from.result i.claims_are (c.least_from.ensures v.claims i.claims_are)

@@ -7,7 +7,7 @@ use Rattle.word_table.specs.Sound.{IsSound}
 use Rattle.locks_rule.specs.Steps.{release_writer_action, released_phase}
 use Rattle.word_table.proofs.Calls.Taken.{taken_in}
 use Rattle.word_table.specs.Copies.{PassView}
-use Rattle.word_table.proofs.Copied.After.{copy_stored, steady, lock_copy, busy, releases_on}
+use Rattle.word_table.proofs.Copied.After.{copy_stored, steady, lock_copy, busy, releases_on, holds_off, released_stands}
 use Rattle.word_table.proofs.Copied.VersionCopies.{versions_released}
 use Rattle.word_table.proofs.pass.Pass.release_writer.Goals as goal
 
@@ -28,6 +28,7 @@ invariant_of-self g c = let i = c.self.invariant in let p = c.self.inside in let
     (λ e. c.requires.begun (sym (ap (λ (x : PassView). x.view.phase) c.self.view_is) ∙ e))
     (subst (λ (x : PassView). (x.view.undo ≡ []) ⊎ (x.view.phase ≡ Releasing)) (sym c.self.view_is) c.requires.undone)))
     (busy v (releases_on p.seat.me.0.phase (λ e. c.requires.begun (sym (ap (λ (x : PassView). x.view.phase) c.self.view_is) ∙ e))))
+    (holds_off v (released_phase p.seat.me.0.phase) refl (released_stands p.seat.me.0.phase))
 
 pub returns-clause-taken : goal.returns-clause-taken
 returns-clause-taken g c = let p = c.self.inside in let t = c.store.ensures.took in (

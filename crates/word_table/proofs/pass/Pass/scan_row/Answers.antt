@@ -4,7 +4,7 @@ use Rattle.word_table.specs.Sound.{IsSound}
 use Rattle.locks_rule.specs.Steps.{scan_row_action}
 use Rattle.word_table.proofs.Calls.Taken.{taken_in}
 use Rattle.word_table.specs.Copies.{PassView}
-use Rattle.word_table.proofs.Copied.After.{copy_after, clear_bit, scan_same, scan_phase, scan_copy, busy, runs_on}
+use Rattle.word_table.proofs.Copied.After.{copy_after, clear_bit, scan_same, scan_phase, scan_copy, scan_holds, busy, runs_on}
 use Rattle.word_table.proofs.pass.Pass.scan_row.Goals as goal
 
 pub invariant_of-self : goal.invariant_of-self
@@ -19,6 +19,7 @@ invariant_of-self g c = let i = c.self.invariant in let p = c.self.inside in let
     (busy ((scan_row_action p.call.who c.args.k c.args.other p.seat.me.0).view w)
     (runs_on p.seat.me.0 ((scan_row_action p.call.who c.args.k c.args.other p.seat.me.0).view w)
     (scan_phase p.call.who c.args.k c.args.other p.seat.me.0 w) (ap (λ (x : PassView). x.view.phase) c.self.view_is ∙ c.requires.phase)))
+    (scan_holds p.call.who c.args.k c.args.other p.seat.me.0 w i.holds_used)
 
 pub returns-clause-taken : goal.returns-clause-taken
 returns-clause-taken g c = let p = c.self.inside in

@@ -23,7 +23,7 @@ invariant_of-self g c = let i = c.self.invariant in let p = c.self.inside in let
     (steady p.seat.me.0 v refl refl refl refl refl refl) i.call_is.phase_is
     (lock_copy (record p.locks { bits = c.raise.new.row }) v (c.raise.ensures p.seat.me.0.bits i.locks_are.bits_are)
     i.locks_are.reads_are i.locks_are.claims_are i.locks_are.scans_are i.locks_are.versions_are)
-    (busy v (runs_on p.seat.me.0 v refl (ap (λ (x : PassView). x.view.phase) c.self.view_is ∙ c.requires.phase)))
+    (busy v (runs_on p.seat.me.0 v refl (ap (λ (x : PassView). x.view.phase) c.self.view_is ∙ c.requires.phase))) i.holds_used
 
 pub returns-clause-taken : goal.returns-clause-taken
 returns-clause-taken g c = let p = c.self.inside in let t = c.store.ensures.took in (

@@ -18,4 +18,4 @@ invariant_of-self g c = let i = c.self.invariant in let p = c.self.inside in let
     (versions_stored p.locks.versions v.uses v.owed v.trace v.undo v.phase l.versions_are c.args.a c.args.value (known_value v c.args.a)
     c.requires.read.1 c.requires.read.0 c.raise.new.row runs (ap (λ (x : PassView). x.view.trace) c.self.view_is ∙ c.requires.read.2)
     (λ locks s. subst (λ (k : ℕ). ShowsLocks c.raise.new.row (k ∷ locks)) c.lock_of.ensures.lock (c.raise.ensures locks s))))
-    (busy w (runs_on v w refl runs))
+    (busy w (runs_on v w refl runs)) i.holds_used

@@ -11,7 +11,7 @@ use Rattle.word_table.specs.declared.copies.LockCopy.{LockCopy}
 use Rattle.word_table.specs.Copies.{PassView}
 use Rattle.word_table.specs.Sound.{IsSound}
 use Rattle.word_table.proofs.Calls.Taken.{taken_in}
-use Rattle.word_table.proofs.Copied.After.{copy_stored, steady, lock_copy, busy}
+use Rattle.word_table.proofs.Copied.After.{copy_stored, steady, lock_copy, busy, holds_off}
 use Rattle.word_table.proofs.Copied.VersionCopies.{found_again, versions_paid}
 use Rattle.word_table.proofs.pass.Pass.store_version.Goals as goal
 
@@ -41,7 +41,7 @@ invariant_of-self g c = let i = c.self.invariant in let p = c.self.inside in let
     (steady v w refl refl refl refl refl refl) i.call_is.phase_is
     (lock_copy locks w l.bits_are l.reads_are l.claims_are l.scans_are
     (versions_paid p.locks.versions v.uses v.owed v.trace v.undo v.phase l.versions_are c.args.k c.lower.new.row ends c.lower.ensures))
-    (busy w (λ e. let z : Releasing ≡ Idle = sym ends ∙ e in cc))
+    (busy w (λ e. let z : Releasing ≡ Idle = sym ends ∙ e in cc)) (holds_off w Releasing ends (λ e. cc))
 
 pub returns-clause-taken : goal.returns-clause-taken
 returns-clause-taken g c = let p = c.self.inside in let i = c.self.invariant in let l = i.locks_are in let v : View = p.seat.me.0 in

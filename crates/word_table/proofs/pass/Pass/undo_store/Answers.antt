@@ -7,7 +7,7 @@ use Rattle.values_rule.proofs.Phases.{undoing_idle}
 use Rattle.word_table.specs.declared.copies.LockCopy.{LockCopy}
 use Rattle.word_table.specs.Copies.{PassView}
 use Rattle.word_table.proofs.Copied.Rows.{zeros, shows_none}
-use Rattle.word_table.proofs.Copied.After.{copy_stored, steady, lock_copy, busy}
+use Rattle.word_table.proofs.Copied.After.{copy_stored, steady, lock_copy, busy, holds_off, undoing_stands}
 use Rattle.word_table.proofs.Copied.VersionCopies.{versions_undone}
 use Rattle.word_table.proofs.pass.Pass.undo_store.Goals as goal
 
@@ -20,4 +20,4 @@ invariant_of-self g c = let i = c.self.invariant in let p = c.self.inside in let
     (steady v w refl refl refl refl refl refl) (ap (λ (x : Phase). undoing_phase x) i.call_is.phase_is ∙ sym c.after_undo-undoing.ensures)
     (lock_copy locks w l.bits_are l.reads_are l.claims_are l.scans_are
     (versions_undone p.locks.versions v.uses v.owed v.trace v.undo v.phase l.versions_are (zeros 16) (length v.undo - 1) shows_none opens))
-    (busy w (undoing_idle v.phase opens))
+    (busy w (undoing_idle v.phase opens)) (holds_off w (undoing_phase v.phase) refl (undoing_stands v.phase))

@@ -1,0 +1,2 @@
+-- what has happened while read bits are given up
+pub mod Unsharing
