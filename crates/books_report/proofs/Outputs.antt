@@ -1,5 +1,3 @@
--- the digits of a number in a text
-pub mod Decimals
 -- the text of replies and of journal lines, one piece after another
 pub mod Journals
 -- the books at the end of a journal, and scripts for them

@@ -1,29 +1,17 @@
 //! The text of clearing books.
 
-ghost use Rattle.std.specs.Prelude.{◌≡◌, ◌∷◌, ◌++◌, IfOk, OnOk};
+ghost use Rattle.std.specs.Prelude.{◌≡◌, ◌++◌, IfOk, OnOk};
 ghost use Rattle.std.specs.String.{string_bytes};
 ghost use Rattle.std.specs.List.{flat_map};
 ghost use Rattle.std.specs.FinMap.{entries};
 ghost use Rattle.books_model.specs.Ranges.{AreInRange};
-ghost use Rattle.script_reader.specs.declared.words.TheConstants.{SPACE};
 ghost use Rattle.script_reader.specs.declared.version.Version.TheVariants.{Two};
-ghost use Rattle.script_reader.specs.Text.{account_line, books_lines, call_line, header_line, number, position_line, price_line};
+ghost use Rattle.script_reader.specs.Text.{account_line, books_lines, call_line, header_line, position_line, price_line};
 
-use crate::decimal::push_next;
 use books_model::Books;
 use io_ends::OutOfMemory;
+use script_reader::decimal::{push_next, write_size};
 use std::alloc::{AllocError, Global};
-
-/// Appends a size of a header behind its name, each with a space in front.
-pub fn write_size(text: &mut String, name: &str, size: u32) -> Result<(), AllocError>
-    ensures { OnOk result
-        (string_bytes text.new
-        ≡ string_bytes text.old ++ SPACE ∷ (name.now ++ SPACE ∷ number size)) }
-{
-    text.push(' ')?;
-    text.push_str(name)?;
-    push_next(text, u64::from(size))
-}
 
 fn write_header(text: &mut String, books: &Books) -> Result<(), AllocError>
     ensures { OnOk result

@@ -10,12 +10,12 @@ ghost use Rattle.books_report.specs.Output.{journal_line, journal_lines, text_of
 ghost use Rattle.books_report.specs.Lines.{lent, place_of_line, ran_of_line, scripts_of};
 
 use crate::books::write_books;
-use crate::decimal::{push_next, push_number};
 use crate::line::Line;
 use crate::words::write_reply;
 use books_model::{Books, Reply};
 use io_ends::OutOfMemory;
 use script_reader::Input;
+use script_reader::decimal::{push_next, push_number};
 use std::alloc::{AllocError, Global};
 
 /// Appends what stands before the reply in a journal's line, with the space behind it.

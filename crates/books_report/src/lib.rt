@@ -3,7 +3,6 @@
 
 pub mod books;
 pub mod check;
-pub mod decimal;
 pub mod journal;
 pub mod laws;
 pub mod limits;

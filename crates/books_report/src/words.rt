@@ -8,8 +8,8 @@ ghost use Rattle.script_reader.specs.Text.{number};
 ghost use Rattle.books_model.specs.Words.{value_word};
 ghost use Rattle.books_report.specs.Words.{reply_words};
 
-use crate::decimal::{push_next, push_next_wide, push_number};
 use books_model::{Reply, Value, Values};
+use script_reader::decimal::{push_next, push_next_wide, push_number};
 use std::alloc::AllocError;
 
 fn write_taken(text: &mut String, account: u32, shortfall: u64) -> Result<(), AllocError>

@@ -1,5 +1,5 @@
-//! Tests of the public calls on plain words: those of txn_words, counter, txn_alloc, txn_ring, txn_hash_map, txn_tree_map
-//! and txn_books. They rest on what those promise, and do not prove them again. What the program runs on its own words is
+//! Tests of the public calls on plain words: those of txn_words, txn_alloc, txn_ring, txn_hash_map, txn_tree_map and
+//! txn_books. They rest on what those promise, and do not prove them again. What the program runs on its own words is
 //! shown by rows.
 #![tactic(auto)]
 
@@ -7,8 +7,6 @@
 mod blocks;
 #[cfg(test)]
 mod built;
-#[cfg(test)]
-mod counting;
 #[cfg(test)]
 mod maps;
 #[cfg(test)]

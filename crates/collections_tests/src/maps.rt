@@ -1,18 +1,20 @@
 //! Calls of chains with room for two entries, and the ring beside them.
 
-ghost use Rattle.std.specs.Prelude.{OnOk};
+ghost use Rattle.std.specs.Prelude.{◌≡◌, [], None, IfOk, OnOk};
+ghost use Rattle.txn_words.specs.Plainly.{IsSoundPlain};
 ghost use Rattle.txn_words.specs.Calls.{IsReady, GoesOn, InEachState};
 ghost use Rattle.txn_alloc.specs.EntryMaps.{HasMapApart};
 ghost use Rattle.txn_hash_map.specs.Chains.{chain_part};
+ghost use Rattle.collections_tests.specs.declared.maps.TheConstants.{CHAINS};
 
-use crate::built::built;
 use crate::ring;
 use crate::ring::first_wrong_of_ring;
+use io_ends::OutOfMemory;
 use std::alloc::Global;
 use std::test::Fail;
-use txn_alloc::{Arena, Put};
+use txn_alloc::{Arena, MapShape, Put};
 use txn_hash_map::ChainMap;
-use txn_words::{Stop, Words};
+use txn_words::{Plain, Stop, Words};
 
 const CHAINS: ChainMap = ChainMap {
     buckets: 17,
@@ -62,9 +64,26 @@ fn first_wrong<W: Words>(
     Ok(None)
 }
 
-// The same of the chains of empty books.
+// The words of empty chains.
+fn empty_chains(alloc: Global) -> Result<Plain<MapShape<ChainMap>>, OutOfMemory>
+    ensures shape { IfOk result (λ plain. plain.shape ≡ record { map = CHAINS; words = 285 }) }
+    ensures trace { IfOk result (λ plain. plain.trace ≡ []) }
+    ensures stop { IfOk result (λ plain. plain.stop ≡ None) }
+    ensures sound { IfOk result (λ plain.
+        IsSoundPlain plain.shape.words (HasMapApart (chain_part plain.shape.map)) plain) }
+{
+    let mut words = vec![in alloc; 0u64; 285]?;
+    CHAINS.lay_empty(&mut words);
+    let shape = MapShape {
+        map: CHAINS,
+        words: 285,
+    };
+    Ok(Plain::new(alloc, shape, words))
+}
+
+// The same from empty chains on.
 fn first_wrong_of_chains(alloc: Global, calls: &[Call]) -> Result<Option<usize>, Fail> {
-    let mut plain = built(alloc, 2)?;
+    let mut plain = empty_chains(alloc)?;
     Ok(first_wrong(&CHAINS, &mut plain, calls)?)
 }
 

@@ -13,31 +13,13 @@ ghost use Rattle.txn_alloc.specs.EntryMaps.{HasMapApart};
 ghost use Rattle.txn_tree_map.specs.Trees.{tree_part};
 ghost use Rattle.collections_tests.specs.declared.paths.TheConstants.{MAP};
 
-use books_model::Books;
-use history_model::{Event, Shape};
+use history_model::Event;
 use io_ends::OutOfMemory;
 use std::alloc::Global;
 use std::test::Fail;
-use txn_alloc::{Arena, Put};
-use txn_books::build;
+use txn_alloc::{Arena, MapShape, Put};
 use txn_tree_map::TreeMap;
 use txn_words::{Plain, Stop, Words};
-
-/// Words of a map with room for 601 entries.
-#[derive(Clone, Copy)]
-struct RoomForPaths;
-
-impl Shape for RoomForPaths {
-    ghost use Rattle.txn_alloc.specs.EntryMaps.{HasMapApart};
-    ghost use Rattle.txn_tree_map.specs.Trees.{tree_part};
-
-    ghost word_count = { λ _. 2681 };
-
-    ghost good = { λ _ words. HasMapApart (tree_part (record {
-      root = 0;
-      arena = record { heads = 1; first = 277; blocks = 601 };
-    })) words };
-}
 
 const MAP: TreeMap = TreeMap {
     root: 0,
@@ -49,14 +31,20 @@ const MAP: TreeMap = TreeMap {
 };
 
 // The words of an empty map.
-fn empty_map(alloc: Global) -> Result<Plain<RoomForPaths>, OutOfMemory>
+fn empty_map(alloc: Global) -> Result<Plain<MapShape<TreeMap>>, OutOfMemory>
+    ensures shape { IfOk result (λ plain. plain.shape ≡ record { map = MAP; words = 2681 }) }
     ensures trace { IfOk result (λ plain. plain.trace ≡ []) }
     ensures stop { IfOk result (λ plain. plain.stop ≡ None) }
-    ensures sound { IfOk result (λ plain. IsSoundPlain 2681 (HasMapApart (tree_part MAP)) plain) }
+    ensures sound { IfOk result (λ plain.
+        IsSoundPlain plain.shape.words (HasMapApart (tree_part plain.shape.map)) plain) }
 {
-    let books = Books::new(alloc, 601, 1, 1);
-    let words = build(alloc, &books)?;
-    Ok(Plain::new(alloc, RoomForPaths, words))
+    let mut words = vec![in alloc; 0u64; 2681]?;
+    MAP.lay_empty(&mut words);
+    let shape = MapShape {
+        map: MAP,
+        words: 2681,
+    };
+    Ok(Plain::new(alloc, shape, words))
 }
 
 // Puts the numbers from 1 to 600, each at as many times the spacing. Whether no key was there.

@@ -25,7 +25,6 @@ use Rattle.input_maker.proofs.Opening.{all_mapped}
 use Rattle.script_reader.specs.declared.version.Version.TheVariants.{One}
 use Rattle.script_reader.specs.Versions.{amount_of}
 use Rattle.script_reader.specs.Inner.OfVersion.{IsOperationOf, IsScriptOf}
-use Rattle.script_reader.proofs.Versions.{operation_of}
 
 -- an operation that is made, with its numbers in their ranges
 pub data IsMade : Bool → Op → Type 0 where
@@ -68,7 +67,7 @@ amount_little first o (made_show a account) = omega arith
 
 -- so a text of version 1 can give it
 operation_of_one : (first : Bool) (o : Op) → IsMade first o → IsOperationOf One made_books o
-operation_of_one first o m = operation_of One made_books o (operation_fits first o m) (omega (arith, amount_little first o m))
+operation_of_one first o m = (operation_fits first o m, omega (arith, amount_little first o m))
 
 -- it pays in no more than a hundred
 pub pays_little : (first : Bool) (o : Op) → IsMade first o → paid_in_by o ≤ 100

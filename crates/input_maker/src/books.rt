@@ -1,15 +1,15 @@
 //! The lines of the opening books.
 
-ghost use Rattle.std.specs.Prelude.{◌≡◌, ◌∷◌, ◌++◌, OnOk};
+ghost use Rattle.std.specs.Prelude.{◌≡◌, ◌++◌, OnOk};
 ghost use Rattle.std.specs.String.{string_bytes};
 ghost use Rattle.std.specs.List.{flat_map};
 ghost use Rattle.books_model.specs.Books.{empty_books};
-ghost use Rattle.script_reader.specs.declared.words.TheConstants.{SPACE};
 ghost use Rattle.script_reader.specs.declared.version.Version.TheVariants.{One};
-ghost use Rattle.script_reader.specs.Text.{account_line, books_lines, header_line, number, position_line, price_line};
+ghost use Rattle.script_reader.specs.Text.{account_line, books_lines, header_line, position_line, price_line};
 ghost use Rattle.input_maker.specs.Made.{accounts_to, made_books, positions_in, positions_to, prices_to};
 
 use books_report::books::{write_account, write_position, write_price};
+use script_reader::decimal::write_size;
 use std::alloc::AllocError;
 
 const BLOCKS: u32 = 4_096;
@@ -23,14 +23,6 @@ pub(crate) const INSTRUMENTS: u32 = 8;
 const CASH: u64 = 1_000_000;
 
 const QUANTITY: u64 = 100;
-
-fn write_size(text: &mut String, name: &str, size: u32) -> Result<(), AllocError>
-    ensures { OnOk result
-        (string_bytes text.new
-        ≡ string_bytes text.old ++ SPACE ∷ (name.now ++ SPACE ∷ number size)) }
-{
-    write!(text, " {name} {size}")
-}
 
 fn write_header(
     text: &mut String,

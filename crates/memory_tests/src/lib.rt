@@ -7,6 +7,8 @@ mod bound;
 #[cfg(test)]
 mod closing;
 #[cfg(test)]
+mod counting;
+#[cfg(test)]
 mod laws;
 #[cfg(test)]
 mod lists;
@@ -18,6 +20,8 @@ mod moves;
 mod opening;
 #[cfg(test)]
 mod order;
+#[cfg(test)]
+mod requests;
 #[cfg(test)]
 mod told;
 #[cfg(test)]

@@ -1,13 +1,12 @@
 //! Requests of one vault on four threads.
 
 ghost use Rattle.std.specs.Prelude.{◌≡◌, All, IfOk};
-ghost use Rattle.transfer_jobs.specs.Requests.{vault_of};
+ghost use Rattle.transfers.specs.Requests.{vault_of};
 
 use std::alloc::Global;
 use std::sync::Wait;
 use std::thread::Threads;
-use transfer_jobs::{Answer, Audit, Look, Request, Transfer, Vault};
-use transfers::run_transfers;
+use transfers::{Answer, Audit, Look, Request, Transfer, Vault, run_transfers};
 use txn_commit::RunStop;
 
 // A hundred times the same request.

@@ -7,10 +7,9 @@ use crate::opening::{Pair, close_two, open_two, used};
 use io_ends::OutOfMemory;
 use std::alloc::Global;
 use std::sync::Wait;
-use txn_commit::{Receipt, transact};
+use txn_commit::{Receipt, run_job};
 use txn_words::{Job, Stop, Verdict, Words};
 use word_table::{Desk, Pass};
-use worker_gate::OpenGate;
 
 // What a job does to word 0.
 pub(crate) enum Turn {
@@ -28,10 +27,6 @@ impl Job for Turn {
     ghost shape = { λ _. record {} };
 
     ghost means = { λ _ _ _ _ _. ⊤ };
-
-    fn tag(&self) -> u64 {
-        7
-    }
 
     fn run<W: Words<Shape = Pair>>(&self, w: &mut W) -> Result<Verdict<u64>, Stop> {
         match self {
@@ -58,7 +53,7 @@ pub(crate) fn call<R: Wait>(
     ensures desk { pass.new.table ≡ desk.now.table }
     ensures idle { (pass.new.view.phase ≡ Idle) × (pass.new.view.who ≡ pass.old.view.who) }
 {
-    transact(rt, alloc, desk, pass, job, &OpenGate)
+    run_job(rt, alloc, desk, pass, job)
 }
 
 // One pass writes and gives the other a note, and the other reads.

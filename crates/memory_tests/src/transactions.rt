@@ -11,10 +11,9 @@ use history_model::LockUse;
 use io_ends::OutOfMemory;
 use std::alloc::Global;
 use std::sync::Wait;
-use txn_commit::{Receipt, transact};
+use txn_commit::{Receipt, run_job};
 use txn_words::{Job, Stop, Verdict, Words};
 use word_table::{Desk, Pass};
-use worker_gate::OpenGate;
 
 // What a job does, to words of which 5 and 1029 share a lock.
 enum Step {
@@ -72,10 +71,6 @@ impl Job for Step {
 
     ghost means = { λ _ _ _ _ _. ⊤ };
 
-    fn tag(&self) -> u64 {
-        5
-    }
-
     fn run<W: Words<Shape = Wide>>(&self, w: &mut W) -> Result<Verdict<u64>, Stop> {
         match self {
             Step::Write => {
@@ -114,7 +109,7 @@ fn make_calls<R: Wait>(
     let mut ended = Vec::new(alloc);
     for step in steps {
         if pass.calls_left() > 0 {
-            ended.push(transact(rt, alloc, desk, pass, step, &OpenGate).ok())?;
+            ended.push(run_job(rt, alloc, desk, pass, step).ok())?;
         }
     }
     Ok(ended)

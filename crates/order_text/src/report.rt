@@ -13,10 +13,9 @@ use crate::input::OrderInput;
 use crate::order::Resting;
 use crate::reply::OrderReply;
 use books_report::Line;
-use books_report::books::write_size;
-use books_report::decimal::push_next;
 use books_report::stores::write_journal;
 use io_ends::OutOfMemory;
+use script_reader::decimal::{push_next, write_size};
 use std::alloc::{AllocError, Global};
 
 fn write_header(text: &mut String, input: &OrderInput) -> Result<(), AllocError>

@@ -7,8 +7,8 @@ ghost use Rattle.script_reader.specs.Text.{number};
 ghost use Rattle.order_text.specs.Words.{next_trade, trade_word};
 
 use crate::reply::{OrderValue, Trade, Trades};
-use books_report::decimal::push_number;
 use books_report::stores::ToldValue;
+use script_reader::decimal::push_number;
 use std::alloc::AllocError;
 
 /// What stands in front of each trade of an order.

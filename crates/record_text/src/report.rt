@@ -11,10 +11,9 @@ ghost use Rattle.record_text.specs.Output.{AreByRank, AreRun, IsRecordOutput, cl
 use crate::input::RecordInput;
 use crate::reply::RecordReply;
 use books_report::Line;
-use books_report::books::write_size;
-use books_report::decimal::push_next;
 use books_report::stores::write_journal;
 use io_ends::OutOfMemory;
+use script_reader::decimal::{push_next, write_size};
 use std::alloc::{AllocError, Global};
 
 fn write_header(text: &mut String, input: &RecordInput) -> Result<(), AllocError>

@@ -8,8 +8,8 @@ ghost use Rattle.script_reader.specs.Text.{number};
 ghost use Rattle.record_text.specs.Words.{ids_word};
 
 use crate::reply::{Ids, RecordValue};
-use books_report::decimal::push_number;
 use books_report::stores::ToldValue;
+use script_reader::decimal::push_number;
 use std::alloc::AllocError;
 use std::slice;
 

@@ -107,3 +107,8 @@ module _ {A : Type 0} where
   pub any_and : (b : Bool) (q : A → Bool) (xs : List A) → list_any (λ x. b && q x) xs ≡ (b && list_any q xs)
   any_and true q xs = refl
   any_and false q xs = any_never xs
+
+-- what holds of the elements of two lists holds of those of both
+pub all_append : {A : Type 0} (P : A → Type 0) (xs ys : List A) → AllByRecursion P xs → AllByRecursion P ys → AllByRecursion P (xs ++ ys)
+all_append P [] ys h k = k
+all_append P (x ∷ xs) ys h k = (h.0, all_append P xs ys h.1 k)

@@ -6,6 +6,8 @@ pub mod Grouped
 pub mod Conditions
 -- the first fault of a text by any judge
 pub mod Judging
+-- whole texts by any judge
+pub mod Judged
 -- the lines of books and of scripts, one more at a time
 pub mod Printing
 -- lines by their kinds, and what is wrong with one
@@ -20,3 +22,5 @@ pub mod Finding
 pub mod Versions
 -- texts of languages whose scripts are lists of operations
 pub mod Listed
+-- the operations of a script, each once
+pub mod OperationRows

@@ -10,3 +10,5 @@ pub mod Naming
 pub mod Ranging
 -- what is wrong with numbers that are looked at two at a time
 pub mod Pairs
+-- the digits of a number in a text
+pub mod Decimals

@@ -7,22 +7,19 @@ use Rattle.books_model.proofs.Maps.Trees.{found_after_insert}
 use Rattle.std.specs.Str.{bytes_eq}
 use Rattle.std.proofs.lemmas.Slice.Eq.{bytes_eq-Decides}
 use Rattle.books_model.specs.Books.{ClearingBooks}
-use Rattle.books_model.specs.Ranges.{IsOperationFor, IsScriptFor}
+use Rattle.books_model.specs.Ranges.{IsWithin, IsScriptFor}
 use Rattle.books_model.specs.Scripts.{operations_in, operations_of, alternatives_in}
 use Rattle.books_model.proofs.Scripts.Branches.{behind_parts}
 use Rattle.std.proofs.lemmas.List.Elements.{All-append}
 use Rattle.std.proofs.lemmas.List.Sums.{sum_by-append}
 use Rattle.books_model.specs.declared.limits.TheConstants.{MOST_BLOCKS, MOST_OPERATIONS, MOST_ALTERNATIVES, GREATEST_CASH, GREATEST_AMOUNT}
-use Rattle.books_model.specs.declared.script.Op.{Op}
-use Rattle.books_model.specs.declared.script.Op.TheVariants as op
 use Rattle.books_model.specs.declared.script.Part.{Part}
 use Rattle.script_reader.specs.declared.version.Version.{Version}
 use Rattle.script_reader.specs.declared.version.Version.TheVariants.{One, Two}
 use Rattle.script_reader.specs.declared.books.Row.{Row}
 use Rattle.script_reader.specs.declared.books.Row.TheVariants as row
-use Rattle.script_reader.specs.Input.{Caller, ClearingInput, IsInput, AreCallersFor}
-use Rattle.script_reader.specs.Versions.{version_word, is_version, version_of, most_blocks, greatest_cash, greatest_amount, amount_of, AreBooksWithin}
-use Rattle.script_reader.specs.Versions.{IsScriptWithin, IsInputWithin}
+use Rattle.script_reader.specs.Input.{Caller, AreCallersFor}
+use Rattle.script_reader.specs.Versions.{version_word, is_version, version_of, most_blocks, greatest_cash, greatest_amount, AreBooksWithin, IsScriptWithin}
 use Rattle.script_reader.proofs.Tokens.Numerals.{greatest_u64}
 use Rattle.script_reader.specs.Inner.OfVersion.{IsOperationOf, IsScriptOf, AreCallersOf}
 use Rattle.script_reader.specs.Inner.BooksRows.{IsRowWithin, with_row}
@@ -62,6 +59,10 @@ pub amount_within : (v : Version) → greatest_amount v ≤ GREATEST_AMOUNT
 amount_within One = omega arith
 amount_within Two = omega arith
 
+-- a number in the range of the version's amounts is an amount
+pub amount_for : (v : Version) (x : ℕ) → IsWithin 1 (greatest_amount v) x → IsWithin 1 GREATEST_AMOUNT x
+amount_for v x h = (h.0, omega (arith, h.1, amount_within v))
+
 -- they have texts
 pub blocks_small : (v : Version) → most_blocks v < 2 ^ 64
 blocks_small One = lit< tt
@@ -81,64 +82,23 @@ amount_small One = lit< tt
 amount_small Two = lit< tt
 
 module _ (v : Version) (b : ClearingBooks) where
-  -- what a text of a version can give, the language has
-  pub operation_for : (o : Op) → IsOperationOf v b o → IsOperationFor b o
-  operation_for (op.OpenAccount a) h = h
-  operation_for (op.Close a) h = h
-  operation_for (op.Deposit a x) h = (h.0, (h.1.0, omega (arith, h.1.1, amount_within v)))
-  operation_for (op.Withdraw a x) h = (h.0, (h.1.0, omega (arith, h.1.1, amount_within v)))
-  operation_for (op.Move a c x) h = (h.0, h.1, (h.2.0, omega (arith, h.2.1, amount_within v)))
-  operation_for (op.Price i p) h = h
-  operation_for (op.Trade a c i q) h = h
-  operation_for (op.Margin a m) h = h
-  operation_for op.Next h = tt
-  operation_for (op.Show a) h = h
-  operation_for (op.Sum a c) h = h
-
-  -- and its amount is in the range of the version
-  operation_within : (o : Op) → IsOperationOf v b o → amount_of o ≤ greatest_amount v
-  operation_within (op.OpenAccount a) h = omega arith
-  operation_within (op.Close a) h = omega arith
-  operation_within (op.Deposit a x) h = h.1.1
-  operation_within (op.Withdraw a x) h = h.1.1
-  operation_within (op.Move a c x) h = h.2.1
-  operation_within (op.Price i p) h = omega arith
-  operation_within (op.Trade a c i q) h = omega arith
-  operation_within (op.Margin a m) h = omega arith
-  operation_within op.Next h = omega arith
-  operation_within (op.Show a) h = omega arith
-  operation_within (op.Sum a c) h = omega arith
-
-  -- which is all that it takes
-  pub operation_of : (o : Op) → IsOperationFor b o → amount_of o ≤ greatest_amount v → IsOperationOf v b o
-  operation_of (op.OpenAccount a) h fits = h
-  operation_of (op.Close a) h fits = h
-  operation_of (op.Deposit a x) h fits = (h.0, (h.1.0, fits))
-  operation_of (op.Withdraw a x) h fits = (h.0, (h.1.0, fits))
-  operation_of (op.Move a c x) h fits = (h.0, h.1, (h.2.0, fits))
-  operation_of (op.Price i p) h fits = h
-  operation_of (op.Trade a c i q) h fits = h
-  operation_of (op.Margin a m) h fits = h
-  operation_of op.Next h fits = tt
-  operation_of (op.Show a) h fits = h
-  operation_of (op.Sum a c) h fits = h
-
-  -- so for scripts
+  -- a script that a text of a version can give, the language has, and its amounts are in the range of the version
   script_for : (script : List Part) → IsScriptOf v b script → IsScriptFor b script
   script_for script h = record {
     few = h.few;
     few_alternatives = h.few_alternatives;
-    each = λ k d less. operation_for _ (h.each k d less);
+    each = λ k d less. (h.each k d less).0;
   }
 
   script_within : (script : List Part) → IsScriptOf v b script → IsScriptWithin v script
-  script_within script h = λ k d less. operation_within _ (h.each k d less)
+  script_within script h = λ k d less. (h.each k d less).1
 
+  -- which is all that it takes
   pub script_of : (script : List Part) → IsScriptFor b script → IsScriptWithin v script → IsScriptOf v b script
   script_of script h fits = record {
     few = h.few;
     few_alternatives = h.few_alternatives;
-    each = λ k d less. operation_of _ (h.each k d less) (fits k d less);
+    each = λ k d less. (h.each k d less, fits k d less);
   }
 
   -- and for callers
@@ -189,24 +149,3 @@ row_within v b (row.Account a cash) h fits = record {
 row_within v b (row.Price i p) h fits = record { blocks = h.blocks; cash = h.cash }
 row_within v b (row.Position a i q) h fits = record { blocks = h.blocks; cash = h.cash }
 row_within v b (row.Call a d) h fits = record { blocks = h.blocks; cash = h.cash }
-
--- an operation of the language is one of version 2
-amount_fits : (b : ClearingBooks) (o : Op) → IsOperationFor b o → amount_of o ≤ GREATEST_AMOUNT
-amount_fits b (op.OpenAccount a) h = omega arith
-amount_fits b (op.Close a) h = omega arith
-amount_fits b (op.Deposit a x) h = h.1.1
-amount_fits b (op.Withdraw a x) h = h.1.1
-amount_fits b (op.Move a c x) h = h.2.1
-amount_fits b (op.Price i p) h = omega arith
-amount_fits b (op.Trade a c i q) h = omega arith
-amount_fits b (op.Margin a m) h = omega arith
-amount_fits b op.Next h = omega arith
-amount_fits b (op.Show a) h = omega arith
-amount_fits b (op.Sum a c) h = omega arith
-
--- each input is in the ranges of version 2
-pub each_within_two : (input : ClearingInput) → IsInput input → IsInputWithin Two input
-each_within_two input h = record {
-  books = record { blocks = h.books.blocks.1; cash = λ a cash found. (h.books.accounts a cash found).1 };
-  scripts = λ k d less i e low j o short. amount_fits input.books _ ((h.callers.scripts k d less i e low).each j o short);
-}

@@ -2,24 +2,23 @@
 -- Reasons are tried in this order, each where it can apply: header, word, order of kinds, number, limit, order of
 -- lines, account, price, blocks. `IsFirstFault` has what is beside them: a line that does not exist, or comes after
 -- the last.
-use Rattle.std.specs.Prelude.{◌≡◌, ◌≢◌, ◌⊎◌, ℕ, ◌+◌, Bool, not, ◌&&◌, ◌||◌, ◌==◌, nat_lt, nat_le, if◌then◌else◌, List, [], ◌∷◌, ◌++◌, Option, Some}
+use Rattle.std.specs.Prelude.{◌⊎◌, ℕ, ◌+◌, Bool, not, ◌&&◌, ◌||◌, ◌==◌, nat_lt, nat_le, if◌then◌else◌, List, [], ◌∷◌, Option, Some}
 use Rattle.std.specs.Prelude.{None, codes, length, drop, map, filter, fold, count_by, slice_index_or}
 use Rattle.std.specs.List.{list_any, position_or_len}
 use Rattle.std.specs.Option.{is_none}
 use Rattle.std.specs.Str.{bytes_eq}
 use Rattle.books_model.specs.declared.limits.TheConstants.{MOST_OPERATIONS, MOST_ALTERNATIVES}
 use Rattle.script_reader.specs.declared.limits.TheConstants.{MOST_CALLERS, MOST_SCRIPTS}
-use Rattle.script_reader.specs.declared.words.TheConstants.{LINE_FEED}
 use Rattle.script_reader.specs.declared.fault.Fault.{Fault}
 use Rattle.script_reader.specs.declared.fault.Fault.TheVariants as fault
 use Rattle.script_reader.specs.declared.version.Version.{Version}
 use Rattle.script_reader.specs.declared.version.Version.TheVariants.{Two}
 use Rattle.script_reader.specs.Lines.{word_at}
-use Rattle.script_reader.specs.Input.{ClearingInput, first_seen}
-use Rattle.script_reader.specs.Grammar.{Spells}
+use Rattle.script_reader.specs.Input.{first_seen}
+use Rattle.script_reader.specs.Grammar.{IsValidInput}
 use Rattle.script_reader.specs.Versions.{version_of}
-use Rattle.script_reader.specs.Reading.{HaveNoFault, BeginsFaulty, IsFaultBehind, IsFaultInFront}
-use Rattle.script_reader.specs.Forms.{Words, Region, OutsideScripts, InScript, InFirstBranch, InSecondBranch, sizes, books_forms}
+use Rattle.script_reader.specs.Reading.{HaveNoFault, BeginsFaulty, IsFaultBehind, IsFaultInFront, GoesOnBehind}
+use Rattle.script_reader.specs.Forms.{Words, Region, InScript, InFirstBranch, InSecondBranch, sizes, books_forms}
 use Rattle.script_reader.specs.Forms.{script_forms, begins, is_only, form_of, ranges_of, is_header, is_script_line, size_words}
 use Rattle.script_reader.specs.Forms.{value_at, are_numbers, are_in_range}
 
@@ -116,35 +115,31 @@ outside_fault before words = first_reason (
     ∷ []
     )
 
--- where the line behind a line stands, by where that line does
-abbrev pub region_after : Region → Words → Region
-region_after region words =
-    if begins (codes "script") words then InScript
-    else (if is_only (codes "end") words then OutsideScripts
-    else (if is_only (codes "try") words then InFirstBranch
-    else (if is_only (codes "else") words then InSecondBranch
-    else (if is_only (codes "done") words then InScript
-    else region))))
+-- where the line behind others stands: among the lines of books, between scripts, or in one behind so many operations,
+-- those of both branches of an alternative counted, and so many alternatives
+pub data Place : Type 0 where
+  AmongBooks : Place
+  OutsideScripts : Place
+  Inside : Region → ℕ → ℕ → Place
 
--- where the line behind lines of books and scripts stands
-abbrev pub region_behind : List Words → Region
-region_behind before = fold region_after OutsideScripts before
+-- where the line behind a line stands, by where that line does
+abbrev pub place_after : Place → Words → Place
+place_after AmongBooks words = if is_only (codes "scripts") words then OutsideScripts else AmongBooks
+place_after OutsideScripts words = if begins (codes "script") words then Inside InScript 0 0 else OutsideScripts
+place_after (Inside region operations alternatives) words =
+    if is_only (codes "end") words then OutsideScripts
+    else (if is_only (codes "try") words then Inside InFirstBranch operations (alternatives + 1)
+    else (if is_only (codes "else") words then Inside InSecondBranch operations alternatives
+    else (if is_only (codes "done") words then Inside InScript operations alternatives
+    else Inside region (operations + 1) alternatives)))
+
+-- where the line behind lines stands
+abbrev pub place_behind : List Words → Place
+place_behind before = fold place_after AmongBooks before
 
 -- the line is no operation
 abbrev pub is_turning : Words → Bool
 is_turning words = is_only (codes "end") words || is_only (codes "try") words || is_only (codes "else") words || is_only (codes "done") words
-
--- the lines of the script that has not ended: those behind the last line that begins one
-abbrev pub script_before : List Words → List Words
-script_before before = fold (λ lines w. if begins (codes "script") w then [] else lines ++ w ∷ []) [] before
-
--- how many operations it has, those of both branches of an alternative counted
-abbrev pub operations_before : List Words → ℕ
-operations_before before = count_by (λ w. not (is_turning w)) (script_before before)
-
--- how many alternatives begin in it
-abbrev pub alternatives_before : List Words → ℕ
-alternatives_before before = count_by (is_only (codes "try")) (script_before before)
 
 -- the line is one operation too many, or one alternative
 abbrev pub is_too_many : ℕ → ℕ → Words → Bool
@@ -152,34 +147,28 @@ is_too_many operations alternatives words =
     not (is_turning words) && nat_le MOST_OPERATIONS operations
     || is_only (codes "try") words && nat_le MOST_ALTERNATIVES alternatives
 
--- what is wrong with a line of a script
-abbrev pub inside_fault : Region → List Words → Words → Option Fault
-inside_fault region before words =
-    let form = form_of (script_forms (version_at before) region (size_at before 5)) words in
+-- what is wrong with a line of a script on books with so many instruments, behind so many operations and alternatives
+abbrev pub inside_fault : Version → Region → ℕ → ℕ → ℕ → Words → Option Fault
+inside_fault version region instruments operations alternatives words =
+    let form = form_of (script_forms version region instruments) words in
     first_reason (
     (is_none form, fault.Word)
     ∷ (not (are_numbers (drop 1 words)), fault.Number)
-    ∷ (
-      not (are_in_range (drop 1 words) (ranges_of form)) ||
-          is_too_many (operations_before before) (alternatives_before before) words,
-      fault.Limit,
-    )
+    ∷ (not (are_in_range (drop 1 words) (ranges_of form)) || is_too_many operations alternatives words, fault.Limit)
     ∷ []
     )
 
--- what is wrong with a line behind the line `scripts`
-abbrev pub scripts_fault : Region → List Words → Words → Option Fault
-scripts_fault OutsideScripts before words = outside_fault before words
-scripts_fault InScript before words = inside_fault InScript before words
-scripts_fault InFirstBranch before words = inside_fault InFirstBranch before words
-scripts_fault InSecondBranch before words = inside_fault InSecondBranch before words
+-- what is wrong with a line behind the header, by where it stands
+abbrev pub place_fault : Place → List Words → Words → Option Fault
+place_fault AmongBooks before words = books_fault before words
+place_fault OutsideScripts before words = outside_fault before words
+place_fault (Inside region operations alternatives) before words =
+    inside_fault (version_at before) region (size_at before 5) operations alternatives words
 
 -- what is wrong with a line of a text, beside the lines before it
 abbrev pub fault_of : List Words → Words → Option Fault
 fault_of [] words = header_fault words
-fault_of (header ∷ lines) words =
-    if not (list_any (is_only (codes "scripts")) (header ∷ lines)) then books_fault (header ∷ lines) words
-    else scripts_fault (region_behind (header ∷ lines)) (header ∷ lines) words
+fault_of (header ∷ lines) words = place_fault (place_behind (header ∷ lines)) (header ∷ lines) words
 
 -- no line of a list is faulty beside the lines before it and those of the list ahead of it, and none is the last of a
 -- text
@@ -200,15 +189,8 @@ abbrev pub IsFrontFault : List ℕ → ℕ → Fault → Type 0
 IsFrontFault = IsFaultInFront fault_of
 
 -- the text goes on behind the line `finish`
-pub record GoesOn (text : List ℕ) (number : ℕ) (why : Fault) : Type 0 where
-  pub front : List ℕ
-  pub rest : List ℕ
-  pub input : ClearingInput
-  pub text_is : text ≡ front ++ rest
-  pub spelled : Spells front input
-  pub some : rest ≢ []
-  pub number_is : number ≡ count_by (λ b. b == LINE_FEED) front + 1
-  pub why_is : why ≡ fault.End
+abbrev pub GoesOn : List ℕ → ℕ → Fault → Type 0
+GoesOn = GoesOnBehind IsValidInput
 
 -- the first fault of a whole text
 abbrev pub IsFirstFault : List ℕ → ℕ → Fault → Type 0

@@ -66,16 +66,14 @@ operation_forms version instruments =
     ∷ form (codes "sum") (accounts ∷ accounts ∷ [])
     ∷ []
 
--- where among the scripts of a text a line stands: between them, in one, or in a branch of an alternative
+-- where in a script a line stands: between its parts, or in a branch of an alternative
 pub data Region : Type 0 where
-  OutsideScripts : Region
   InScript : Region
   InFirstBranch : Region
   InSecondBranch : Region
 
 -- the lines of a script that are no operations, by where they may stand
 abbrev pub turning_forms : Region → List Form
-turning_forms OutsideScripts = []
 turning_forms InScript = form (codes "end") [] ∷ form (codes "try") [] ∷ []
 turning_forms InFirstBranch = form (codes "else") [] ∷ []
 turning_forms InSecondBranch = form (codes "done") [] ∷ []

@@ -2,6 +2,7 @@
 #![tactic(auto)]
 
 mod books;
+pub mod decimal;
 pub mod fault;
 mod front;
 pub mod gathered;

@@ -1,12 +1,11 @@
 -- What audits told among the requests that were done.
 use Rattle.std.specs.Prelude.{◌≡◌, ℕ, List, All, Vec, Some}
 use Rattle.std.specs.Global.{Global}
-use Rattle.transfer_jobs.specs.declared.audit.Audit.{Audit}
-use Rattle.transfer_jobs.specs.declared.request.Answer.{Answer}
-use Rattle.transfer_jobs.specs.declared.request.Answer.TheVariants.{Told}
-use Rattle.transfer_jobs.specs.declared.request.Request.{Request}
-use Rattle.txn_commit.specs.declared.lists.Done.{Done}
-use Rattle.txn_commit.specs.Jobs.{job_at}
+use Rattle.transfers.specs.declared.audit.Audit.{Audit}
+use Rattle.transfers.specs.declared.request.Answer.{Answer}
+use Rattle.transfers.specs.declared.request.Answer.TheVariants.{Told}
+use Rattle.transfers.specs.declared.request.Request.{Request}
+use Rattle.txn.specs.Prelude.{job_at, Done}
 
 -- each request that is an audit was told this sum
 abbrev pub AreTold : ℕ → List (Vec Request Global) → List (Done Answer) → Type 0

@@ -1,20 +1,17 @@
 //! Lists of requests, on threads.
 
 ghost use Rattle.std.specs.Prelude.{◌≡◌, ◌↔◌, ◌<◌, ◌≤◌, All, Err, length, IfOk};
-ghost use Rattle.history_model.specs.Fitting.{IsGood};
-ghost use Rattle.word_table.specs.declared.limits.TheConstants.{MOST_WORDS};
-ghost use Rattle.transfer_jobs.specs.Moving.{HasSum};
-ghost use Rattle.transfer_jobs.specs.Requests.{vault_of, Does};
-ghost use Rattle.txn_commit.specs.Jobs.{count_at, means_at, AreTooMany};
-ghost use Rattle.txn_commit.specs.Lists.{AreOnceInOrder};
-ghost use Rattle.txn_commit.specs.Ordered.{IsSerial};
+ghost use Rattle.txn.specs.Prelude.{count_at, means_at, AreOnceInOrder, AreTooMany, IsGood, IsSerial, MOST_WORDS};
+ghost use Rattle.transfers.specs.Moving.{HasSum};
+ghost use Rattle.transfers.specs.Requests.{vault_of, Does};
 ghost use Rattle.transfers.specs.Telling.{AreTold};
 
+use crate::request::Request;
+use crate::vault::Vault;
 use std::alloc::Global;
 use std::sync::Wait;
 use std::thread::Threads;
-use transfer_jobs::{Request, Vault};
-use txn_commit::{JobsEnd, RunStop, run_jobs};
+use txn::{JobsEnd, RunStop, run_jobs};
 
 /// Does what the requests ask of the vault with these accounts, those of each list in their order, with so many threads at
 /// the same time. Each request is one transaction.

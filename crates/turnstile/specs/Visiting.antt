@@ -1,7 +1,6 @@
 -- What one visitor did.
 use Rattle.std.specs.Prelude.{◌≡◌}
-use Rattle.word_table.specs.Copies.{PassView}
-use Rattle.word_table.specs.Desks.{DeskView}
+use Rattle.txn.specs.Prelude.{DeskView, PassView}
 use Rattle.turnstile.specs.declared.enter.Room.{Room}
 use Rattle.turnstile.specs.declared.visitors.Visitor.{Visitor}
 

@@ -2,8 +2,7 @@
 
 ghost use Rattle.turnstile.specs.Entering.{Enters, HasAtMost};
 
-use history_model::Shape;
-use txn_words::{Job, Stop, Verdict, Words};
+use txn::{Job, Shape, Stop, Verdict, Words};
 
 /// One word: how many are inside, at most `limit`.
 #[derive(Clone, Copy, Debug, PartialEq, Eq)]
@@ -31,10 +30,6 @@ impl Job for Enter {
     ghost shape = { λ job. job.room };
 
     ghost means = { λ job s kept let_in t. Enters job.room.limit s kept let_in t };
-
-    fn tag(&self) -> u64 {
-        0
-    }
 
     fn run<W: Words<Shape = Room>>(&self, w: &mut W) -> Result<Verdict<bool>, Stop> {
         let limit = self.room.limit;

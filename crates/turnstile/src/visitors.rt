@@ -1,19 +1,14 @@
 //! Visitors on threads.
 
 ghost use Rattle.std.specs.Prelude.{◌≡◌, ◌≤◌, [], ◌∷◌, length, slice_index, All, IfOk};
-ghost use Rattle.word_table.specs.declared.limits.TheConstants.{MOST_PASSES};
-ghost use Rattle.txn_threads.specs.Clients.{HaveWorked};
+ghost use Rattle.txn.specs.Prelude.{HaveWorked, MOST_PASSES};
 ghost use Rattle.turnstile.specs.Visiting.{HasTried};
 
 use crate::enter::{Enter, Room};
-use io_ends::OutOfMemory;
 use std::alloc::Global;
 use std::sync::Wait;
 use std::thread::Threads;
-use txn_commit::transact;
-use txn_threads::{Client, Ended, run_clients};
-use word_table::{Desk, Pass};
-use worker_gate::OpenGate;
+use txn::{Client, Desk, Ended, OutOfMemory, Pass, run_clients, run_job};
 
 /// Tries to enter so many times.
 #[derive(Clone, Copy, Debug, Drop)]
@@ -43,7 +38,7 @@ impl Client for Visitor {
     ) -> Result<(), OutOfMemory> {
         let job = Enter { room: self.room };
         for _ in 0..self.times {
-            transact(rt, alloc, desk, pass, &job, &OpenGate)?;
+            run_job(rt, alloc, desk, pass, &job)?;
         }
         Ok(())
     }

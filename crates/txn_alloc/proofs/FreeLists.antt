@@ -8,5 +8,7 @@ pub mod Traces
 pub mod Takings
 -- free blocks that are laid into their lists, from the last on
 pub mod Laid
+-- all blocks of an arena, laid by rising number
+pub mod AllLaid
 -- what a call on the free lists keeps, said in wider words
 pub mod Wider

@@ -6,5 +6,3 @@ pub mod FreeLists
 pub mod Maps
 -- a block is in one of an arena's parts alone
 pub mod Apart
--- the words of tests: 285 zeros but for the two that link two free blocks
-pub mod TwoBlocks

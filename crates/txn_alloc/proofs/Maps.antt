@@ -8,3 +8,5 @@ pub mod Parts
 pub mod Founds
 -- all that an insert of any map on blocks promises: where the key was there, where it was put in, and where no block was free
 pub mod Inserted
+-- calls of a map within a job
+pub mod InJobs

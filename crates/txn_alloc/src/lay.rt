@@ -1,12 +1,12 @@
 //! Laying free blocks into their lists.
 
-ghost use Rattle.std.specs.Prelude.{◌≡◌, ℕ, ◌+◌, ◌<◌, Some, All, get_or, slice_get, slice_set, nat_eq};
+ghost use Rattle.std.specs.Prelude.{◌≡◌, ℕ, ◌+◌, ◌^◌, ◌<◌, ◌≤◌, Some, All, get_or, length, slice_get, slice_set, nat_eq};
 ghost use Rattle.std.specs.List.{IsDistinct};
 ghost use Rattle.std.specs.FinSet as set;
 ghost use Rattle.txn_words.specs.Frames.{KeepsOthers};
 ghost use Rattle.txn_alloc.specs.declared.arena.TheConstants.{HEADS};
 ghost use Rattle.txn_alloc.specs.FreeLists.{block_at, head_of, IsHead, IsLaidOut, HasList, FreeListsHold};
-ghost use Rattle.txn_alloc.specs.Laying.{IsWrittenByLaying, of_list};
+ghost use Rattle.txn_alloc.specs.Laying.{all_blocks, HasAllRising, IsInRow, IsWrittenByLaying, of_list};
 
 use crate::arena::{Arena, HEADS};
 
@@ -23,8 +23,23 @@ pub fn lay_free(words: &mut [u64], arena: &Arena, order: &[u32])
     ensures others { KeepsOthers (IsWrittenByLaying arena.now order.now) words.old words.new }
 {
     clear_heads(words, arena);
-    for passed in 0..order.len() {
-        put_first(words, arena, order[order.len() - 1 - passed]);
+    for index in (0..order.len()).rev() {
+        put_first(words, arena, order[index]);
+    }
+}
+
+/// Makes all blocks of the arena the free ones. Each list goes through those of its number, rising.
+pub fn lay_all_free(words: &mut [u64], arena: &Arena)
+    requires { IsLaidOut arena.now words.old }
+    ensures lists { HasAllRising arena.now words.new }
+    ensures free { FreeListsHold arena.now words.new (set.from_list (all_blocks arena.now)) }
+
+    // No word is written but the heads and the blocks' first words.
+    ensures others { KeepsOthers (IsWrittenByLaying arena.now (all_blocks arena.now)) words.old words.new }
+{
+    clear_heads(words, arena);
+    for block in (0..arena.blocks).rev() {
+        put_first(words, arena, block);
     }
 }
 
@@ -48,7 +63,17 @@ fn clear_heads(words: &mut [u64], arena: &Arena)
     ensures none { (a : ℕ) → IsHead arena.now a → slice_get words.new a ≡ Some 0 }
     ensures others { KeepsOthers (IsHead arena.now) words.old words.new }
 {
-    for head in 0..HEADS {
-        words[(arena.heads + head) as usize] = 0;
+    clear(words, arena.heads, HEADS);
+}
+
+/// Writes 0 into so many words in a row.
+pub fn clear(words: &mut [u64], first: u64, count: u64)
+    requires places { length words.old ≤ 2 ^ 64 }
+    requires within { first + count ≤ length words.old }
+    ensures none { (a : ℕ) → IsInRow first count a → slice_get words.new a ≡ Some 0 }
+    ensures others { KeepsOthers (IsInRow first count) words.old words.new }
+{
+    for passed in 0..count {
+        words[(first + passed) as usize] = 0;
     }
 }

@@ -9,7 +9,7 @@ ghost use Rattle.txn_commit.specs.Jobs.{count_all, count_at, list_at, means_at, 
 
 use crate::lists::{Done, Lists, ListsEnd};
 use crate::ordered::run_in_order;
-use crate::transaction::{Receipt, transact};
+use crate::transaction::{Receipt, run_job};
 use io_ends::OutOfMemory;
 use std::alloc::{AllocError, AllocFailed, Global};
 use std::error::Error;
@@ -18,7 +18,6 @@ use std::sync::Wait;
 use std::thread::Threads;
 use txn_words::Job;
 use word_table::{Closed, Desk, LAST_CALL, MOST_PASSES, Pass};
-use worker_gate::OpenGate;
 
 /// Why lists of jobs were not run.
 #[derive(Clone, Copy, Debug, PartialEq, Eq)]
@@ -152,7 +151,7 @@ where
         index: u32,
     ) -> Result<Receipt<J::Answer>, OutOfMemory> {
         let job = &self.list(caller)[index as usize];
-        transact(rt, alloc, desk, pass, job, &OpenGate)
+        run_job(rt, alloc, desk, pass, job)
     }
 }
 

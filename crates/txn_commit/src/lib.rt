@@ -20,4 +20,4 @@ pub use jobs::{JobsEnd, RunStop, run_jobs};
 pub use list_run::run_lists;
 pub use lists::{Done, Lists, ListsEnd};
 pub use ordered::{arrange, run_in_order};
-pub use transaction::{Receipt, transact};
+pub use transaction::{Receipt, run_job, transact};

@@ -26,7 +26,7 @@ pub(crate) struct ListWorker<'a, L: Lists> {
 }
 
 // One job of a caller: its item.
-fn run_job<L: Lists, R: Wait>(
+fn run_listed<L: Lists, R: Wait>(
     rt: &R,
     alloc: Global,
     lists: &L,
@@ -82,7 +82,7 @@ fn run_list<L: Lists, R: Wait>(
         (RanList caller (L.jobs lists.now caller) done.old.items done.new.items) }
 {
     for index in 0..lists.jobs(caller) {
-        let item = run_job(rt, alloc, lists, desk, pass, caller, index)?;
+        let item = run_listed(rt, alloc, lists, desk, pass, caller, index)?;
         done.push(item)?;
     }
     Ok(())

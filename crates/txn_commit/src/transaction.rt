@@ -34,7 +34,7 @@ use std::sync::Wait;
 use txn_words::{Job, Stop, Verdict};
 use undo_log::UndoLog;
 use word_table::{Desk, Pass};
-use worker_gate::{Gate, Stage};
+use worker_gate::{Gate, OpenGate, Stage};
 
 /// What a transaction came to.
 #[derive(Debug, PartialEq, Eq, Drop)]
@@ -253,7 +253,7 @@ fn decision<A>(verdict: Verdict<A>) -> (bool, A)
 ///
 /// The receipt has what the job answers. So in a client's `work`, with the job `Enter` of the crate `turnstile`:
 ///
-///     let receipt = transact(rt, alloc, desk, pass, &Enter { room }, &OpenGate)?;
+///     let receipt = transact(rt, alloc, desk, pass, &Enter { room }, gate)?;
 ///     if receipt.answer {
 ///         self.entered += 1;
 ///     }
@@ -324,4 +324,41 @@ where
     release_all(desk, back);
     desk.finish_call(back);
     ended
+}
+
+/// Runs the job as one transaction: [`transact`] with no gate.
+///
+///     let receipt = run_job(rt, alloc, desk, pass, &Enter { room })?;
+pub fn run_job<J: Job, R: Wait>(
+    rt: &R,
+    alloc: Global,
+    desk: &Desk<J::Shape>,
+    pass: &mut Pass<J::Shape>,
+    job: &J,
+) -> Result<Receipt<J::Answer>, OutOfMemory>
+where
+    J::Answer: Drop,
+    requires desk { pass.old.table ≡ desk.now.table }
+    requires phase { pass.old.view.phase ≡ Phase.Idle }
+    requires room { pass.old.view.call < LAST_CALL }
+    requires job { J.shape job.now ≡ desk.now.shape }
+    ensures desk { pass.new.table ≡ pass.old.table }
+    ensures seat { SameSeat pass.old.view pass.new.view }
+    ensures idle { pass.new.view.phase ≡ Phase.Idle }
+    ensures nothing { HoldsNothing pass.new.view }
+    ensures call { OnOk result (pass.new.view.call ≡ pass.old.view.call + 1) }
+    ensures entry { IfOk result (λ receipt. GetsEntry
+        (AreGoodWords J.Shape.Shape desk.now) (J.means job.now)
+        (number pass.old.view) (pass.old.view.call + 1)
+        pass.old.view.seen pass.new.view.seen receipt) }
+    ensures meant { IfOk result (λ receipt. IsMeant
+        (AreGoodWords J.Shape.Shape desk.now)
+        (J.means job.now) receipt.answer) }
+    ensures few { IfOk result (λ receipt. receipt.restarts < desk.now.seats) }
+    ensures footprint { OnOk result (AsksItsFootprint pass.new.view) }
+    ensures err { OnErr result ((pass.new ≡ pass.old)
+        ⊎ EndsWithoutEntry (AreGoodWords J.Shape.Shape desk.now)
+        desk.now.seats desk.now.base pass.old.view pass.new.view) }
+{
+    transact(rt, alloc, desk, pass, job, &OpenGate)
 }

@@ -18,7 +18,5 @@ pub mod Cuts
 pub mod Removals
 -- in one word list the map is one
 pub mod OneMap
--- word lists of tests
-pub mod Lists
 -- how many blocks a map uses: the cells of all buckets in one list
 pub mod Numbers

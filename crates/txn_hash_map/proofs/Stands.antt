@@ -1,13 +1,23 @@
 -- Chains whose words stay.
-use Rattle.std.proofs.Common.{◌≡◌, ℕ, ◌+◌, true, List, [], ◌∷◌, length, slice_get, ◌∙◌, arith}
+use Rattle.std.proofs.Common.{◌≡◌, ℕ, ◌+◌, true, List, [], ◌∷◌, None, Some, length, slice_get, ◌⊎◌, sym, ◌∙◌, arith}
+use mathlib.Core.Bool.{true≢false}
+use Rattle.std.specs.Ordering.{nat_cmp}
 use Rattle.std.specs.FinSet as set
+use Rattle.std.specs.FinMap as entry_map
 use Rattle.txn_alloc.specs.declared.arena.Arena.{Arena}
-use Rattle.txn_alloc.specs.FreeLists.{block_at, IsInBlock}
+use Rattle.txn_words.specs.Frames.{KeepsOthers}
+use Rattle.txn_alloc.specs.FreeLists.{block_at, IsInBlock, FreeListsHold}
+use Rattle.txn_alloc.specs.Laying.{all_blocks, IsInRow, IsWrittenByLaying}
+use Rattle.txn_alloc.proofs.Sets.{out_empty}
 use Rattle.txn_alloc.proofs.FreeLists.Lists.{laid_kept}
+use Rattle.txn_alloc.proofs.FreeLists.AllLaid.{both_written, beside}
+use Rattle.txn_alloc.proofs.FreeLists.Wider.{keeps_more}
+use Rattle.txn_alloc.proofs.Maps.Parts.{empty_apart}
 use Rattle.txn_alloc.proofs.Maps.Cells.{has_first, has_later}
 use Rattle.txn_hash_map.specs.declared.map.ChainMap.{ChainMap}
-use Rattle.txn_alloc.specs.EntryMaps.{Cell, has_block, Entries, Blocks}
-use Rattle.txn_hash_map.specs.Chains.{HasChain, IsLaid, IsBucket, ChainsHold}
+use Rattle.txn_hash_map.specs.declared.map.TheConstants.{BUCKETS}
+use Rattle.txn_alloc.specs.EntryMaps.{Cell, has_block, Entries, Blocks, HoldsApart}
+use Rattle.txn_hash_map.specs.Chains.{HasChain, IsLaid, IsBucket, ChainsHold, chain_part}
 
 -- a chain whose words are kept has the same cells, also from another place with the same value
 pub chain_kept : (arena : Arena) (s t : List ℕ) (p q : ℕ) (cs : List Cell) → slice_get t q ≡ slice_get s p
@@ -49,3 +59,34 @@ chains_stand map s t f u h e buckets blocks = record {
   used_in = h.used_in;
   in_used = h.in_used;
 }
+
+-- where all buckets name none, the map has no entry
+pub none_stands : (map : ChainMap) (s : List ℕ) (f : Entries) → ((key : ℕ) → entry_map.get f key ≡ None) → IsLaid map s
+    → ((a : ℕ) → IsBucket map a → slice_get s a ≡ Some 0) → ChainsHold map s f set.empty
+none_stands map s f none laid zero = record {
+  laid = laid;
+  cells = λ i. [];
+  chain = λ i lt. zero (map.buckets + i) (record { low = omega arith; high = omega (arith, lt) });
+  own = λ i lt. tt;
+  once = λ i lt. tt;
+  entries_are = none;
+  used_in = λ b m. absurd (true≢false (sym m ∙ out_empty b));
+  in_used = λ b i lt m. absurd (true≢false (sym m));
+}
+
+-- where its buckets were cleared, and then all blocks laid free, the empty map stands beside them
+module _ (map : ChainMap) (s t u : List ℕ) (laid : IsLaid map s) (cleared : KeepsOthers (IsInRow map.buckets BUCKETS) s t)
+    (written : KeepsOthers (IsWrittenByLaying map.arena (all_blocks map.arena)) t u) where
+  abbrev mine : KeepsOthers (IsBucket map) s t
+  mine = keeps_more (IsInRow map.buckets BUCKETS) (IsBucket map) s t (λ a row. record { low = row.low; high = row.high }) cleared
+
+  pub empty_others : KeepsOthers (λ a. IsBucket map a ⊎ IsWrittenByLaying map.arena (all_blocks map.arena) a) s u
+  empty_others = both_written (IsBucket map) (IsWrittenByLaying map.arena (all_blocks map.arena)) s t u mine written
+
+  pub empty_laid : ((a : ℕ) → IsInRow map.buckets BUCKETS a → slice_get t a ≡ Some 0)
+      → FreeListsHold map.arena u (set.from_list (all_blocks map.arena))
+      → HoldsApart (chain_part map) u entry_map.empty set.empty (set.from_list (all_blocks map.arena))
+  empty_laid zero free = empty_apart (chain_part map) u (set.from_list (all_blocks map.arena))
+      (none_stands map u entry_map.empty (entry_map.get-empty nat_cmp) (laid_alike map s u (empty_others.count) laid)
+      (λ a is. beside map.arena t u written a (laid.no_head a is) (λ b lt in_block. laid.outside b a lt in_block is)
+      ∙ zero a (record { low = is.low; high = is.high }))) free

@@ -1,6 +1,8 @@
 //! Where a chained map lies.
 
-use txn_alloc::Arena;
+ghost use Rattle.txn_hash_map.specs.Chains.{chain_part};
+
+use txn_alloc::{Arena, BlockMap};
 
 /// How many buckets a map has. Their words are as many, from `ChainMap::buckets` on.
 pub const BUCKETS: u64 = 256;
@@ -12,4 +14,8 @@ pub struct ChainMap {
     pub buckets: u64,
     /// Whose blocks the chains are built of. Other collections may take blocks of it too.
     pub arena: Arena,
+}
+
+impl BlockMap for ChainMap {
+    ghost part = { λ map. chain_part map };
 }

@@ -10,5 +10,3 @@ pub mod Inserts
 pub mod Removals
 -- the keys in their order: the first from a key on, walks and sums
 pub mod InOrder
--- word lists of tests
-pub mod Lists

@@ -1,20 +1,25 @@
 -- The map as a whole: it is one, it stands while its words stay, and what it is after a change at a place.
-use Rattle.std.proofs.Common.{◌≡◌, ℕ, ◌+◌, ◌<◌, ◌≤◌, true, false, List, [], ◌∷◌, ◌++◌, length, slice_get, inl, inr, refl, sym, ap, ◌∙◌, subst, arith}
+use Rattle.std.proofs.Common.{◌≡◌, ℕ, ◌+◌, ◌<◌, ◌≤◌, true, false, List, [], ◌∷◌, ◌++◌, length, slice_get, slice_set, Some, ◌⊎◌, inl, inr, refl, sym, ap, ◌∙◌, subst, arith}
 use mathlib.Core.Bool.{true≢false}
 use mathlib.Core.Logic.{dite}
 use native.Mathlib.Decide.{ℕ_discrete}
+use Rattle.std.specs.Ordering.{nat_cmp}
 use Rattle.std.specs.Cmp.{nat_cmp_total}
 use Rattle.std.specs.FinSet.{nat_cmp-IsAntisymmetric}
 use Rattle.std.specs.FinSet as set
 use Rattle.std.specs.FinMap as entry_map
+use Rattle.std.proofs.lemmas.List.{length-set}
+use Rattle.history_model.proofs.Traces.TraceLaws.{get_set_same, get_set_other}
 use Rattle.txn_words.specs.Frames.{KeepsOthers}
 use Rattle.txn_alloc.specs.declared.arena.Arena.{Arena}
-use Rattle.txn_alloc.specs.FreeLists.{IsHead, IsInBlock, TakesBlock}
+use Rattle.txn_alloc.specs.FreeLists.{IsHead, IsInBlock, FreeListsHold, TakesBlock}
+use Rattle.txn_alloc.specs.Laying.{all_blocks, IsWrittenByLaying}
 use Rattle.txn_alloc.specs.EntryMaps.{Cell, Entries, Blocks, value_of, has_block, HoldsApart}
-use Rattle.txn_alloc.proofs.Sets.{in_here, out_itself, in_or, out_less, contains-insert_other}
+use Rattle.txn_alloc.proofs.Sets.{in_here, out_itself, in_or, out_less, out_empty, contains-insert_other}
 use Rattle.txn_alloc.proofs.FreeLists.Lists.{free_kept, free_below, same_block}
 use Rattle.txn_alloc.proofs.Maps.Cells.{value_less, has_middle, less_block, insert_same, insert_other, times_has}
-use Rattle.txn_alloc.proofs.Maps.Parts.{free_unused}
+use Rattle.txn_alloc.proofs.Maps.Parts.{empty_apart, free_unused}
+use Rattle.txn_alloc.proofs.FreeLists.AllLaid.{both_written, beside}
 use Rattle.txn_alloc.proofs.Maps.Founds.{InsertsIn}
 use Rattle.txn_tree_map.specs.declared.map.TreeMap.{TreeMap}
 use Rattle.txn_tree_map.specs.Trees.{Tree, name_of, cells_of, IsRising, IsLaid, TreeHolds, tree_part}
@@ -36,6 +41,31 @@ one_map map s f g u w h k =
       entry_map.same_map nat_cmp_total nat_cmp-IsAntisymmetric f g (λ q. at_value map s [] h.tree m f u h q ∙ sym (at_value map s [] h.tree m g w k q)),
       set.same_set nat_cmp_total nat_cmp-IsAntisymmetric u w (λ q. at_used map s [] h.tree m f u h q ∙ sym (at_used map s [] h.tree m g w k q)),
     )
+
+-- where the root names none, the map has no entry
+pub none_stands : (map : TreeMap) (s : List ℕ) → IsLaid map s → slice_get s map.root ≡ Some 0 → TreeHolds map s entry_map.empty set.empty
+none_stands map s laid zero = record {
+  laid = laid;
+  tree = Leaf;
+  spelled = (zero, tt);
+  search = tt;
+  heap = tt;
+  entries_are = entry_map.get-empty nat_cmp;
+  used_are = out_empty;
+}
+
+-- where its root was cleared, and then all blocks laid free, the empty map stands beside them
+module _ (map : TreeMap) (s u : List ℕ) (laid : IsLaid map s)
+    (written : KeepsOthers (IsWrittenByLaying map.arena (all_blocks map.arena)) (slice_set s map.root 0) u) where
+  pub empty_others : KeepsOthers (λ a. (a ≡ map.root) ⊎ IsWrittenByLaying map.arena (all_blocks map.arena) a) s u
+  empty_others = both_written (λ a. a ≡ map.root) (IsWrittenByLaying map.arena (all_blocks map.arena)) s (slice_set s map.root 0) u
+      (record { count = length-set s map.root 0; same = λ a ne. get_set_other s map.root a 0 ne }) written
+
+  pub empty_laid : FreeListsHold map.arena u (set.from_list (all_blocks map.arena))
+      → HoldsApart (tree_part map) u entry_map.empty set.empty (set.from_list (all_blocks map.arena))
+  empty_laid free = empty_apart (tree_part map) u (set.from_list (all_blocks map.arena))
+      (none_stands map u (laid_alike map s u (empty_others.count) laid)
+      (beside map.arena (slice_set s map.root 0) u written map.root laid.no_head laid.outside ∙ get_set_same s map.root 0 laid.root)) free
 
 -- a place in a tree whose words stay
 pub at_stays : (map : TreeMap) (s t : List ℕ) (path : Path) (tree : Tree) → HangsAt map path tree s → length t ≡ length s

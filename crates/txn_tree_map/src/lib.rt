@@ -2,8 +2,8 @@
 //!
 //! A `TreeMap` says which word names the block on top and which arena its blocks are of. `get`, `insert`, `remove`,
 //! `sum_range` and `first_from` see the map as a finite map from keys to values, with the set of the blocks that it uses and the
-//! set of those that are free; how the tree goes through the blocks stands in `specs/Trees` alone. `laws` has what a
-//! collection above concludes of them.
+//! set of those that are free; how the tree goes through the blocks stands in `specs/Trees` alone. `lay_empty` lays it with no
+//! entry. `laws` has what a collection above concludes of them.
 //!
 //! # The tree
 //!
@@ -44,6 +44,7 @@ mod in_place;
 mod insert;
 mod join;
 pub mod laws;
+mod lay;
 pub mod map;
 mod next;
 mod remove;

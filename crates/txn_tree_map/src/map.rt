@@ -1,10 +1,10 @@
 //! Where a tree map lies, and the order of its priorities.
 
 ghost use Rattle.std.specs.Prelude.{◌≡◌, ◌^◌, ◌<◌};
-ghost use Rattle.txn_tree_map.specs.Trees.{priority_of};
+ghost use Rattle.txn_tree_map.specs.Trees.{priority_of, tree_part};
 
-use txn_alloc::Arena;
 use txn_alloc::spread::spread;
+use txn_alloc::{Arena, BlockMap};
 
 /// A map from keys to values on words: a treap of the arena's blocks.
 #[derive(Clone, Copy, Debug, PartialEq, Eq)]
@@ -13,6 +13,10 @@ pub struct TreeMap {
     pub root: u64,
     /// Whose blocks the tree is built of. Other collections may take blocks of it too.
     pub arena: Arena,
+}
+
+impl BlockMap for TreeMap {
+    ghost part = { λ map. tree_part map };
 }
 
 /// The priority of a key. The greater is higher.

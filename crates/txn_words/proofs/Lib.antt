@@ -2,6 +2,8 @@
 pub mod Steps
 -- what the reads and writes of a job tell, one after another: what every job cites
 pub mod JobLaws
+-- what one word or two that a job reads first and writes then tell
+pub mod FirstWords
 -- from what a call on words did to what holds after it
 pub mod CallLaws
 -- words in a plain list, after one event more

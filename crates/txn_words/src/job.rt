@@ -34,7 +34,9 @@ pub trait Job {
     ghost means: { Self → List ℕ → Bool → Self.Answer → List ℕ → Type 0 };
 
     /// The job's number, for those who watch a run. Nothing else uses it.
-    fn tag(&self) -> u64;
+    fn tag(&self) -> u64 {
+        0
+    }
 
     /// Runs the job once. A `Stop` that the words answer is handed on; the job may itself answer `Memory`, and says
     /// nothing of what it did then.

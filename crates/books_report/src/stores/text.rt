@@ -8,12 +8,12 @@ ghost use Rattle.books_report.specs.Lines.{place_of_line};
 ghost use Rattle.books_report.specs.Stores.Lines.{lent, ran_of_line, scripts_of};
 ghost use Rattle.books_report.specs.Stores.Output.{journal_line, journal_lines, reply_words, IsPlaceOf};
 
-use crate::decimal::push_next;
 use crate::journal::write_place;
 use crate::line::Line;
 use crate::stores::reply::{StoreReply, StoreValues};
 use crate::stores::script::OperationList;
 use script_reader::Gathered;
+use script_reader::decimal::push_next;
 use std::alloc::AllocError;
 
 /// A value that a reply tells in one word.

@@ -1,9 +1,9 @@
 -- What is wrong with a line between scripts, by the callers of the scripts before it.
-use Rattle.std.proofs.Common.{◌≡◌, ℕ, ◌+◌, ◌≤◌, Bool, true, false, not, ◌&&◌, ◌||◌, nat_le, cond, List, [], ◌∷◌, codes, map, filter, fold, length, Option}
-use Rattle.std.proofs.Common.{Some, None, refl, sym, ap, ◌∙◌, arith}
+use Rattle.std.proofs.Common.{◌≡◌, ℕ, ◌+◌, ◌<◌, ◌≤◌, Bool, true, false, not, ◌&&◌, ◌||◌, nat_le, cond, List, [], ◌∷◌, codes, map, filter, fold, length, Option}
+use Rattle.std.proofs.Common.{Some, None, refl, sym, ap, subst, ◌∙◌, arith}
 use Rattle.std.specs.List.{list_any, count_by}
 use Rattle.std.specs.Str.{bytes_eq}
-use Rattle.std.proofs.lemmas.Bool.{lt-leb}
+use Rattle.std.proofs.lemmas.Bool.{lt-leb, leb-false}
 use Rattle.std.proofs.lemmas.List.{length-map}
 use Rattle.std.proofs.lemmas.List.Sums.{sum_by-cons}
 use Rattle.script_reader.specs.declared.limits.TheConstants.{MOST_CALLERS, MOST_SCRIPTS}
@@ -12,9 +12,10 @@ use Rattle.script_reader.specs.declared.fault.Fault.TheVariants as fault
 use Rattle.script_reader.specs.Lines.{word_at}
 use Rattle.script_reader.specs.Forms.{Words, begins, is_only, is_script_line}
 use Rattle.script_reader.specs.Faults.{first_reason, callers_before, is_beyond, outside_fault}
-use Rattle.script_reader.specs.Gathered.{CallerOf, SubmissionOf, AreCallers, IsName, first_seen, callers_of, count_scripts, scripts_by}
+use Rattle.script_reader.specs.Gathered.{CallerOf, SubmissionOf, AreCallers, IsName, is_name, first_seen, callers_of, count_scripts, scripts_by}
 use Rattle.script_reader.specs.Inner.Gatherings.{is_caller, add_submission, is_beyond_in}
-use Rattle.script_reader.proofs.Conditions.{any_last}
+use Rattle.script_reader.proofs.Conditions.{any_last, both, neither, passed}
+use Rattle.script_reader.proofs.LineFaults.LineKinds.{none_applies, one_behind}
 use Rattle.script_reader.proofs.Grouped.Gathering.{any-map, count-add}
 use Rattle.script_reader.proofs.Grouped.Grouping.{callers_of-gathered, no-names}
 use Rattle.script_reader.proofs.Grouped.Submitting.{count-fold, length-add-new, length-fold-ge}
@@ -77,6 +78,33 @@ module _ {S : Type 0} where
       → IsName name → is_beyond_in callers name ≡ true → outside_in callers words ≡ Some fault.Limit
   outside_beyond callers name words is named beyond =
       ap (outside_in callers) is ∙ (λ i. first_reason ((not (false || named i), fault.Word) ∷ (named i && beyond i, fault.Limit) ∷ []))
+
+  -- a line without fault that is not the last one begins a script, for which and for whose caller there is room
+  pub record BeginsScript (callers : List (CallerOf S)) (words : Words) : Type 0 where
+    pub name : List ℕ
+    pub words_are : words ≡ codes "script" ∷ name ∷ []
+    pub named : IsName name
+    pub room : count_scripts callers < MOST_SCRIPTS
+    pub space : is_caller name callers ≡ false → length callers < MOST_CALLERS
+
+  pub begins_script : (callers : List (CallerOf S)) (words : Words) → outside_in callers words ≡ None → is_only (codes "finish") words ≡ false
+      → BeginsScript callers words
+  begins_script callers words none more =
+      let n1 = none_applies _ fault.Word _ none in
+      let n2 = none_applies _ fault.Limit _ n1.1 in
+      let script : is_script_line words ≡ true = sym (ap (λ c. c || is_script_line words) more) ∙ passed n1.0 in
+      let form = both script in
+      let name = one_behind (codes "script") words form.0 in
+      let beyond : is_beyond_in callers name.0 ≡ false =
+      subst (λ w. is_beyond_in callers (word_at w 1) ≡ false) name.1 (sym (ap (λ c. c && is_beyond_in callers (word_at words 1)) script) ∙ n2.0) in
+      let limits = neither beyond in
+      record {
+        name = name.0;
+        words_are = name.1;
+        named = subst (λ w. is_name (word_at w 1) ≡ true) name.1 form.1;
+        room = leb-false MOST_SCRIPTS _ limits.0;
+        space = λ new. leb-false MOST_CALLERS _ (sym (ap (λ c. not c && nat_le MOST_CALLERS (length callers)) new) ∙ limits.1);
+      }
 
   module _ (lines : List Words) (subs : List (SubmissionOf S))
       (begun : filter (begins (codes "script")) lines ≡ map (λ s. codes "script" ∷ s.caller ∷ []) subs) where

@@ -1,24 +1,16 @@
 -- Lines by their kinds, and what is known of a line that no reason applies to.
-use Rattle.std.proofs.Common.{lit<, ◌≡◌, ℕ, ◌+◌, ◌<◌, ◌^◌, ◌⊎◌, inl, inr, Bool, true, false, ◌&&◌, ◌==◌, nat_le, cond, if◌then◌else◌, List, [], ◌∷◌}
-use Rattle.std.proofs.Common.{◌++◌, codes}
-use Rattle.std.proofs.Common.{drop, length, Option, Some, None, refl, ap, subst, ◌∙◌, arith}
+use Rattle.std.proofs.Common.{◌≡◌, ℕ, ◌+◌, ◌<◌, ◌^◌, ◌⊎◌, inl, inr, Bool, true, false, ◌&&◌, ◌==◌, nat_le, cond, if◌then◌else◌, List, [], ◌∷◌, codes}
+use Rattle.std.proofs.Common.{drop, length, Option, Some, None, refl, ap, ◌∙◌, arith}
 use Rattle.std.specs.Option.{is_none}
 use Rattle.std.proofs.lemmas.Bool.{leb-true, eqb-true}
 use Rattle.std.proofs.lemmas.Slice.Eq.{bytes_eq-Decides}
 use Rattle.books_model.specs.Ranges.{IsWithin}
-use Rattle.books_model.specs.Books.{ClearingBooks}
-use Rattle.books_model.specs.declared.script.Op.{Op}
-use Rattle.books_model.specs.declared.script.Op.TheVariants as op
 use Rattle.script_reader.specs.declared.fault.Fault.{Fault}
 use Rattle.script_reader.specs.Number.{is_number}
-use Rattle.script_reader.specs.Text.{number, operation_words}
-use Rattle.script_reader.specs.Forms.{Words, Form, form, InScript, books_forms, operation_forms, turning_forms, begins, is_only, has_form, form_of}
-use Rattle.script_reader.specs.Forms.{ranges_of, value_of, are_numbers}
-use Rattle.script_reader.specs.Forms.{are_in_range}
+use Rattle.script_reader.specs.Text.{number}
+use Rattle.script_reader.specs.Forms.{Words, Form, form, InScript, books_forms, turning_forms, begins, is_only, has_form, form_of, value_of}
 use Rattle.script_reader.proofs.Tokens.Numerals.{text_of_number}
 use Rattle.script_reader.proofs.Conditions.{both}
-use Rattle.script_reader.proofs.Versions.{amount_small}
-use Rattle.script_reader.specs.Inner.OfVersion.{IsOperationOf}
 use Rattle.script_reader.specs.declared.version.Version.{Version}
 
 -- a reason that does not apply, and what follows it
@@ -131,122 +123,6 @@ books_line version instruments words h = elim (one_of (books_forms version instr
         | inr other ↦ elim other [
           | inl is ↦ (ScriptsLine, only_word (codes "scripts") words is)
           | inr none ↦ absurd none
-        ]
-      ]
-    ]
-  ]
-]
-
--- words that were read as numbers, each in its range
-abbrev pub AreRead : Words → List (ℕ × ℕ) → Type 0
-AreRead [] ranges = Unit {0}
-AreRead (w ∷ words) [] = Unit {0}
-AreRead (w ∷ words) (r ∷ ranges) = (r.1 < 2 ^ 64 → (w ≡ number (value_of w)) × IsWithin r.0 r.1 (value_of w)) × AreRead words ranges
-
-pub are_read : (words : Words) (ranges : List (ℕ × ℕ)) → are_numbers words ≡ true → are_in_range words ranges ≡ true → AreRead words ranges
-are_read [] ranges n r = tt
-are_read (w ∷ words) [] n r = tt
-are_read (w ∷ words) (range ∷ ranges) n r = ((λ fits. ranged w range.0 range.1 fits (both n).0 (both r).0), are_read words ranges (both n).1 (both r).1)
-
--- the numbers of a line that has these words
-read_line : (forms : List Form) (words these : Words) → words ≡ these → are_numbers (drop 1 words) ≡ true
-    → are_in_range (drop 1 words) (ranges_of (form_of forms words)) ≡ true
-    → AreRead (drop 1 these) (ranges_of (form_of forms these))
-read_line forms words these e n r =
-    are_read (drop 1 these) (ranges_of (form_of forms these)) (subst (λ w. are_numbers (drop 1 w) ≡ true) e n)
-    (subst (λ w. are_in_range (drop 1 w) (ranges_of (form_of forms w)) ≡ true) e r)
-
--- the operation of a line of a script, unless it is one of other forms
-pub operation_line : (version : Version) (books : ClearingBooks) (others : List Form) (words : Words) → books.instruments < 2 ^ 64
-    → is_none (form_of (operation_forms version books.instruments ++ others) words) ≡ false → are_numbers (drop 1 words) ≡ true
-    → are_in_range (drop 1 words) (ranges_of (form_of (operation_forms version books.instruments ++ others) words)) ≡ true
-    → IsOneOf others words ⊎ ((o : Op) × IsOperationOf version books o × (words ≡ operation_words o))
-unfolding IsOneOf
-operation_line version books others words few h n r = elim (one_of (operation_forms version books.instruments ++ others) words h) [
-  | inl is ↦ let e = one_behind (codes "open") words is in
-      let read = read_line (operation_forms version books.instruments ++ others) words _ e.1 n r in
-      inr (op.OpenAccount (value_of e.0), (read.0 (lit< tt)).1, e.1 ∙ (λ i. codes "open" ∷ (read.0 (lit< tt)).0 i ∷ []))
-  | inr other ↦ elim other [
-    | inl is ↦ let e = one_behind (codes "close") words is in
-        let read = read_line (operation_forms version books.instruments ++ others) words _ e.1 n r in
-        inr (op.Close (value_of e.0), (read.0 (lit< tt)).1, e.1 ∙ (λ i. codes "close" ∷ (read.0 (lit< tt)).0 i ∷ []))
-    | inr other ↦ elim other [
-      | inl is ↦ let e = two_behind (codes "deposit") words is in
-          let read = read_line (operation_forms version books.instruments ++ others) words _ e.2 n r in
-          inr (
-            op.Deposit (value_of e.0) (value_of e.1),
-            ((read.0 (lit< tt)).1, (read.1.0 (amount_small version)).1),
-            e.2
-                ∙ (λ i. codes "deposit" ∷ (read.0 (lit< tt)).0 i ∷ (read.1.0 (amount_small version)).0 i ∷ []),
-          )
-      | inr other ↦ elim other [
-        | inl is ↦ let e = two_behind (codes "withdraw") words is in
-            let read = read_line (operation_forms version books.instruments ++ others) words _ e.2 n r in
-            inr (
-              op.Withdraw (value_of e.0) (value_of e.1),
-              ((read.0 (lit< tt)).1, (read.1.0 (amount_small version)).1),
-              e.2
-                  ∙ (λ i. codes "withdraw" ∷ (read.0 (lit< tt)).0 i ∷ (read.1.0 (amount_small version)).0 i ∷ []),
-            )
-        | inr other ↦ elim other [
-          | inl is ↦ let e = three_behind (codes "move") words is in
-              let read = read_line (operation_forms version books.instruments ++ others) words _ e.3 n r in
-              inr (
-                op.Move (value_of e.0) (value_of e.1) (value_of e.2),
-                ((read.0 (lit< tt)).1, (read.1.0 (lit< tt)).1, (read.1.1.0 (amount_small version)).1),
-                e.3
-                    ∙ (λ i. codes "move" ∷ (read.0 (lit< tt)).0 i ∷ (read.1.0 (lit< tt)).0 i ∷ (read.1.1.0 (amount_small version)).0 i ∷ []),
-              )
-          | inr other ↦ elim other [
-            | inl is ↦ let e = two_behind (codes "price") words is in
-                let read = read_line (operation_forms version books.instruments ++ others) words _ e.2 n r in
-                inr (
-                  op.Price (value_of e.0) (value_of e.1),
-                  ((read.0 few).1, (read.1.0 (lit< tt)).1),
-                  e.2
-                      ∙ (λ i. codes "price" ∷ (read.0 few).0 i ∷ (read.1.0 (lit< tt)).0 i ∷ []),
-                )
-            | inr other ↦ elim other [
-              | inl is ↦ let e = four_behind (codes "trade") words is in
-                  let read = read_line (operation_forms version books.instruments ++ others) words _ e.4 n r in
-                  inr (
-                    op.Trade (value_of e.0) (value_of e.1) (value_of e.2)
-                        (value_of e.3),
-                    ((read.0 (lit< tt)).1, (read.1.0 (lit< tt)).1, (read.1.1.0 few).1, (read.1.1.1.0 (lit< tt)).1),
-                    e.4
-                        ∙ (λ i. codes "trade" ∷ (read.0 (lit< tt)).0 i ∷ (read.1.0 (lit< tt)).0 i ∷ (read.1.1.0 few).0 i ∷ (read.1.1.1.0 (lit< tt)).0 i ∷ []),
-                  )
-              | inr other ↦ elim other [
-                | inl is ↦ let e = two_behind (codes "margin") words is in
-                    let read = read_line (operation_forms version books.instruments ++ others) words _ e.2 n r in
-                    inr (
-                      op.Margin (value_of e.0) (value_of e.1),
-                      ((read.0 (lit< tt)).1, (read.1.0 (lit< tt)).1),
-                      e.2
-                          ∙ (λ i. codes "margin" ∷ (read.0 (lit< tt)).0 i ∷ (read.1.0 (lit< tt)).0 i ∷ []),
-                    )
-                | inr other ↦ elim other [
-                  | inl is ↦ inr (op.Next, tt, only_word (codes "next") words is)
-                  | inr other ↦ elim other [
-                    | inl is ↦ let e = one_behind (codes "show") words is in
-                        let read = read_line (operation_forms version books.instruments ++ others) words _ e.1 n r in
-                        inr (op.Show (value_of e.0), (read.0 (lit< tt)).1, e.1 ∙ (λ i. codes "show" ∷ (read.0 (lit< tt)).0 i ∷ []))
-                    | inr other ↦ elim other [
-                      | inl is ↦ let e = two_behind (codes "sum") words is in
-                          let read = read_line (operation_forms version books.instruments ++ others) words _ e.2 n r in
-                          inr (
-                            op.Sum (value_of e.0) (value_of e.1),
-                            ((read.0 (lit< tt)).1, (read.1.0 (lit< tt)).1),
-                            e.2
-                                ∙ (λ i. codes "sum" ∷ (read.0 (lit< tt)).0 i ∷ (read.1.0 (lit< tt)).0 i ∷ []),
-                          )
-                      | inr other ↦ inl other
-                    ]
-                  ]
-                ]
-              ]
-            ]
-          ]
         ]
       ]
     ]

@@ -17,26 +17,12 @@ use Rattle.script_reader.specs.Inner.BooksRows.{IsRow}
 use Rattle.script_reader.specs.Rows.{HasNumbers, numbers_fault}
 use Rattle.script_reader.specs.Inner.Rows.{account_ranges, price_ranges, position_ranges, call_ranges}
 use Rattle.script_reader.proofs.Conditions.{any_fixed, is_some_list}
-use Rattle.script_reader.proofs.Printing.Printed.{books_fault_is, fault_at, is_late_in, is_low_in}
+use Rattle.script_reader.proofs.Printing.Printed.{reasons, books_fault_is, fault_at, is_late_in, is_low_in}
 use Rattle.script_reader.proofs.Printing.Scripted.{in_books}
 use Rattle.script_reader.proofs.LineFaults.LineKinds.{two_behind, three_behind}
 use Rattle.script_reader.proofs.WithoutFault.BooksFaultless.{printed, printed_small}
 use Rattle.script_reader.proofs.Printing.Extending.{adds_account, adds_price, adds_position, adds_call}
 use Rattle.script_reader.specs.declared.version.Version.{Version}
-
--- the reasons against a line of books, in their order
-abbrev pub reasons : Bool → Bool → Bool → Bool → Bool → Bool → Bool → Bool → Option Fault
-reasons word late number limit low account price full = first_reason (
-    (word, fault.Word)
-    ∷ (late, fault.Order)
-    ∷ (number, fault.Number)
-    ∷ (limit, fault.Limit)
-    ∷ (low, fault.Order)
-    ∷ (account, fault.Account)
-    ∷ (price, fault.Price)
-    ∷ (full, fault.Blocks)
-    ∷ []
-    )
 
 -- what is wrong with numbers comes first where the line has its form and its place
 pub numbers_first : (number limit more low account price full : Bool) (why : Fault)
@@ -90,20 +76,24 @@ module _ {version : Version} {b : ClearingBooks} {words : Words} {ranges : List 
 
 module _ (version : Version) (b : ClearingBooks) (range : AreInRange b) (words : Words) where
   -- what is wrong with a line of a kind
-  by_kind : (f : Form) (kind : ℕ) (key : ℕ × ℕ) (call position block : Bool)
-      → form_of (books_forms version b.instruments) words ≡ Some f → kind_of words ≡ kind → key_of words ≡ key
-      → begins (codes "call") words ≡ call → begins (codes "position") words ≡ position → takes_block words ≡ block
+  by_kind : (these : Words) (f : Form) (kind : ℕ) (key : Words → ℕ × ℕ) (call position block : Bool) → words ≡ these
+      → form_of (books_forms version b.instruments) these ≡ Some f → kind_of these ≡ kind → key_of these ≡ key these
+      → begins (codes "call") these ≡ call → begins (codes "position") these ≡ position → takes_block these ≡ block
       → fault_of (books_words version b) words ≡ reasons false (is_late_in kind (printed version b)) (not (are_numbers (drop 1 words)))
-      (not (are_in_range (drop 1 words) f.ranges) || (call && nat_le b.ring (length b.calls))) (is_low_in kind key (printed version b))
+      (not (are_in_range (drop 1 words) f.ranges) || (call && nat_le b.ring (length b.calls))) (is_low_in kind (key words) (printed version b))
       (position && not (list_any (λ e. e.0 == value_at words 1) (finmap.entries b.accounts)))
       (position && not (list_any (λ e. e.0 == value_at words 2) (finmap.entries b.prices))) (block && has_no_block b)
-  by_kind f kind key call position block form_is kind_is key_is call_is position_is block_is =
+  by_kind these f kind key call position block is form_at kind_at key_at call_at position_at block_at =
+      let form_is = ap (form_of (books_forms version b.instruments)) is ∙ form_at in
+      let kind_is = ap kind_of is ∙ kind_at in
+      let key_is = ap key_of is ∙ key_at ∙ sym (ap key is) in
+      let position_is = ap (begins (codes "position")) is ∙ position_at in
       in_books (printed version b) words ∙ books_fault_is (printed version b) words (printed_small b range version)
       ∙ (λ i. reasons (is_none (form_is i)) (is_late_in (kind_is i) (printed version b)) (not (are_numbers (drop 1 words)))
-      (not (are_in_range (drop 1 words) (ranges_of (form_is i))) || (call_is i && nat_le b.ring (length b.calls)))
+      (not (are_in_range (drop 1 words) (ranges_of (form_is i))) || ((ap (begins (codes "call")) is ∙ call_at) i && nat_le b.ring (length b.calls)))
       (is_low_in (kind_is i) (key_is i) (printed version b))
       (position_is i && not (list_any (λ e. e.0 == value_at words 1) (finmap.entries b.accounts)))
-      (position_is i && not (list_any (λ e. e.0 == value_at words 2) (finmap.entries b.prices))) (block_is i && has_no_block b))
+      (position_is i && not (list_any (λ e. e.0 == value_at words 2) (finmap.entries b.prices))) ((ap takes_block is ∙ block_at) i && has_no_block b))
 
   pub account_fault : (begins (codes "account") words && length words == 3) ≡ true
       → IsRefused version b words (account_ranges version) (is_late_in 0 (printed version b)) false (is_low_in 0 (value_at words 1, 0) (printed version b))
@@ -111,9 +101,8 @@ module _ (version : Version) (b : ClearingBooks) (range : AreInRange b) (words :
   account_fault row =
       let e = two_behind (codes "account") words row in
       record {
-        fault = by_kind (form (codes "account") (account_ranges version)) 0 (value_at words 1, 0) false
-            false true (ap (form_of (books_forms version b.instruments)) e.2) (ap kind_of e.2) (ap key_of e.2
-            ∙ sym (ap (λ w. (value_at w 1, 0)) e.2)) (ap (begins (codes "call")) e.2) (ap (begins (codes "position")) e.2) (ap takes_block e.2);
+        fault = by_kind (codes "account" ∷ e.0 ∷ e.1 ∷ []) (form (codes "account") (account_ranges version)) 0
+            (λ w. (value_at w 1, 0)) false false true e.2 refl refl refl refl refl refl;
       }
 
   pub price_fault : (begins (codes "price") words && length words == 3) ≡ true
@@ -123,9 +112,8 @@ module _ (version : Version) (b : ClearingBooks) (range : AreInRange b) (words :
   price_fault row =
       let e = two_behind (codes "price") words row in
       record {
-        fault = by_kind (form (codes "price") (price_ranges b.instruments)) 1 (value_at words 1, 0) false false
-            true (ap (form_of (books_forms version b.instruments)) e.2) (ap kind_of e.2) (ap key_of e.2
-            ∙ sym (ap (λ w. (value_at w 1, 0)) e.2)) (ap (begins (codes "call")) e.2) (ap (begins (codes "position")) e.2) (ap takes_block e.2);
+        fault = by_kind (codes "price" ∷ e.0 ∷ e.1 ∷ []) (form (codes "price") (price_ranges b.instruments)) 1
+            (λ w. (value_at w 1, 0)) false false true e.2 refl refl refl refl refl refl;
       }
 
   pub position_fault : (begins (codes "position") words && length words == 4) ≡ true
@@ -136,11 +124,8 @@ module _ (version : Version) (b : ClearingBooks) (range : AreInRange b) (words :
   position_fault row =
       let e = three_behind (codes "position") words row in
       record {
-        fault = by_kind (form (codes "position") (position_ranges b.instruments)) 2 (
-          value_at words 1,
-          value_at words 2,
-        ) false true true (ap (form_of (books_forms version b.instruments)) e.3) (ap kind_of e.3) (ap key_of e.3
-            ∙ sym (ap (λ w. (value_at w 1, value_at w 2)) e.3)) (ap (begins (codes "call")) e.3) (ap (begins (codes "position")) e.3) (ap takes_block e.3);
+        fault = by_kind (codes "position" ∷ e.0 ∷ e.1 ∷ e.2 ∷ []) (form (codes "position") (position_ranges b.instruments)) 2
+            (λ w. (value_at w 1, value_at w 2)) false true true e.3 refl refl refl refl refl refl;
       }
 
   pub call_fault : (begins (codes "call") words && length words == 3) ≡ true
@@ -148,9 +133,8 @@ module _ (version : Version) (b : ClearingBooks) (range : AreInRange b) (words :
   call_fault row =
       let e = two_behind (codes "call") words row in
       record {
-        fault = by_kind (form (codes "call") call_ranges) 3 (value_at words 1, 0) true false
-            false (ap (form_of (books_forms version b.instruments)) e.2) (ap kind_of e.2) (ap key_of e.2
-            ∙ sym (ap (λ w. (value_at w 1, 0)) e.2)) (ap (begins (codes "call")) e.2) (ap (begins (codes "position")) e.2) (ap takes_block e.2);
+        fault = by_kind (codes "call" ∷ e.0 ∷ e.1 ∷ []) (form (codes "call") call_ranges) 3
+            (λ w. (value_at w 1, 0)) true false false e.2 refl refl refl refl refl refl;
       }
 
   -- no kind is that of the line

@@ -1,12 +1,12 @@
 -- What is wrong with a line of a script, by its form.
-use Rattle.std.proofs.Common.{◌≡◌, ℕ, Bool, true, false, not, ◌&&◌, ◌==◌, cond, List, [], ◌∷◌, codes, drop, length, Some, None, refl, ap, ◌∙◌}
+use Rattle.std.proofs.Common.{◌≡◌, ℕ, ◌+◌, Bool, true, false, not, ◌&&◌, ◌==◌, cond, List, [], ◌∷◌, drop, filter, length, Some, None, refl, sym, ap, ◌∙◌}
+use Rattle.std.proofs.Common.{true≢false}
 use Rattle.std.specs.List.{AllByRecursion}
 use Rattle.std.specs.Option.{is_none}
-use Rattle.std.proofs.lemmas.Bool.{eqb-true}
-use Rattle.script_reader.specs.declared.version.Version.{Version}
+use Rattle.std.proofs.lemmas.Bool.{eqb-true, eq-eqb}
 use Rattle.script_reader.specs.declared.fault.Fault.{Fault}
 use Rattle.script_reader.specs.declared.fault.Fault.TheVariants as fault
-use Rattle.script_reader.specs.Forms.{Words, Form, form, operation_forms, begins, has_form, form_of, ranges_of, are_numbers, are_in_range}
+use Rattle.script_reader.specs.Forms.{Words, Form, form, begins, has_form, form_of, ranges_of, are_numbers, are_in_range}
 use Rattle.script_reader.specs.Faults.{first_reason}
 use Rattle.script_reader.specs.Rows.{numbers_fault, row_fault}
 use Rattle.script_reader.proofs.LineFaults.LineKinds.{one_behind, two_behind, three_behind, four_behind}
@@ -69,18 +69,25 @@ module _ (forms : List Form) (words : Words) where
       let e = four_behind k words row in
       numbers_wrong (form k (r ∷ s ∷ t ∷ u ∷ [])) why (ap (form_of forms) e.4 ∙ is e.0 e.1 e.2 e.3) h
 
--- a line that is no operation
-pub unknown_word : (version : Version) (n : ℕ) (words : Words)
-    → (begins (codes "open") words && length words == 2) ≡ false
-    → (begins (codes "close") words && length words == 2) ≡ false
-    → (begins (codes "deposit") words && length words == 3) ≡ false
-    → (begins (codes "withdraw") words && length words == 3) ≡ false
-    → (begins (codes "move") words && length words == 4) ≡ false
-    → (begins (codes "price") words && length words == 3) ≡ false
-    → (begins (codes "trade") words && length words == 5) ≡ false
-    → (begins (codes "margin") words && length words == 3) ≡ false
-    → (begins (codes "next") words && length words == 1) ≡ false
-    → (begins (codes "show") words && length words == 2) ≡ false
-    → (begins (codes "sum") words && length words == 3) ≡ false
-    → row_fault (operation_forms version n) words ≡ Some fault.Word
-unknown_word version n words a b c d e f g h i j k = word_wrong (operation_forms version n) words (a, (b, (c, (d, (e, (f, (g, (h, (i, (j, (k, tt)))))))))))
+-- a line of so many words that is of none of the forms that have as many
+pub unknown_word : (forms : List Form) (words : Words) (n : ℕ) → length words ≡ n
+    → AllByRecursion (λ f. (begins f.keyword words && length words == n) ≡ false) (filter (λ f. 1 + length f.ranges == n) forms)
+    → row_fault forms words ≡ Some fault.Word
+unknown_word forms words n long all = word_wrong forms words (none forms all)
+  where
+    none : (forms : List Form) → AllByRecursion (λ f. (begins f.keyword words && length words == n) ≡ false) (filter (λ f. 1 + length f.ranges == n) forms)
+        → AllByRecursion (λ f. has_form words f ≡ false) forms
+    none [] all = tt
+    none (f ∷ forms) all = by (1 + length f.ranges == n) refl all (none forms)
+      where
+        by : (b : Bool) → (1 + length f.ranges == n) ≡ b
+            → AllByRecursion (λ f. (begins f.keyword words && length words == n) ≡ false)
+            (cond b (f ∷ filter (λ f. 1 + length f.ranges == n) forms) (filter (λ f. 1 + length f.ranges == n) forms))
+            → (AllByRecursion (λ f. (begins f.keyword words && length words == n) ≡ false) (filter (λ f. 1 + length f.ranges == n) forms)
+            → AllByRecursion (λ f. has_form words f ≡ false) forms)
+            → AllByRecursion (λ f. has_form words f ≡ false) (f ∷ forms)
+        by true e all rest = (ap (λ m. begins f.keyword words && length words == m) (eqb-true (1 + length f.ranges) n e) ∙ all.0, rest all.1)
+        by false e all rest = (
+          other_length f.keyword (1 + length f.ranges) words (λ same. true≢false (sym (eq-eqb (1 + length f.ranges) n (sym same ∙ long)) ∙ e)),
+          rest all,
+        )

@@ -1,7 +1,6 @@
 -- What was read of a text, and the fault behind it.
 use Rattle.std.proofs.Common.{◌≡◌, ℕ, ◌≤◌, Bool, true, false, if◌then◌else◌, nat_le, List, [], ◌∷◌, ◌++◌, codes, map, length, All}
-use Rattle.std.proofs.Common.{Some, None, refl, sym, ap, subst, ◌∙◌}
-use Rattle.std.proofs.Common.{append_assoc, arith}
+use Rattle.std.proofs.Common.{Some, None, refl, sym, ap, subst, ◌∙◌, append_assoc, arith}
 use Rattle.std.specs.List.{flat_map}
 use Rattle.std.proofs.lemmas.Bool.{le-leb}
 use Rattle.std.proofs.lemmas.List.{append-nil}
@@ -25,6 +24,7 @@ use Rattle.script_reader.specs.Inner.ListScripts.{AreReadOf, HasTextInFront, lin
 use Rattle.script_reader.proofs.Grouped.Submitting.{caller-AreWords}
 use Rattle.script_reader.proofs.Grouped.Outside.{outside_other, outside_beyond}
 use Rattle.script_reader.proofs.Judging.{behind_more}
+use Rattle.script_reader.proofs.Texts.Following.{more_script}
 use Rattle.script_reader.proofs.Listed.Standing.{outside_is, within_in, within_is, operation_is, within_more}
 use Rattle.script_reader.proofs.Listed.Lawful.{begins_faultless, operations_faultless, scripts_faultless, front_faultless}
 
@@ -107,21 +107,10 @@ module _ {O S : Type 0} (g : ListLanguage O S) where
       → middle ≡ operations_text g (g.operations s.script) ++ (end_line ++ after)
       → start ≡ flat_map line (flat_map (submission_words g) (subs ++ s ∷ [])) ++ after
   one_more_script start left middle after subs s words text first is rest =
-      let F : List ℕ = flat_map line (flat_map (submission_words g) subs) in
-      let L : List ℕ = line (codes "script" ∷ s.caller ∷ []) in
-      let M : List Words = map (operation_words g) (g.operations s.script) in
-      let T : List ℕ = flat_map line M in
-      let one : left ≡ flat_map line (submission_words g s) ++ after =
-      first ∙ (λ i. line (is i) ++ rest i)
-      ∙ ap (λ l. L ++ l) (sym (append_assoc T end_line after))
-      ∙ sym (append_assoc L (T ++ end_line) after)
-      ∙ ap (λ l. (L ++ l) ++ after) (ap (λ l. T ++ l) (sym (append-nil end_line)) ∙ sym (flat_map-append line M ((codes "end" ∷ []) ∷ []))) in
-      text ∙ ap (λ l. F ++ l) one ∙ sym (append_assoc F (flat_map line (submission_words g s)) after)
-      ∙ ap (λ l. l ++ after) (
-      sym (flat_map-append line (flat_map (submission_words g) subs) (submission_words g s))
-      ∙ ap (flat_map line) (ap (λ l. flat_map (submission_words g) subs ++ l) (sym (append-nil (submission_words g s)))
+      more_script start left middle after (flat_map (submission_words g) subs) words (codes "script" ∷ s.caller ∷ [])
+      (map (operation_words g) (g.operations s.script)) text first is rest
+      ∙ ap (λ l. flat_map line l ++ after) (ap (λ l. flat_map (submission_words g) subs ++ l) (sym (append-nil (submission_words g s)))
       ∙ sym (flat_map-append (submission_words g) subs (s ∷ [])))
-      )
 
   -- the front of a text whose header and scripts were read
   pub front_read : (ns : List ℕ) (callers : List (CallerOf S)) (start middle after : List ℕ) → AreSizes g ns

@@ -1,6 +1,5 @@
 -- A text that was read up to its last line, or up to its first fault.
-use Rattle.std.proofs.Common.{◌≡◌, ◌≢◌, ◌⊎◌, inl, inr, ℕ, ◌+◌, ◌-◌, ◌<◌, ◌≤◌, ◌^◌, ◌==◌, List, [], ◌∷◌, ◌++◌, length, take, refl, sym, ap, subst, ◌∙◌}
-use Rattle.std.proofs.Common.{length-append, arith}
+use Rattle.std.proofs.Common.{◌≡◌, ◌≢◌, ℕ, ◌+◌, ◌-◌, ◌<◌, ◌≤◌, ◌^◌, ◌==◌, List, [], ◌∷◌, ◌++◌, length, take, refl, sym, ap, subst, ◌∙◌, length-append, arith}
 use Rattle.std.specs.List.{count_by}
 use Rattle.std.proofs.lemmas.List.{append-nil}
 use Rattle.script_reader.specs.declared.words.TheConstants.{LINE_FEED}
@@ -10,9 +9,11 @@ use Rattle.script_reader.specs.Gathered.{CallerOf}
 use Rattle.script_reader.specs.Reading.{IsFaultBehind, IsFaultInFront, GoesOnBehind}
 use Rattle.script_reader.specs.ListLanguage.{ListLanguage, IsListLanguage, IsTextOf, IsText, judge}
 use Rattle.script_reader.specs.Inner.ListScripts.{HasTextInFront}
-use Rattle.script_reader.proofs.Texts.Counting.{Told, feeds}
+use Rattle.script_reader.proofs.Judged as judged
+use Rattle.script_reader.proofs.Judged.{Told, feeds}
 use Rattle.script_reader.proofs.Texts.Fronting.{take_front}
-use Rattle.script_reader.proofs.Listed.Feeds.{told, few_of_text}
+use Rattle.script_reader.proofs.Listed.Feeds.{few_lines, not_missing}
+use Rattle.script_reader.proofs.Listed.Telling.{whole}
 
 -- no bytes
 no_bytes : (left : List ℕ) → length left ≡ 0 → left ≡ []
@@ -20,17 +21,13 @@ no_bytes [] h = refl
 no_bytes (b ∷ left) h = absurd (omega (arith, h))
 
 module _ {O S : Type 0} (g : ListLanguage O S) where
-  -- the faulty line has this number
+  -- what is told of the faulty line, and its number
+  pub told : (text left : List ℕ) (why : Fault) → (h : IsFaultBehind (judge g) [] text left why) → Told text left why (length h.more)
+  told = judged.told (judge g) (few_lines g) (not_missing g)
+
   pub in_front : (text left : List ℕ) (why : Fault) → IsFaultBehind (judge g) [] text left why → (n number : ℕ) → n ≡ feeds text left
       → (why ≡ fault.End → number ≡ n + 1) → (why ≢ fault.End → number ≡ n) → IsFaultInFront (judge g) text number why
-  in_front text left why behind n number counted missing whole = record { left = left; faulty = behind; number_is = by what.either }
-    where
-      what : Told text left why (length behind.more)
-      what = told g text left why behind
-
-      by : (why ≡ fault.End) ⊎ (why ≢ fault.End) → number ≡ length behind.more + 1
-      by (inl e) = omega (arith, missing e, counted, what.missing e)
-      by (inr other) = omega (arith, whole other, counted, what.whole other)
+  in_front = judged.in_front (judge g) (few_lines g) (not_missing g)
 
   module _ (text left : List ℕ) (ns : List ℕ) (callers : List (CallerOf S)) (h : HasTextInFront g ns callers text left) where
     -- what stands in front of what is left
@@ -57,4 +54,5 @@ module _ {O S : Type 0} (g : ListLanguage O S) where
     }
 
     pub few_feeds : IsListLanguage g → feeds text left + 1 < 2 ^ 32
-    few_feeds lawful = subst (λ t. count_by (λ b. b == LINE_FEED) t + 1 < 2 ^ 32) (sym front_is) (few_of_text g lawful h.front ns callers h.spelled)
+    few_feeds lawful = subst (λ t. count_by (λ b. b == LINE_FEED) t + 1 < 2 ^ 32) (sym front_is)
+        (judged.few_of_text (judge g) (few_lines g) (not_missing g) h.front (whole g lawful h.front (ns, callers, h.spelled)))

@@ -1,31 +1,23 @@
 -- How many lines are read, and which of them is faulty.
-use Rattle.std.proofs.Common.{◌≡◌, ◌≢◌, inl, inr, ℕ, ◌+◌, ◌*◌, ◌<◌, ◌≤◌, ◌^◌, ◌==◌, Bool, true, false, not, ◌&&◌, ◌||◌, nat_le, cond, if◌then◌else◌, List}
-use Rattle.std.proofs.Common.{[], ◌∷◌, ◌++◌, codes, drop, length, Option, Some, None, refl, sym, ap, subst, ◌∙◌, append_assoc, length-append, true≢false, arith}
-use Rattle.std.specs.List.{flat_map, count_by}
+use Rattle.std.proofs.Common.{◌≡◌, ◌≢◌, ℕ, ◌+◌, ◌*◌, ◌<◌, ◌≤◌, ◌^◌, Bool, true, false, not, ◌&&◌, ◌||◌, nat_le, cond, if◌then◌else◌, List}
+use Rattle.std.proofs.Common.{[], ◌∷◌, ◌++◌, codes, drop, length, Some, None, refl, sym, ap, subst, ◌∙◌, append_assoc, length-append, true≢false, arith}
+use Rattle.std.specs.List.{count_by}
 use Rattle.std.specs.Option.{is_none}
 use Rattle.std.proofs.lemmas.Bool.{leb-false}
 use Rattle.std.proofs.lemmas.List.{append-nil}
 use Rattle.std.proofs.lemmas.List.Sums.{fold_push, sum_by-append, sum_by-cons}
 use Rattle.books_model.specs.declared.limits.TheConstants.{MOST_OPERATIONS}
 use Rattle.script_reader.specs.declared.limits.TheConstants.{MOST_SCRIPTS}
-use Rattle.script_reader.specs.declared.words.TheConstants.{LINE_FEED}
-use Rattle.script_reader.specs.declared.fault.Fault.{Fault}
 use Rattle.script_reader.specs.declared.fault.Fault.TheVariants as fault
 use Rattle.script_reader.specs.Lines.{word_at}
-use Rattle.script_reader.specs.Text.{line, finish_line}
 use Rattle.script_reader.specs.Forms.{Words, Form, begins, is_only, form_of, ranges_of, is_script_line, are_numbers, are_in_range}
 use Rattle.script_reader.specs.Faults.{is_beyond}
-use Rattle.script_reader.specs.Gathered.{CallerOf}
-use Rattle.script_reader.specs.Reading.{HaveNoFault, BeginsFaulty, IsFaultBehind}
-use Rattle.script_reader.specs.ListLanguage.{ListLanguage, LinePlace, BetweenScripts, WithinScript, IsListLanguage, IsTextOf, place_after}
+use Rattle.script_reader.specs.Reading.{HaveNoFault}
+use Rattle.script_reader.specs.ListLanguage.{ListLanguage, LinePlace, BetweenScripts, WithinScript, place_after}
 use Rattle.script_reader.specs.ListLanguage.{place_behind, script_line_fault, operation_fault, sizes_at, judge, is_head, size_words, size_ranges}
-use Rattle.script_reader.specs.ListLanguage.{lines_of}
 use Rattle.script_reader.proofs.Conditions.{both, neither, passed}
 use Rattle.script_reader.proofs.LineFaults.LineKinds.{none_applies}
-use Rattle.script_reader.proofs.Texts.Fronting.{take_front}
-use Rattle.script_reader.proofs.Texts.Counting.{Told, feeds}
-use Rattle.script_reader.proofs.Judging.{count_line, count_lines, finish_words}
-use Rattle.script_reader.proofs.Listed.Telling.{spelled_faultless}
+use Rattle.script_reader.proofs.Judged.{other, no_more}
 
 -- the most lines of a script, with the line that begins it and the one that ends it
 abbrev most_script_lines : ℕ
@@ -112,14 +104,6 @@ few_at : (scripts lines : ℕ) (place : LinePlace) → AreFew scripts lines plac
 few_at scripts lines BetweenScripts few most = omega (arith, few, most)
 few_at scripts lines (WithinScript count) few most = omega (arith, few.0, few.1, most)
 
--- another reason comes before those that follow
-other : (c : Bool) (why : Fault) (rest : Option Fault) → why ≢ fault.End → rest ≢ Some fault.End → (if c then Some why else rest) ≢ Some fault.End
-other true why rest differs none = λ e. differs cc
-other false why rest differs none = none
-
-no_more : None ≢ Some fault.End
-no_more = λ e. cc
-
 module _ {O S : Type 0} (g : ListLanguage O S) where
   more_lines : (header scripts : Words) (lines more : List Words) → IsFewAt lines → HaveNoFault (judge g) (header ∷ scripts ∷ lines) more
       → IsFewAt (lines ++ more)
@@ -129,7 +113,7 @@ module _ {O S : Type 0} (g : ListLanguage O S) where
       (more_lines header scripts (lines ++ w ∷ []) more (one_more (g.forms (sizes_at header)) lines w at f.1 f.2) f.3)
 
   -- lines without fault are few
-  few_lines : (lines : List Words) → HaveNoFault (judge g) [] lines → length lines ≤ most_lines
+  pub few_lines : (lines : List Words) → HaveNoFault (judge g) [] lines → length lines + 2 < 2 ^ 32
   few_lines [] f = omega arith
   few_lines (header ∷ []) f = omega arith
   few_lines (header ∷ scripts ∷ more) f =
@@ -137,7 +121,7 @@ module _ {O S : Type 0} (g : ListLanguage O S) where
       omega (arith, few_at at.scripts (length more) (place_behind more) at.few at.most)
 
   -- a line that is there is not missing
-  not_missing : (before : List Words) (words : Words) → judge g before words ≢ Some fault.End
+  pub not_missing : (before : List Words) (words : Words) → judge g before words ≢ Some fault.End
   not_missing [] words =
       other (not (is_head g words)) fault.Header _ (λ e. cc) (other (not (are_numbers (size_words words))) fault.Number _ (λ e. cc)
       (other (not (are_in_range (size_words words) (size_ranges g))) fault.Limit _ (λ e. cc) no_more))
@@ -158,54 +142,3 @@ module _ {O S : Type 0} (g : ListLanguage O S) where
       by BetweenScripts = other (not (is_only (codes "finish") words || is_script_line words)) fault.Word _ (λ e. cc)
           (other (is_script_line words && is_beyond lines (word_at words 1)) fault.Limit _ (λ e. cc) no_more)
       by (WithinScript count) = inside (is_only (codes "end") words) count
-
-  -- what the line feeds of what was read tell of the faulty line
-  pub told : (text left : List ℕ) (why : Fault) → (h : IsFaultBehind (judge g) [] text left why) → Told text left why (length h.more)
-  told text left why h = by h.here
-    where
-      few : length h.more ≤ most_lines
-      few = few_lines h.more h.faultless
-
-      lines : List ℕ
-      lines = flat_map line h.more
-
-      by : BeginsFaulty (judge g) h.more h.rest left why → Told text left why (length h.more)
-      by (inl (words, are, is, faulty)) =
-          let e : text ≡ (lines ++ line words) ++ left = h.text_is ∙ ap (λ l. lines ++ l) is ∙ sym (append_assoc lines (line words) left) in
-          let counted : feeds text left ≡ length h.more + 1 =
-          ap (count_by (λ b. b == LINE_FEED)) (take_front text (lines ++ line words) left _ e refl)
-          ∙ sum_by-append (λ b. if b == LINE_FEED then 1 else 0) lines (line words)
-          ∙ (λ i. count_lines (judge g) [] h.more h.faultless i + count_line words are i) in
-          record {
-            shorter = omega (arith, ap length e, length-append (lines ++ line words) left);
-            few = omega (arith, counted, few);
-            either = inr (λ is_end. not_missing h.more words (faulty ∙ ap Some is_end));
-            missing = λ is_end. absurd (not_missing h.more words (faulty ∙ ap Some is_end));
-            whole = λ other. counted;
-          }
-      by (inr (free, same, is_end)) =
-          let e : text ≡ lines ++ left = h.text_is ∙ ap (λ l. lines ++ l) (sym same) in
-          let counted : feeds text left ≡ length h.more =
-          ap (count_by (λ b. b == LINE_FEED)) (take_front text lines left _ e refl) ∙ count_lines (judge g) [] h.more h.faultless in
-          record {
-            shorter = omega (arith, ap length e, length-append lines left);
-            few = omega (arith, counted, few);
-            either = inl is_end;
-            missing = λ is_end. counted;
-            whole = λ other. absurd (other is_end);
-          }
-
-  -- a text has few line feeds
-  pub few_of_text : (lawful : IsListLanguage g) (text : List ℕ) (ns : List ℕ) (callers : List (CallerOf S)) → IsTextOf g text ns callers
-      → count_by (λ b. b == LINE_FEED) text + 1 < 2 ^ 32
-  few_of_text lawful text ns callers h =
-      let lines = lines_of g ns h.submissions in
-      let fine = spelled_faultless g lawful text ns callers h in
-      omega (
-        arith,
-        ap (count_by (λ b. b == LINE_FEED)) h.text,
-        sum_by-append (λ b. if b == LINE_FEED then 1 else 0) (flat_map line lines) finish_line,
-        count_lines (judge g) [] lines fine,
-        count_line (codes "finish" ∷ []) finish_words,
-        few_lines lines fine,
-      )

@@ -1,19 +1,21 @@
 -- Numbers in their ranges, and the words of a header.
-use Rattle.std.proofs.Common.{◌≡◌, ℕ, Bool, true, false, not, ◌&&◌, nat_le, List, [], ◌∷◌, codes, map, length, slice_index_or, None, refl, ap, ◌∙◌, arith}
+use Rattle.std.proofs.Common.{◌≡◌, ℕ, ◌<◌, ◌≤◌, ◌^◌, Bool, true, false, not, ◌&&◌, nat_le, List, [], ◌∷◌, codes, map, length}
+use Rattle.std.proofs.Common.{slice_index_or, None, refl, ap, ◌∙◌, arith}
 use Rattle.std.specs.List.{list_all, AllByRecursion}
-use Rattle.std.proofs.lemmas.Bool.{le-leb, ne_eqb}
+use Rattle.std.proofs.lemmas.Bool.{le-leb, leb-true, ne_eqb}
 use Rattle.std.proofs.lemmas.Slice.Eq.{bytes_eq-Decides}
 use Rattle.std.specs.Str.{bytes_eq}
+use Rattle.books_model.specs.Ranges.{IsWithin}
 use Rattle.script_reader.specs.declared.fault.Fault.TheVariants as fault
 use Rattle.script_reader.specs.Lines.{IsWord, AreWords}
 use Rattle.script_reader.specs.Text.{number}
-use Rattle.script_reader.specs.Forms.{is_only, begins, value_of, are_numbers, are_in_range}
+use Rattle.script_reader.specs.Forms.{Words, is_only, begins, value_of, are_numbers, are_in_range}
 use Rattle.script_reader.specs.Faults.{first_reason}
 use Rattle.script_reader.specs.ListLanguage.{is_word, Size, ListLanguage, AreNumbersIn, AreSizes, IsListLanguage, size_pairs, have_names, seconds}
 use Rattle.script_reader.specs.ListLanguage.{size_words, size_ranges, sizes_at, is_head, head_words, head_fault}
 use Rattle.script_reader.proofs.Conditions.{and_true, both}
 use Rattle.script_reader.proofs.Tokens.Cutting.{word_from_test}
-use Rattle.script_reader.proofs.Tokens.Numerals.{value_of_number, number-IsNumber, number-IsWord}
+use Rattle.script_reader.proofs.Tokens.Numerals.{text_of_number, value_of_number, number-IsNumber, number-IsWord}
 
 -- the texts of numbers are numbers
 pub texts_are_numbers : (ranges : List (ℕ × ℕ)) (ns : List ℕ) → AreNumbersIn ranges ns → are_numbers (map number ns) ≡ true
@@ -44,6 +46,30 @@ values_are [] [] h = refl
 values_are [] (n ∷ ns) h = absurd h
 values_are (r ∷ ranges) [] h = absurd h
 values_are (r ∷ ranges) (n ∷ ns) h = λ i. value_of_number n h.2 i ∷ values_are ranges ns h.3 i
+
+-- words that are numbers in ranges of 64 bits
+pub numbers_at : (ranges : List (ℕ × ℕ)) (ws : Words) → length ws ≡ length ranges → AllByRecursion (λ r. r.1 < 2 ^ 64) ranges → are_numbers ws ≡ true
+    → are_in_range ws ranges ≡ true → AreNumbersIn ranges (map value_of ws) × (ws ≡ map number (map value_of ws))
+numbers_at [] [] long bits numbers within = (tt, refl)
+numbers_at [] (w ∷ ws) long bits numbers within = absurd (omega (arith, long))
+numbers_at (r ∷ ranges) [] long bits numbers within = absurd (omega (arith, long))
+numbers_at (r ∷ ranges) (w ∷ ws) long bits numbers within =
+    let is = both numbers in
+    let here = both within in
+    let ends = both here.0 in
+    let least : r.0 ≤ value_of w = leb-true r.0 (value_of w) ends.0 in
+    let most : value_of w ≤ r.1 = leb-true (value_of w) r.1 ends.1 in
+    let small : value_of w < 2 ^ 64 = omega (arith, most, bits.0) in
+    let rest = numbers_at ranges ws (omega (arith, long)) bits.1 is.1 here.1 in
+    ((least, most, small, rest.0), (λ i. text_of_number w is.0 small i ∷ rest.1 i))
+
+-- two numbers in their ranges, and three
+pub both_in : (r s : ℕ × ℕ) {a b : ℕ} → IsWithin r.0 r.1 a × IsWithin s.0 s.1 b → r.1 < 2 ^ 64 → s.1 < 2 ^ 64 → AreNumbersIn (r ∷ s ∷ []) (a ∷ b ∷ [])
+both_in r s h f g = (h.0.0, h.0.1, omega (arith, h.0.1, f), (h.1.0, h.1.1, omega (arith, h.1.1, g), tt))
+
+pub three_in : (r s t : ℕ × ℕ) {a b c : ℕ} → IsWithin r.0 r.1 a × IsWithin s.0 s.1 b × IsWithin t.0 t.1 c
+    → r.1 < 2 ^ 64 → s.1 < 2 ^ 64 → t.1 < 2 ^ 64 → AreNumbersIn (r ∷ s ∷ t ∷ []) (a ∷ b ∷ c ∷ [])
+three_in r s t h f g k = (h.0.0, h.0.1, omega (arith, h.0.1, f), both_in s t (h.1, h.2) g k)
 
 -- they are those at their places
 pub one_number : (r : ℕ × ℕ) (ns : List ℕ) → AreNumbersIn (r ∷ []) ns → slice_index_or ns 0 0 ∷ [] ≡ ns

@@ -1,57 +1,40 @@
 -- Lines without fault are those of a text, as far as they go, so bytes are a text or have a first fault.
-use Rattle.std.proofs.Common.{◌≡◌, ◌≢◌, ◌⊎◌, inl, inr, ℕ, suc, zero, ◌+◌, ◌-◌, ◌<◌, ◌≤◌, ◌^◌, Bool, true, false, not, ◌&&◌, ◌||◌, ◌==◌}
-use Rattle.std.proofs.Common.{List, [], ◌∷◌, ◌++◌, codes, map, drop, take, length, Option, Some, None, All, cond, refl, sym, ap, subst, ◌∙◌, append_assoc}
+use Rattle.std.proofs.Common.{◌≡◌, ◌≢◌, ◌⊎◌, inl, inr, ℕ, ◌<◌, ◌≤◌, Bool, true, false}
+use Rattle.std.proofs.Common.{List, [], ◌∷◌, ◌++◌, codes, map, drop, length, Some, None, All, cond, refl, sym, ap, subst, ◌∙◌, append_assoc}
 use Rattle.std.proofs.Common.{length-append, true≢false, arith}
-use Rattle.std.specs.List.{AllByRecursion, count_by, flat_map, join_with_byte, position, slice_split}
+use Rattle.std.specs.List.{AllByRecursion, flat_map}
 use Rattle.std.specs.Option.{is_none}
 use Rattle.std.specs.Str.{bytes_eq}
-use Rattle.std.proofs.lemmas.Bool.{leb-false, leb-true}
+use Rattle.std.proofs.lemmas.Bool.{leb-false}
 use Rattle.std.proofs.lemmas.List.{append-nil}
 use Rattle.std.proofs.lemmas.List.Concat.{flat_map-append}
 use Rattle.std.proofs.lemmas.List.Elements.{All-push}
 use Rattle.std.proofs.lemmas.Slice.Eq.{bytes_eq-Decides}
 use Rattle.books_model.specs.declared.limits.TheConstants.{MOST_OPERATIONS}
 use Rattle.script_reader.specs.declared.limits.TheConstants.{MOST_CALLERS, MOST_SCRIPTS}
-use Rattle.script_reader.specs.declared.words.TheConstants.{SPACE, LINE_FEED}
-use Rattle.script_reader.specs.declared.fault.Fault.{Fault}
 use Rattle.script_reader.specs.declared.fault.Fault.TheVariants as fault
-use Rattle.script_reader.specs.Lines.{AreWords, word_at}
+use Rattle.script_reader.specs.Lines.{word_at}
 use Rattle.script_reader.specs.Text.{line, number, finish_line}
-use Rattle.script_reader.specs.Input.{IsName, is_name}
-use Rattle.script_reader.specs.Forms.{Words, Form, form_of, has_form, is_only, is_script_line, ranges_of, value_of, are_numbers, are_in_range}
+use Rattle.script_reader.specs.Input.{IsName}
+use Rattle.script_reader.specs.Forms.{Words, Form, form_of, has_form, is_only, ranges_of, value_of, are_in_range}
 use Rattle.script_reader.specs.Gathered.{SubmissionOf, AreCallers, callers_of, count_scripts}
 use Rattle.script_reader.specs.Reading.{HaveNoFault}
 use Rattle.script_reader.specs.ListLanguage.{ListLanguage, Size, AreNumbersIn, AreSizes, IsFormOfOperations, IsListLanguage, IsOperationIn, IsScriptIn, IsText}
-use Rattle.script_reader.specs.ListLanguage.{IsTextOf, operation_fault, operation_words, submission_words, lines_of, head_words, head_fault, size_pairs, have_names}
-use Rattle.script_reader.specs.ListLanguage.{seconds, size_words, size_ranges, judge}
+use Rattle.script_reader.specs.ListLanguage.{IsTextOf, operation_fault, operation_words, submission_words, lines_of, head_words}
+use Rattle.script_reader.specs.ListLanguage.{head_fault, size_pairs, have_names, seconds, size_words, size_ranges, judge}
 use Rattle.script_reader.specs.Statements.{HasFaultIn}
-use Rattle.script_reader.specs.Inner.Gatherings.{is_beyond_in, is_caller}
+use Rattle.script_reader.specs.Inner.Gatherings.{is_caller}
 use Rattle.script_reader.specs.Inner.ListScripts.{lines_within}
-use Rattle.script_reader.proofs.Conditions.{both, passed, neither}
-use Rattle.script_reader.proofs.Judging.{faultless_append, some_none}
-use Rattle.script_reader.proofs.LineFaults.LineKinds.{behind_keyword, none_applies, one_behind, only_word}
-use Rattle.script_reader.proofs.Tokens.Cutting.{found_at, found_none, taken}
-use Rattle.script_reader.proofs.Tokens.Numerals.{text_of_number}
+use Rattle.script_reader.proofs.Conditions.{both, passed}
+use Rattle.script_reader.proofs.Judging.{some_none}
+use Rattle.script_reader.proofs.LineFaults.LineKinds.{behind_keyword, none_applies, only_word}
+use Rattle.script_reader.proofs.Judged as judged
+use Rattle.script_reader.proofs.Listed.Numbers.{numbers_at}
 use Rattle.script_reader.proofs.Grouped.Grouping.{callers_of-push, no-names}
 use Rattle.script_reader.proofs.Listed.Standing.{outside_is, within_is, within_more, operation_goes_on}
+use Rattle.script_reader.proofs.Grouped.Outside.{begins_script}
 use Rattle.script_reader.proofs.Grouped.Submitting.{callers_more}
 use Rattle.script_reader.proofs.Listed.Telling.{not_both}
-
--- words that are numbers in ranges of 64 bits
-numbers_at : (ranges : List (ℕ × ℕ)) (ws : Words) → length ws ≡ length ranges → AllByRecursion (λ r. r.1 < 2 ^ 64) ranges → are_numbers ws ≡ true
-    → are_in_range ws ranges ≡ true → AreNumbersIn ranges (map value_of ws) × (ws ≡ map number (map value_of ws))
-numbers_at [] [] long bits numbers within = (tt, refl)
-numbers_at [] (w ∷ ws) long bits numbers within = absurd (omega (arith, long))
-numbers_at (r ∷ ranges) [] long bits numbers within = absurd (omega (arith, long))
-numbers_at (r ∷ ranges) (w ∷ ws) long bits numbers within =
-    let is = both numbers in
-    let here = both within in
-    let ends = both here.0 in
-    let least : r.0 ≤ value_of w = leb-true r.0 (value_of w) ends.0 in
-    let most : value_of w ≤ r.1 = leb-true (value_of w) r.1 ends.1 in
-    let small : value_of w < 2 ^ 64 = omega (arith, most, bits.0) in
-    let rest = numbers_at ranges ws (omega (arith, long)) bits.1 is.1 here.1 in
-    ((least, most, small, rest.0), (λ i. text_of_number w is.0 small i ∷ rest.1 i))
 
 -- the words of a header that are pairs of names and numbers
 pairs_at : (sizes : List Size) (ws : Words) (ns : List ℕ) → have_names sizes ws ≡ true → seconds ws ≡ map number ns
@@ -87,11 +70,6 @@ form_found P (f ∷ forms) words all h = by (has_form words f) refl h (form_foun
     by true e g rest = (f, ap (λ b. cond b (Some f) (form_of forms words)) e, all.0, e)
     by false e g rest =
         let found = rest g in (found.0, ap (λ b. cond b (Some f) (form_of forms words)) e ∙ found.1, found.2, found.3)
-
--- a list is empty or not
-empty_or_not : {A : Type 0} (xs : List A) → (xs ≡ []) ⊎ (xs ≢ [])
-empty_or_not [] = inl refl
-empty_or_not (x ∷ xs) = inr (λ e. cc)
 
 module _ {O S : Type 0} (g : ListLanguage O S) where
   -- scripts of a text with these sizes, which have ended
@@ -174,38 +152,21 @@ module _ {O S : Type 0} (g : ListLanguage O S) (lawful : IsListLanguage g) where
       → is_only (codes "finish") words ≡ false → IsReached g (lines ++ words ∷ [])
   outside_step lines words r none more =
       let at = sym (ap (λ l. judge g l words) r.lines_are ∙ outside_is g lawful r.sizes r.subs words) ∙ none in
-      let n1 = none_applies _ fault.Word _ at in
-      let n2 = none_applies _ fault.Limit _ n1.1 in
-      let begins_script : is_script_line words ≡ true = other (passed n1.0) more in
-      let form = both begins_script in
-      let name = one_behind (codes "script") words form.0 in
-      let named : IsName name.0 = subst (λ w. is_name (word_at w 1) ≡ true) name.1 form.1 in
-      let beyond : is_beyond_in (callers_of r.subs) name.0 ≡ false =
-      subst (λ w. is_beyond_in (callers_of r.subs) (word_at w 1) ≡ false) name.1
-      (sym (ap (λ c. c && is_beyond_in (callers_of r.subs) (word_at words 1)) begins_script) ∙ n2.0) in
-      let limits = neither beyond in
+      let begun = begins_script (callers_of r.subs) words at more in
       WithinScript (record {
         sizes = r.sizes;
         subs = r.subs;
-        name = name.0;
+        name = begun.name;
         ops = [];
         sized = r.sized;
         valid = r.valid;
-        named = named;
+        named = begun.named;
         few = omega arith;
         each = λ k d less. absurd (omega arith);
-        room = leb-false MOST_SCRIPTS _ limits.0;
-        space = λ new. leb-false MOST_CALLERS _ (right new limits.1);
-        lines_are = λ i. r.lines_are i ++ name.1 i ∷ [];
+        room = begun.room;
+        space = begun.space;
+        lines_are = λ i. r.lines_are i ++ begun.words_are i ∷ [];
       })
-    where
-      other : {a c : Bool} → (a || c) ≡ true → a ≡ false → c ≡ true
-      other {a = true} h e = absurd (true≢false e)
-      other {a = false} h e = h
-
-      right : {a c : Bool} → a ≡ false → (not a && c) ≡ false → c ≡ false
-      right {a = true} e h = absurd (true≢false e)
-      right {a = false} e h = h
 
   -- a line with no fault behind so many operations is that of an operation, for which there is room
   operation_at : (sizes : List ℕ) → AreSizes g sizes → (count : ℕ) (words : Words) → operation_fault (g.forms sizes) count words ≡ None
@@ -331,81 +292,9 @@ module _ {O S : Type 0} (g : ListLanguage O S) (lawful : IsListLanguage g) where
     valid = r.valid;
   }
 
-  -- reads on behind lines without fault
-  read_on : (fuel : ℕ) (text : List ℕ) (before : List Words) (left : List ℕ) → length left < fuel → HaveNoFault (judge g) [] before
-      → text ≡ flat_map line before ++ left → IsText g text ⊎ HasFaultIn g text
-  read_on zero text before left enough f e = absurd (omega (arith, enough))
-  read_on (suc fuel) text before left enough f e =
-      by (position (λ b. b == LINE_FEED) left) refl (λ words after are is more fine. read_on fuel text (before ++ words ∷ []) after (shorter words after is)
-      (faultless_append (judge g) [] before (words ∷ []) f (are, fine, more, tt))
-      (e ∙ ap (λ l. flat_map line before ++ l) is ∙ sym (append_assoc (flat_map line before) (line words) after)
-      ∙ ap (λ l. l ++ after) (ap (λ l. flat_map line before ++ l) (sym (append-nil (line words))) ∙ sym (flat_map-append line before (words ∷ [])))))
-    where
-      shorter : (words : Words) (after : List ℕ) → left ≡ line words ++ after → length after < fuel
-      shorter words after is = omega (arith, enough, ap length is, length-append (line words) after, length-append (join_with_byte SPACE words) (LINE_FEED ∷ []))
-
-      whole : (words : Words) (after : List ℕ) → AreWords words → left ≡ line words ++ after
-          → ((more : is_only (codes "finish") words ≡ false) → judge g before words ≡ None → IsText g text ⊎ HasFaultIn g text)
-          → (o : Option Fault) → judge g before words ≡ o → (last : Bool) → is_only (codes "finish") words ≡ last → IsText g text ⊎ HasFaultIn g text
-      whole words after are is on (Some why) faulty last ends = inr (
-        length before + 1,
-        why,
-        inl (record {
-          left = after;
-          faulty = record { more = before; rest = left; faultless = f; text_is = e; here = inl (words, are, is, faulty) };
-          number_is = refl;
-        }),
-      )
-      whole words after are is on None fine false ends = on ends fine
-      whole words after are is on None fine true ends =
-          let last : words ≡ codes "finish" ∷ [] = only_word (codes "finish") words ends in
-          let r : Between g before = at_finish before (reach_all [] before (AtStart refl) f) (sym (ap (judge g before) last) ∙ fine) in
-          let front : List ℕ = flat_map line before ++ finish_line in
-          let text_is : text ≡ front ++ after = e
-          ∙ ap (λ l. flat_map line before ++ l) (is ∙ ap (λ w. line w ++ after) last) ∙ sym (append_assoc (flat_map line before) finish_line after) in
-          elim (empty_or_not after) [
-            | inl none ↦ inl (
-              r.sizes,
-              callers_of r.subs,
-              subst (λ t. IsTextOf g t r.sizes (callers_of r.subs)) (sym (text_is ∙ ap (λ l. front ++ l) none ∙ append-nil front)) (spells before r),
-            )
-            | inr some ↦ inr (
-              count_by (λ b. b == LINE_FEED) front + 1,
-              fault.End,
-              inr (record {
-                front = front;
-                rest = after;
-                text_is = text_is;
-                spelled = (r.sizes, callers_of r.subs, spells before r);
-                some = some;
-                number_is = refl;
-                why_is = refl;
-              }),
-            )
-          ]
-
-      by : (o : Option ℕ) → position (λ b. b == LINE_FEED) left ≡ o
-          → ((words : Words) (after : List ℕ) → AreWords words → left ≡ line words ++ after
-          → is_only (codes "finish") words ≡ false → judge g before words ≡ None → IsText g text ⊎ HasFaultIn g text)
-          → IsText g text ⊎ HasFaultIn g text
-      by None none on = inr (
-        length before + 1,
-        fault.End,
-        inl (record {
-          left = left;
-          faulty = record { more = before; rest = left; faultless = f; text_is = e; here = inr (found_none LINE_FEED left none, refl, refl) };
-          number_is = refl;
-        }),
-      )
-      by (Some i) at on =
-          let found = found_at LINE_FEED left i at in
-          let after : List ℕ = take (length (drop i left) - 1) (drop 1 (drop i left)) in
-          let words : Words = slice_split (λ b. b == SPACE) (take i left) in
-          let line_is = taken left (take i left) after words (found.2, found.1) refl in
-          whole words after line_is.0 line_is.1 (on words after line_is.0 line_is.1) (judge g before words) refl (is_only (codes "finish") words) refl
-
   pub either : (text : List ℕ) → IsText g text ⊎ HasFaultIn g text
-  either text = read_on (length text + 1) text [] text (omega arith) tt refl
+  either = judged.either (judge g) (IsText g) (λ lines f ends.
+      let r = at_finish lines (reach_all [] lines (AtStart refl) f) ends in (r.sizes, callers_of r.subs, spells lines r))
 
   pub never_both : (text : List ℕ) → IsText g text → HasFaultIn g text → ⊥
   never_both text is (number, why, fault) = not_both g lawful text is.0 is.1 number why is.2 fault

@@ -47,6 +47,20 @@ pub record IsSmall (p : Printed) : Type 0 where
   pub prices : AllByRecursion (λ e. e.0 < 2 ^ 64) p.prices
   pub positions : AllByRecursion (λ e. (e.0.0 < 2 ^ 64) × (e.0.1 < 2 ^ 64)) p.positions
 
+-- the reasons against a line of books, in their order
+abbrev pub reasons : Bool → Bool → Bool → Bool → Bool → Bool → Bool → Bool → Option Fault
+reasons word late number limit low account price full = first_reason (
+    (word, fault.Word)
+    ∷ (late, fault.Order)
+    ∷ (number, fault.Number)
+    ∷ (limit, fault.Limit)
+    ∷ (low, fault.Order)
+    ∷ (account, fault.Account)
+    ∷ (price, fault.Price)
+    ∷ (full, fault.Blocks)
+    ∷ []
+    )
+
 -- some line behind the header passes
 pub any_entry : (t : Words → Bool) (p : Printed) → list_any t (entries_of p)
     ≡ (list_any (λ e. t (account_words e)) p.accounts ||

@@ -24,8 +24,8 @@ use Rattle.script_reader.specs.Inner.Branches.{branch_with, closing_word}
 use Rattle.script_reader.specs.Rows.{row_fault}
 use Rattle.script_reader.specs.Forms.{Words, Form, Region, InScript, form, has_form, operation_forms, turning_forms, form_of, is_only, ranges_of}
 use Rattle.script_reader.specs.Forms.{are_numbers, are_in_range}
-use Rattle.script_reader.specs.Faults.{AreFaultless, IsFaultyBehind, fault_of, first_reason, is_too_many}
-use Rattle.script_reader.proofs.Printing.Scripted.{inside_at, inside_fault_is}
+use Rattle.script_reader.specs.Faults.{AreFaultless, IsFaultyBehind, inside_fault, fault_of, first_reason, is_too_many}
+use Rattle.script_reader.proofs.Printing.Scripted.{inside_fault_is}
 use Rattle.script_reader.proofs.Printing.Opened.{inside_more, rest_of_branch, first_count, second_count, words_try, words_else}
 use Rattle.script_reader.proofs.WithoutFault.NoFault.{operation_fault, try_fault}
 use Rattle.script_reader.proofs.WithoutFault.BooksFaultless.{printed, printed_small, instruments_fit}
@@ -61,7 +61,7 @@ forms_behind (f ∷ forms) others words none = ap (λ o. cond (has_form words f)
 -- what is wrong with a line as with an operation is wrong with it wherever it is no other line
 pub wrong_in : (version : Version) (region : Region) (instruments count alternatives : ℕ) (words : Words) (why : Fault)
     → form_of (turning_forms region) words ≡ None
-    → row_fault (operation_forms version instruments) words ≡ Some why → inside_at version region instruments count alternatives words ≡ Some why
+    → row_fault (operation_forms version instruments) words ≡ Some why → inside_fault version region instruments count alternatives words ≡ Some why
 wrong_in version region instruments count alternatives words why none h =
     (λ i. let form = forms_behind (operation_forms version instruments) (turning_forms region) words none i in
     first_reason (
@@ -109,7 +109,7 @@ module _ (version : Version) (b : ClearingBooks) (range : AreInRange b) (which :
       → fault_of (lines_inside version b subs name parts (branch_with which first ops)) words ≡ Some fault.Limit
   branch_limit words o fits is full =
       inside_fault_is (printed version b) subs name parts (branch_with which first ops) words (printed_small b range version)
-      ∙ ap (inside_at version (region_of (branch_with which first ops)) b.instruments _ _) is
+      ∙ ap (inside_fault version (region_of (branch_with which first ops)) b.instruments _ _) is
       ∙ operation_fault version b (instruments_fit b range) (region_of (branch_with which first ops))
       (length (operations_of (parts_with parts (branch_with which first ops)))) _ true
       (le-leb MOST_OPERATIONS _ (omega (arith, full, branch_count parts which first ops))) o fits
@@ -165,7 +165,7 @@ module _ (version : Version) (b : ClearingBooks) (range : AreInRange b) (subs : 
       → fault_of (lines_inside version b subs name script BetweenParts) words ≡ Some fault.Limit
   try_limit script words tries full =
       inside_fault_is (printed version b) subs name script BetweenParts words (printed_small b range version)
-      ∙ ap (inside_at version InScript b.instruments (length (operations_of script)) (sum_by alternatives_in script)) (only_word (codes "try") words tries)
+      ∙ ap (inside_fault version InScript b.instruments (length (operations_of script)) (sum_by alternatives_in script)) (only_word (codes "try") words tries)
       ∙ try_fault version b.instruments (length (operations_of script)) (sum_by alternatives_in script) true
       (le-leb MOST_ALTERNATIVES (sum_by alternatives_in script) full)
 
@@ -182,7 +182,7 @@ module _ (version : Version) (b : ClearingBooks) (range : AreInRange b) (subs : 
       → fault_of (lines_inside version b subs name script BetweenParts) words ≡ Some fault.Limit
   part_limit script words o fits is full =
       inside_fault_is (printed version b) subs name script BetweenParts words (printed_small b range version)
-      ∙ ap (inside_at version InScript b.instruments (length (operations_of script)) (sum_by alternatives_in script)) is
+      ∙ ap (inside_fault version InScript b.instruments (length (operations_of script)) (sum_by alternatives_in script)) is
       ∙ operation_fault version b (instruments_fit b range) InScript (length (operations_of script)) _ true (le-leb MOST_OPERATIONS _ full) o fits
 
 -- the text of a script with one more part

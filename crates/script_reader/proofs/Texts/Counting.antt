@@ -1,12 +1,12 @@
 -- How many lines are read, and which of them is faulty.
-use Rattle.std.proofs.Common.{◌≡◌, ◌≢◌, ◌⊎◌, inl, inr, ℕ, ◌+◌, ◌-◌, ◌*◌, ◌<◌, ◌≤◌, ◌^◌, ◌==◌, Bool, true, false, not, ◌&&◌, ◌||◌, nat_le, if◌then◌else◌, List}
-use Rattle.std.proofs.Common.{[], ◌∷◌, ◌++◌, codes, map, take, drop, length, sum_by, Option, Some, None, refl, sym, ap, ◌∙◌, append_assoc, length-append, arith}
-use Rattle.std.specs.List.{flat_map, list_any, count_by, AllByRecursion}
+use Rattle.std.proofs.Common.{◌≡◌, ◌≢◌, ℕ, ◌+◌, ◌*◌, ◌<◌, ◌≤◌, ◌^◌, ◌==◌, Bool, not, ◌&&◌, ◌||◌, nat_le, List}
+use Rattle.std.proofs.Common.{[], ◌∷◌, ◌++◌, codes, map, drop, length, sum_by, Some, refl, ap, length-append, arith}
+use Rattle.std.specs.List.{flat_map, count_by, AllByRecursion}
 use Rattle.std.specs.FinMap as finmap
 use Rattle.std.specs.FinMap.{len-entries}
 use Rattle.std.proofs.lemmas.List.{length-map}
 use Rattle.std.proofs.lemmas.List.Concat.{flat_map-append}
-use Rattle.std.proofs.lemmas.List.Sums.{sum_by-append, sum_by-cons}
+use Rattle.std.proofs.lemmas.List.Sums.{sum_by-cons}
 use Rattle.books_model.specs.declared.limits.TheConstants.{MOST_ALTERNATIVES, MOST_BLOCKS, MOST_OPERATIONS, MOST_RING}
 use Rattle.script_reader.specs.declared.limits.TheConstants.{MOST_SCRIPTS}
 use Rattle.books_model.specs.declared.script.Part.{Part}
@@ -17,25 +17,24 @@ use Rattle.books_model.specs.Ranges.{AreInRange}
 use Rattle.script_reader.specs.declared.words.TheConstants.{LINE_FEED}
 use Rattle.script_reader.specs.declared.fault.Fault.{Fault}
 use Rattle.script_reader.specs.declared.fault.Fault.TheVariants as fault
-use Rattle.script_reader.specs.Text.{line, finish_line, account_words, price_words, position_words, call_words, operation_words, part_words}
+use Rattle.script_reader.specs.Text.{account_words, price_words, position_words, call_words, operation_words, part_words}
 use Rattle.script_reader.specs.Inner.LinesAsWords.{Open, BetweenParts, InFirst, InSecond, open_words, parts_with, script_words, books_words}
 use Rattle.script_reader.specs.Inner.LinesAsWords.{submission_words, lines_so_far}
 use Rattle.script_reader.specs.Input.{ClearingInput, Submission, callers_of}
 use Rattle.script_reader.specs.Grammar.{Spells}
-use Rattle.script_reader.specs.Forms.{Words, Region, OutsideScripts, InScript, InFirstBranch, InSecondBranch, is_only, begins, value_at, are_numbers}
-use Rattle.script_reader.specs.Forms.{are_in_range, ranges_of, form_of, books_forms}
-use Rattle.script_reader.specs.Faults.{StartsFaulty, IsFaultyBehind, fault_of, books_fault, inside_fault, outside_fault, scripts_fault, region_behind}
-use Rattle.script_reader.specs.Faults.{is_late, is_low, is_given}
+use Rattle.script_reader.specs.Forms.{Words, Region, begins, value_at, are_numbers, are_in_range, ranges_of, form_of, books_forms}
+use Rattle.script_reader.specs.Faults.{AreFaultless, IsFaultyBehind, IsFrontFault, fault_of, books_fault, inside_fault}
+use Rattle.script_reader.specs.Faults.{outside_fault, place_fault, place_behind, Place, AmongBooks, OutsideScripts, Inside, is_late, is_low, is_given}
 use Rattle.script_reader.specs.Faults.{takes_block, size_at, version_at}
 use Rattle.script_reader.proofs.Grouped.Submitting.{IsGoodScript, scripts_are_good}
 use Rattle.script_reader.proofs.Printing.Scripted.{opened}
 use Rattle.script_reader.proofs.Texts.Reaching.{IsReached, AtStart, InBooks, Outside, WithinScript, reach_all}
 use Rattle.script_reader.proofs.Grouped.Outside.{scripts_counted}
-use Rattle.script_reader.proofs.Texts.Fronting.{take_front}
-use Rattle.script_reader.proofs.Texts.Deciding.{spelled}
+use Rattle.script_reader.proofs.Texts.Deciding.{whole}
+use Rattle.script_reader.proofs.Judged as judged
+use Rattle.script_reader.proofs.Judged.{Told, feeds, other, no_more}
 use Rattle.script_reader.specs.Inner.OfVersion.{IsScriptOf, AreCallersOf}
 use Rattle.script_reader.specs.declared.version.Version.{Version}
-use Rattle.script_reader.proofs.Judging.{count_line, count_lines, finish_words}
 
 -- lines for the entries of books in range, and lines behind them
 pub few_entries : {A : Type 0} (b : ClearingBooks) → AreInRange b → (f g : ℕ × ℕ → A) (h : (ℕ × ℕ) × ℕ → A) (ends : List A)
@@ -161,24 +160,16 @@ few_lines lines (WithinScript r) = omega (
   r.script.few_alternatives,
 )
 
--- another reason comes before those that follow
-other : (c : Bool) (why : Fault) (rest : Option Fault) → why ≢ fault.End → rest ≢ Some fault.End → (if c then Some why else rest) ≢ Some fault.End
-other true why rest differs none = λ e. differs cc
-other false why rest differs none = none
-
-no_more : None ≢ Some fault.End
-no_more = λ e. cc
-
 -- a line that is there is not missing
 not_missing : (before : List Words) (words : Words) → fault_of before words ≢ Some fault.End
 not_missing [] words = other _ fault.Header _ (λ e. cc) (other _ fault.Number _ (λ e. cc) (other _ fault.Limit _ (λ e. cc) no_more))
-not_missing (header ∷ lines) words = by (list_any (is_only (codes "scripts")) (header ∷ lines)) (region_behind (header ∷ lines))
+not_missing (header ∷ lines) words = by (place_behind (header ∷ lines))
     (other _ fault.Word _ (λ e. cc) (other (is_late before words) fault.Order _ (λ e. cc)
     (other (not (are_numbers (drop 1 words))) fault.Number _ (λ e. cc) (other is_beyond_limits fault.Limit _ (λ e. cc)
     (other (is_low before words) fault.Order _ (λ e. cc) (other (lacks (codes "account") 1) fault.Account _ (λ e. cc)
     (other (lacks (codes "price") 2) fault.Price _ (λ e. cc)
     (other (takes_block words && nat_le (size_at before 3) (count_by takes_block before)) fault.Blocks _ (λ e. cc) no_more))))))))
-    (λ region. other _ fault.Word _ (λ e. cc) (other _ fault.Number _ (λ e. cc) (other _ fault.Limit _ (λ e. cc) no_more)))
+    (λ region n m. other _ fault.Word _ (λ e. cc) (other _ fault.Number _ (λ e. cc) (other _ fault.Limit _ (λ e. cc) no_more)))
     (other _ fault.Word _ (λ e. cc) (other _ fault.Limit _ (λ e. cc) no_more))
   where
     before : List Words
@@ -191,69 +182,24 @@ not_missing (header ∷ lines) words = by (list_any (is_only (codes "scripts")) 
     lacks : List ℕ → ℕ → Bool
     lacks keyword place = begins (codes "position") words && not (is_given before keyword (value_at words place))
 
-    by : (scripts : Bool) (region : Region) → books_fault (header ∷ lines) words ≢ Some fault.End
-        → ((region : Region) → inside_fault region (header ∷ lines) words ≢ Some fault.End) → outside_fault (header ∷ lines) words ≢ Some fault.End
-        → (if not scripts then books_fault (header ∷ lines) words else scripts_fault region (header ∷ lines) words) ≢ Some fault.End
-    by false region in_books within between = in_books
-    by true OutsideScripts in_books within between = between
-    by true InScript in_books within between = within InScript
-    by true InFirstBranch in_books within between = within InFirstBranch
-    by true InSecondBranch in_books within between = within InSecondBranch
+    by : (place : Place) → books_fault before words ≢ Some fault.End
+        → ((region : Region) (n m : ℕ) → inside_fault (version_at before) region (size_at before 5) n m words ≢ Some fault.End)
+        → outside_fault before words ≢ Some fault.End → place_fault place before words ≢ Some fault.End
+    by AmongBooks books within between = books
+    by OutsideScripts books within between = between
+    by (Inside region n m) books within between = within region n m
 
--- the line feeds of what was read
-abbrev pub feeds : List ℕ → List ℕ → ℕ
-feeds text left = count_by (λ b. b == LINE_FEED) (take (length text - length left) text)
-
--- what the line feeds of what was read tell of the faulty line
-pub record Told (text left : List ℕ) (why : Fault) (before : ℕ) : Type 0 where
-  pub shorter : length left ≤ length text
-  pub few : feeds text left + 1 < 2 ^ 32
-  pub either : (why ≡ fault.End) ⊎ (why ≢ fault.End)
-  pub missing : why ≡ fault.End → feeds text left ≡ before
-  pub whole : why ≢ fault.End → feeds text left ≡ before + 1
+-- lines without fault are few
+few_faultless : (lines : List Words) → AreFaultless [] lines → length lines + 2 < 2 ^ 32
+few_faultless lines f = omega (arith, few_lines lines (reach_all [] lines (AtStart refl) f))
 
 pub told : (text left : List ℕ) (why : Fault) → (h : IsFaultyBehind [] text left why) → Told text left why (length h.more)
-told text left why h = by h.here
-  where
-    few : length h.more ≤ most_lines + most_script_lines
-    few = few_lines h.more (reach_all [] h.more (AtStart refl) h.faultless)
+told = judged.told fault_of few_faultless not_missing
 
-    lines : List ℕ
-    lines = flat_map line h.more
-
-    by : StartsFaulty h.more h.rest left why → Told text left why (length h.more)
-    by (inl (words, are, is, faulty)) =
-        let e : text ≡ (lines ++ line words) ++ left = h.text_is ∙ ap (λ l. lines ++ l) is ∙ sym (append_assoc lines (line words) left) in
-        let counted : feeds text left ≡ length h.more + 1 =
-        ap (count_by (λ b. b == LINE_FEED)) (take_front text (lines ++ line words) left _ e refl)
-        ∙ sum_by-append (λ b. if b == LINE_FEED then 1 else 0) lines (line words)
-        ∙ (λ i. count_lines fault_of [] h.more h.faultless i + count_line words are i) in
-        record {
-          shorter = omega (arith, ap length e, length-append (lines ++ line words) left);
-          few = omega (arith, counted, few);
-          either = inr (λ is_end. not_missing h.more words (faulty ∙ ap Some is_end));
-          missing = λ is_end. absurd (not_missing h.more words (faulty ∙ ap Some is_end));
-          whole = λ other. counted;
-        }
-    by (inr (free, same, is_end)) =
-        let e : text ≡ lines ++ left = h.text_is ∙ ap (λ l. lines ++ l) (sym same) in
-        let counted : feeds text left ≡ length h.more =
-        ap (count_by (λ b. b == LINE_FEED)) (take_front text lines left _ e refl) ∙ count_lines fault_of [] h.more h.faultless in
-        record {
-          shorter = omega (arith, ap length e, length-append lines left);
-          few = omega (arith, counted, few);
-          either = inl is_end;
-          missing = λ is_end. counted;
-          whole = λ other. absurd (other is_end);
-        }
+pub in_front : (text left : List ℕ) (why : Fault) → IsFaultyBehind [] text left why → (n number : ℕ) → n ≡ feeds text left
+    → (why ≡ fault.End → number ≡ n + 1) → (why ≢ fault.End → number ≡ n) → IsFrontFault text number why
+in_front = judged.in_front fault_of few_faultless not_missing
 
 -- the text of an input has few line feeds
 pub few_of_input : (text : List ℕ) (input : ClearingInput) → Spells text input → count_by (λ b. b == LINE_FEED) text + 1 < 2 ^ 32
-few_of_input text input h = omega (
-  arith,
-  ap (count_by (λ b. b == LINE_FEED)) (spelled text input h).text_is,
-  sum_by-append (λ b. if b == LINE_FEED then 1 else 0) (flat_map line (spelled text input h).lines) finish_line,
-  count_lines fault_of [] (spelled text input h).lines (spelled text input h).faultless,
-  count_line (codes "finish" ∷ []) finish_words,
-  few_lines (spelled text input h).lines (reach_all [] (spelled text input h).lines (AtStart refl) (spelled text input h).faultless),
-)
+few_of_input text input h = judged.few_of_text fault_of few_faultless not_missing text (whole text (input, h))

@@ -14,9 +14,9 @@ front_of text (inl valid) = inl (record {
 })
 front_of text (inr (number, why, inl fault)) = inr (number, why, fault)
 front_of text (inr (number, why, inr on)) = inl (record {
-  input = on.input;
+  input = on.spelled.0;
   text = on.rest;
-  two = record { front = on.front; spelled = on.spelled; bytes_are = on.text_is };
+  two = record { front = on.front; spelled = on.spelled.1; bytes_are = on.text_is };
 })
 
 pub front_either : (text : List ℕ) → BeginWithInput text ⊎ HasFrontFault text
@@ -24,9 +24,9 @@ front_either text = front_of text (either text)
 
 pub never_both : (text : List ℕ) → BeginWithInput text → HasFrontFault text → ⊥
 never_both text begins (number, why, fault) =
-    front_not_both text begins.two.front begins.text begins.input number why begins.two.bytes_are begins.two.spelled fault
+    front_not_both text begins.two.front begins.text number why begins.two.bytes_are (begins.input, begins.two.spelled) fault
 
 pub one_front : OneFront
 one_front bytes input other text rest this that =
-    let same = fronts_once bytes this.front text that.front rest input other this.bytes_are that.bytes_are this.spelled that.spelled in
+    let same = fronts_once bytes this.front text that.front rest this.bytes_are that.bytes_are (input, this.spelled) (other, that.spelled) in
     (same.0, one_input this.front input other this.spelled (subst (λ f. Spells f other) (sym same.0) that.spelled), same.1)

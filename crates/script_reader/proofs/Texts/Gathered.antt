@@ -1,6 +1,5 @@
 -- Scripts that were read, and the fault behind them.
-use Rattle.std.proofs.Common.{◌≡◌, ℕ, true, false, List, [], ◌∷◌, ◌++◌, codes, Some, refl, sym, ap, subst, ◌∙◌}
-use Rattle.std.proofs.Common.{append_assoc}
+use Rattle.std.proofs.Common.{◌≡◌, ℕ, true, false, List, [], ◌∷◌, ◌++◌, codes, Some, refl, sym, ap, subst, ◌∙◌, append_assoc}
 use Rattle.std.specs.List.{flat_map}
 use Rattle.std.proofs.lemmas.List.{append-nil}
 use Rattle.std.proofs.lemmas.List.Concat.{flat_map-append}
@@ -9,7 +8,7 @@ use Rattle.books_model.specs.Ranges.{AreInRange}
 use Rattle.books_model.specs.declared.script.Part.{Part}
 use Rattle.script_reader.specs.declared.fault.Fault.{Fault}
 use Rattle.script_reader.specs.declared.fault.Fault.TheVariants as fault
-use Rattle.script_reader.specs.Text.{line, script_lines, end_line, finish_line}
+use Rattle.script_reader.specs.Text.{line, part_words, script_lines, end_line, finish_line}
 use Rattle.script_reader.specs.Inner.LinesAsWords.{BetweenParts, books_words, submission_words, lines_so_far, lines_inside}
 use Rattle.script_reader.specs.Input.{Submission, callers_of, IsName}
 use Rattle.script_reader.specs.Inner.Gatherings.{is_beyond_in}
@@ -25,6 +24,7 @@ use Rattle.script_reader.proofs.Grouped.Outside.{outside_other, outside_beyond, 
 use Rattle.script_reader.specs.Inner.OfVersion.{AreCallersOf}
 use Rattle.script_reader.specs.declared.version.Version.{Version}
 use Rattle.script_reader.proofs.Judging.{behind_more}
+use Rattle.script_reader.proofs.Texts.Following.{more_script}
 
 -- a fault behind scripts that were read
 pub behind_scripts : (version : Version) (b : ClearingBooks) (range : AreInRange b) (subs : List Submission) (start left after : List ℕ)
@@ -64,19 +64,9 @@ pub one_more_script : (start left middle after : List ℕ) (subs : List Submissi
     → start ≡ flat_map line (flat_map submission_words (subs ++ record { caller = name; script = script } ∷ [])) ++ after
 one_more_script start left middle after subs name script words text first is rest =
     let s : Submission = record { caller = name; script = script } in
-    let S : List ℕ = flat_map line (flat_map submission_words subs) in
-    let one : left ≡ submission_lines s ++ after =
-    first ∙ (λ i. line (is i) ++ rest i)
-    ∙ ap (λ l. line (codes "script" ∷ name ∷ []) ++ l) (sym (append_assoc (script_lines script) end_line after))
-    ∙ sym (append_assoc (line (codes "script" ∷ name ∷ [])) (script_lines script ++ end_line) after)
-    ∙ ap (λ l. l ++ after) (sym (append_assoc (line (codes "script" ∷ name ∷ [])) (script_lines script) end_line)) in
-    text ∙ ap (λ l. S ++ l) one ∙ sym (append_assoc S (submission_lines s) after)
-    ∙ ap (λ l. l ++ after) (
-    ap (λ l. S ++ l) (sym (text_of_submission s))
-    ∙ sym (flat_map-append line (flat_map submission_words subs) (submission_words s))
-    ∙ ap (flat_map line) (ap (λ l. flat_map submission_words subs ++ l) (sym (append-nil (submission_words s)))
+    more_script start left middle after (flat_map submission_words subs) words (codes "script" ∷ name ∷ []) (flat_map part_words script) text first is rest
+    ∙ ap (λ l. flat_map line l ++ after) (ap (λ l. flat_map submission_words subs ++ l) (sym (append-nil (submission_words s)))
     ∙ sym (flat_map-append submission_words subs (s ∷ [])))
-    )
 
 -- the text of scripts and of the last line
 pub last_text : (start left after : List ℕ) (subs : List Submission) (words : Words)

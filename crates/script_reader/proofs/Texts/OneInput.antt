@@ -1,6 +1,5 @@
 -- A text is of one input at most.
-use Rattle.std.proofs.Common.{◌≡◌, ℕ, ◌<◌, ◌^◌, Bool, true, false, not, if◌then◌else◌, List, [], ◌∷◌, ◌++◌, codes, map, drop, All, refl, sym, ap}
-use Rattle.std.proofs.Common.{subst, ◌∙◌, append_assoc}
+use Rattle.std.proofs.Common.{◌≡◌, ℕ, ◌<◌, ◌^◌, Bool, true, false, not, List, [], ◌∷◌, ◌++◌, codes, map, drop, All, refl, sym, ap, subst, ◌∙◌, append_assoc}
 use Rattle.std.specs.List.{flat_map}
 use Rattle.std.proofs.Common.{true≢false, arith}
 use Rattle.std.specs.List.{flat_map, AllByRecursion}
@@ -13,31 +12,29 @@ use Rattle.std.proofs.lemmas.List.Elements.{recursion_from_All}
 use Rattle.books_model.specs.Books.{ClearingBooks}
 use Rattle.books_model.specs.Ranges.{AreInRange}
 use Rattle.books_model.specs.declared.script.Op.{Op}
-use Rattle.books_model.specs.declared.script.Op.TheVariants as op
 use Rattle.books_model.specs.declared.script.Part.{Part}
 use Rattle.books_model.specs.declared.script.Part.TheVariants as part
 use Rattle.books_model.specs.Scripts.{operations_in, operations_of}
 use Rattle.books_model.proofs.Scripts.Branches.{All-front, All-back}
-use Rattle.script_reader.specs.Text.{line, number, header_words, account_words, price_words, position_words, call_words, operation_words, part_words}
-use Rattle.script_reader.specs.Text.{finish_line}
+use Rattle.script_reader.specs.Text.{number, header_words, account_words, price_words, position_words, call_words, operation_words, part_words}
 use Rattle.script_reader.specs.Inner.LinesAsWords.{books_words, submission_words, lines_so_far}
 use Rattle.script_reader.specs.Input.{ClearingInput, Submission, callers_of}
-use Rattle.script_reader.specs.Grammar.{Spells}
+use Rattle.script_reader.specs.Grammar.{Spells, IsValidInput}
 use Rattle.script_reader.specs.Lines.{word_at}
-use Rattle.script_reader.specs.Forms.{Words, begins, is_only, value_of, value_at}
+use Rattle.script_reader.specs.Forms.{Words, begins, is_only, value_of}
 use Rattle.script_reader.proofs.Tokens.Numerals.{value_of_number}
-use Rattle.script_reader.proofs.Printing.Scripted.{ended, no_turning, no_try}
+use Rattle.script_reader.proofs.Printing.Scripted.{ended}
+use Rattle.script_reader.proofs.OperationRows.{no_end, no_turning, no_try, operation_once}
 use Rattle.script_reader.specs.Faults.{fault_of, is_turning}
 use Rattle.script_reader.proofs.Printing.Sections.{all_follow, each_entry}
 use Rattle.script_reader.proofs.WithoutFault.Faultless.{IsPrice, IsPosition, IsMarginCall}
 use Rattle.script_reader.proofs.WithoutFault.BooksFaultless.{blocks_fit, instruments_fit, ring_fits, prices_are, positions_are, calls_are}
 use Rattle.script_reader.proofs.Grouped.Submitting.{IsGoodScript, scripts_are_good}
-use Rattle.script_reader.proofs.Texts.Reaching.{operation_goes_on}
-use Rattle.script_reader.proofs.Texts.Deciding.{callers_spelled, spelled, spelled_lines}
-use Rattle.script_reader.proofs.Versions.{amount_within, one_version}
+use Rattle.script_reader.proofs.Texts.Deciding.{callers_spelled, whole}
+use Rattle.script_reader.proofs.Versions.{one_version}
 use Rattle.script_reader.specs.Inner.OfVersion.{IsScriptOf, IsOperationOf, AreCallersOf}
 use Rattle.script_reader.specs.declared.version.Version.{Version}
-use Rattle.script_reader.proofs.Judging.{finish_once}
+use Rattle.script_reader.proofs.Judged.{same_lines}
 
 -- numbers with the same text are the same
 number_once : (n m : ℕ) → n < 2 ^ 64 → m < 2 ^ 64 → number n ≡ number m → n ≡ m
@@ -90,66 +87,30 @@ module _ (b : ClearingBooks) (r : AreInRange b) where
 
   small_prices : AllByRecursion AreSmall (finmap.entries b.prices)
   small_prices = all_follow (IsPrice b.instruments) AreSmall (finmap.entries b.prices)
-      (λ e h. (omega (arith, h.0.1, h.1), omega (arith, h.2.0.1))) (prices_are b r)
+      (λ e h. (h.2, h.3.2)) (prices_are b r)
 
   small_positions : AllByRecursion AllSmall (finmap.entries b.positions)
   small_positions = all_follow (IsPosition b.instruments) AllSmall (finmap.entries b.positions)
-      (λ e h. ((omega (arith, h.0.1), omega (arith, h.2.0.1, h.2.1)), omega (arith, h.2.2.0.1))) (positions_are b r)
+      (λ e h. ((h.2, h.3.2), h.3.3.2)) (positions_are b r)
 
   small_calls : AllByRecursion AreSmall b.calls
-  small_calls = all_follow IsMarginCall AreSmall b.calls (λ e h. (omega (arith, h.0.1), omega (arith, h.2.0.1))) (calls_are b r)
-
--- the operation of its words
-abbrev operation_of : Words → Op
-operation_of w =
-    if begins (codes "open") w then op.OpenAccount (value_at w 1)
-    else (if begins (codes "close") w then op.Close (value_at w 1)
-    else (if begins (codes "deposit") w then op.Deposit (value_at w 1) (value_at w 2)
-    else (if begins (codes "withdraw") w then op.Withdraw (value_at w 1) (value_at w 2)
-    else (if begins (codes "move") w then op.Move (value_at w 1) (value_at w 2) (value_at w 3)
-    else (if begins (codes "price") w then op.Price (value_at w 1) (value_at w 2)
-    else (if begins (codes "trade") w then op.Trade (value_at w 1) (value_at w 2) (value_at w 3) (value_at w 4)
-    else (if begins (codes "margin") w then op.Margin (value_at w 1) (value_at w 2)
-    else (if begins (codes "show") w then op.Show (value_at w 1)
-    else (if begins (codes "sum") w then op.Sum (value_at w 1) (value_at w 2)
-    else op.Next)))))))))
+  small_calls = all_follow IsMarginCall AreSmall b.calls (λ e h. (h.2, h.3.2)) (calls_are b r)
 
 module _ (version : Version) (b : ClearingBooks) (fits : b.instruments < 2 ^ 64) where
-  is_operation_of : (o : Op) → IsOperationOf version b o → operation_of (operation_words o) ≡ o
-  is_operation_of (op.OpenAccount a) h i = op.OpenAccount (value_of_number a (omega (arith, h.1)) i)
-  is_operation_of (op.Close a) h i = op.Close (value_of_number a (omega (arith, h.1)) i)
-  is_operation_of (op.Deposit a x) h i = op.Deposit (value_of_number a (omega (arith, h.0.1)) i)
-      (value_of_number x (omega (arith, h.1.1, amount_within version)) i)
-  is_operation_of (op.Withdraw a x) h i = op.Withdraw (value_of_number a (omega (arith, h.0.1)) i)
-      (value_of_number x (omega (arith, h.1.1, amount_within version)) i)
-  is_operation_of (op.Move a c x) h i =
-      op.Move (value_of_number a (omega (arith, h.0.1)) i) (value_of_number c (omega (arith, h.1.1)) i)
-      (value_of_number x (omega (arith, h.2.1, amount_within version)) i)
-  is_operation_of (op.Price n q) h i = op.Price (value_of_number n (omega (arith, h.0.1, fits)) i) (value_of_number q (omega (arith, h.1.1)) i)
-  is_operation_of (op.Trade a c n q) h i =
-      op.Trade (value_of_number a (omega (arith, h.0.1)) i) (value_of_number c (omega (arith, h.1.1)) i)
-      (value_of_number n (omega (arith, h.2.1, fits)) i) (value_of_number q (omega (arith, h.3.1)) i)
-  is_operation_of (op.Margin a m) h i = op.Margin (value_of_number a (omega (arith, h.0.1)) i) (value_of_number m (omega (arith, h.1.1)) i)
-  is_operation_of op.Next h i = op.Next
-  is_operation_of (op.Show a) h i = op.Show (value_of_number a (omega (arith, h.1)) i)
-  is_operation_of (op.Sum a c) h i = op.Sum (value_of_number a (omega (arith, h.0.1)) i) (value_of_number c (omega (arith, h.1.1)) i)
-
-  operation_once : (o q : Op) → IsOperationOf version b o → IsOperationOf version b q → operation_words o ≡ operation_words q → o ≡ q
-  operation_once o q h k e = sym (is_operation_of o h) ∙ ap operation_of e ∙ is_operation_of q k
-
   -- operations in front of a line that is none are the same
   branch_once : (word : List ℕ) → is_turning (word ∷ []) ≡ true → (ops others : List Op) (rest more : List Words)
       → All (IsOperationOf version b) ops → All (IsOperationOf version b) others
       → map operation_words ops ++ ((word ∷ []) ∷ rest) ≡ map operation_words others ++ ((word ∷ []) ∷ more) → (ops ≡ others) × (rest ≡ more)
   branch_once word turns ops others rest more p q e =
-      let parts = part_once (λ w. not (is_turning w)) operation_words (IsOperationOf version b) operation_once (λ o. ap not (no_turning o)) ops others
+      let parts = part_once (λ w. not (is_turning w)) operation_words (IsOperationOf version b)
+      (operation_once version b fits) (λ o. ap not (no_turning o)) ops others
       ((word ∷ []) ∷ rest) ((word ∷ []) ∷ more) (recursion_from_All _ _ p) (recursion_from_All _ _ q) (ap not turns) (ap not turns) e in
       (parts.0, ap (drop 1) parts.1)
 
   -- a line begins a part: it is not the line that ends a script
   goes_on_part : (p : Part) (rest : List Words)
       → (words : Words) × (more : List Words) × (part_words p ++ rest ≡ words ∷ more) × (is_only (codes "end") words ≡ false)
-  goes_on_part (part.One o) rest = (operation_words o, rest, refl, operation_goes_on o)
+  goes_on_part (part.One o) rest = (operation_words o, rest, refl, no_end o)
   goes_on_part (part.Either first second) rest = (codes "try" ∷ [], _, refl, refl)
 
   -- the first part of lines is the same
@@ -158,7 +119,8 @@ module _ (version : Version) (b : ClearingBooks) (fits : b.instruments < 2 ^ 64)
   one_part (part.One o) (part.One w) rest more h k e =
       let heads : operation_words o ≡ operation_words w = cc in
       let tails : rest ≡ more = cc in (
-        ap part.One (operation_once o w (recursion_from_All (IsOperationOf version b) (o ∷ []) h).0 (recursion_from_All (IsOperationOf version b) (w ∷ []) k).0
+        ap part.One (operation_once version b fits o w (recursion_from_All (IsOperationOf version b) (o ∷ []) h).0
+            (recursion_from_All (IsOperationOf version b) (w ∷ []) k).0
             heads),
         tails,
       )
@@ -286,11 +248,7 @@ lines_once version other b c subs vs r s valid also e =
 
 pub one_input : (text : List ℕ) (input other : ClearingInput) → Spells text input → Spells text other → input ≡ other
 one_input text input other h k =
-    let s = spelled text input h in
-    let t = spelled text other k in
-    let lines = finish_once fault_of [] s.lines t.lines [] [] s.faultless t.faultless
-    (ap (λ l. flat_map line s.lines ++ l) (append-nil finish_line) ∙ sym s.text_is ∙ t.text_is
-    ∙ ap (λ l. flat_map line t.lines ++ l) (sym (append-nil finish_line))) in
+    let lines = same_lines fault_of IsValidInput whole text text [] text [] (sym (append-nil text)) (sym (append-nil text)) (input, h) (other, k) in
     let same = lines_once h.version k.version input.books other.books h.submissions k.submissions h.valid.books k.valid.books
-    (callers_spelled text input h) (callers_spelled text other k) (sym (spelled_lines text input h) ∙ lines.0 ∙ spelled_lines text other k) in
+    (callers_spelled text input h) (callers_spelled text other k) lines.0 in
     (λ t. record { books = same.0 t; callers = (h.callers ∙ ap callers_of same.1 ∙ sym k.callers) t })

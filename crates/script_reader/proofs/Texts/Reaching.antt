@@ -1,10 +1,9 @@
 -- Lines without fault are those of books and scripts, as far as they go.
-use Rattle.std.proofs.Common.{◌≡◌, ◌⊎◌, inl, inr, ℕ, ◌<◌, Bool, true, false, not, ◌&&◌, ◌||◌, nat_le, List, [], ◌∷◌, ◌++◌, codes, drop, length}
-use Rattle.std.proofs.Common.{sum_by, All, None, refl}
+use Rattle.std.proofs.Common.{◌≡◌, ◌⊎◌, inl, inr, ℕ, ◌<◌, true, false, not, ◌&&◌, nat_le, List, [], ◌∷◌, ◌++◌, codes, drop, length, sum_by, All, None, refl}
 use Rattle.std.proofs.Common.{sym, ap, subst, ◌∙◌, append_assoc, length-append, arith}
 use Rattle.std.specs.List.{flat_map}
 use Rattle.std.specs.Option.{is_none}
-use Rattle.std.proofs.lemmas.Bool.{leb-false, true≢false}
+use Rattle.std.proofs.lemmas.Bool.{leb-false}
 use Rattle.std.proofs.lemmas.List.{append-nil}
 use Rattle.std.proofs.lemmas.List.Concat.{flat_map-append}
 use Rattle.std.proofs.lemmas.List.Elements.{All-push}
@@ -12,37 +11,33 @@ use Rattle.books_model.specs.Books.{ClearingBooks, put_cash, put_price, put_quan
 use Rattle.books_model.specs.Ranges.{AreInRange}
 use Rattle.books_model.specs.declared.limits.TheConstants.{MOST_ALTERNATIVES, MOST_OPERATIONS}
 use Rattle.books_model.specs.declared.script.Op.{Op}
-use Rattle.books_model.specs.declared.script.Op.TheVariants as op
 use Rattle.books_model.specs.declared.script.Part.{Part}
 use Rattle.books_model.specs.declared.script.Part.TheVariants as part
 use Rattle.books_model.specs.Scripts.{operations_of, alternatives_in}
 use Rattle.script_reader.specs.declared.limits.TheConstants.{MOST_CALLERS, MOST_SCRIPTS}
 use Rattle.script_reader.specs.declared.fault.Fault.TheVariants as fault
-use Rattle.script_reader.specs.Lines.{word_at}
 use Rattle.script_reader.specs.Text.{operation_words, part_words}
 use Rattle.script_reader.specs.Inner.LinesAsWords.{Open, BetweenParts, InFirst, InSecond, parts_with, region_of, script_words, books_words}
 use Rattle.script_reader.specs.Inner.LinesAsWords.{submission_words, lines_so_far, lines_inside}
 use Rattle.script_reader.specs.Input.{Submission, callers_of, count_scripts, is_name, IsName}
-use Rattle.script_reader.specs.Inner.Gatherings.{is_caller, is_beyond_in}
-use Rattle.script_reader.specs.Forms.{Words, Region, script_forms, turning_forms, form_of, ranges_of, is_only, is_script_line, value_of, are_numbers}
-use Rattle.script_reader.specs.Forms.{are_in_range}
+use Rattle.script_reader.specs.Inner.Gatherings.{is_caller}
+use Rattle.script_reader.specs.Forms.{Words, Region, script_forms, turning_forms, form_of, ranges_of, is_only, value_of, are_numbers, are_in_range}
 use Rattle.script_reader.specs.Versions.{AreBooksWithin}
 use Rattle.script_reader.specs.declared.books.Row.TheVariants as row
-use Rattle.script_reader.specs.Faults.{AreFaultless, fault_of, is_too_many, header_version}
+use Rattle.script_reader.specs.Faults.{AreFaultless, inside_fault, fault_of, is_too_many, header_version}
 use Rattle.script_reader.proofs.Versions.{row_within}
-use Rattle.script_reader.proofs.Conditions.{both, passed, neither}
+use Rattle.script_reader.proofs.Conditions.{passed, neither}
 use Rattle.script_reader.proofs.Printing.Printed.{books_fault_is, fault_at}
-use Rattle.script_reader.proofs.Printing.Scripted.{ended, opened, in_books, outside_fault_is, inside_at, inside_fault_is, no_turning}
+use Rattle.script_reader.proofs.Printing.Scripted.{ended, opened, in_books, outside_fault_is, inside_fault_is}
+use Rattle.script_reader.proofs.OperationRows.{no_turning, operation_line}
 use Rattle.script_reader.proofs.Printing.Opened.{parts_more, open_more, words_more, operations_more, alternatives_more, words_try, operations_try}
-use Rattle.script_reader.proofs.Printing.Opened.{alternatives_try, words_else}
-use Rattle.script_reader.proofs.Printing.Opened.{words_done, inside_more}
+use Rattle.script_reader.proofs.Printing.Opened.{alternatives_try, words_else, words_done, inside_more}
 use Rattle.script_reader.proofs.LineFaults.LineKinds.{none_applies, books_line, BooksLine, AccountLine, PriceLine, PositionLine, CallLine}
-use Rattle.script_reader.proofs.LineFaults.LineKinds.{ScriptsLine, line_words}
-use Rattle.script_reader.proofs.LineFaults.LineKinds.{IsOneOf, one_behind, operation_line, end_or_try, closing}
+use Rattle.script_reader.proofs.LineFaults.LineKinds.{ScriptsLine, line_words, IsOneOf, end_or_try, closing}
 use Rattle.script_reader.proofs.WithoutFault.BooksFaultless.{printed, printed_small, instruments_fit}
 use Rattle.script_reader.proofs.Grouped.Submitting.{callers_more}
 use Rattle.script_reader.proofs.Grouped.Grouping.{callers_of-push}
-use Rattle.script_reader.proofs.Grouped.Outside.{no_callers, outside_in}
+use Rattle.script_reader.proofs.Grouped.Outside.{begins_script, no_callers, outside_in}
 use Rattle.script_reader.proofs.Printing.Extending.{has_no_fault, adds_account, adds_price, adds_position, adds_call, header_adds, books_of_header}
 use Rattle.script_reader.specs.Inner.OfVersion.{IsOperationOf, IsScriptOf, AreCallersOf}
 use Rattle.script_reader.specs.declared.version.Version.{Version}
@@ -125,54 +120,23 @@ outside_step : (lines : List Words) (words : Words) → (r : Between lines) → 
     → is_only (codes "finish") words ≡ false → IsReached (lines ++ words ∷ [])
 outside_step lines words r none more =
     let at : outside_in (callers_of r.subs) words ≡ None = sym (ap (λ l. fault_of l words) r.lines_are ∙ outside_fault_is (printed r.version r.books) r.subs words) ∙ none in
-    let n1 = none_applies _ fault.Word _ at in
-    let n2 = none_applies _ fault.Limit _ n1.1 in
-    let begins_script : is_script_line words ≡ true = other (passed n1.0) more in
-    let form = both begins_script in
-    let name = one_behind (codes "script") words form.0 in
-    let is = name.1 in
-    let named : IsName name.0 = subst (λ w. is_name (word_at w 1) ≡ true) is form.1 in
-    let beyond : is_beyond_in (callers_of r.subs) name.0 ≡ false =
-    subst (λ w. is_beyond_in (callers_of r.subs) (word_at w 1) ≡ false) is (sym (ap (λ c. c && is_beyond_in (callers_of r.subs) (word_at words 1)) begins_script) ∙ n2.0) in
-    let limits = neither beyond in
+    let begun = begins_script (callers_of r.subs) words at more in
     WithinScript (record {
       version = r.version;
       books = r.books;
       subs = r.subs;
-      name = name.0;
+      name = begun.name;
       parts = [];
       stage = BetweenParts;
       range = r.range;
       within = r.within;
       valid = r.valid;
-      is_name = named;
+      is_name = begun.named;
       script = record { few = omega arith; few_alternatives = omega arith; each = λ k d less. absurd (omega arith) };
-      room = leb-false MOST_SCRIPTS _ limits.0;
-      space = λ new. leb-false MOST_CALLERS _ (right new limits.1);
-      lines_are = (λ t. r.lines_are t ++ is t ∷ []);
+      room = begun.room;
+      space = begun.space;
+      lines_are = (λ t. r.lines_are t ++ begun.words_are t ∷ []);
     })
-  where
-    other : {a c : Bool} → (a || c) ≡ true → a ≡ false → c ≡ true
-    other {a = true} h e = absurd (true≢false e)
-    other {a = false} h e = h
-
-    right : {a c : Bool} → a ≡ false → (not a && c) ≡ false → c ≡ false
-    right {a = true} e h = absurd (true≢false e)
-    right {a = false} e h = h
-
--- an operation is not the line that ends a script
-pub operation_goes_on : (o : Op) → is_only (codes "end") (operation_words o) ≡ false
-operation_goes_on (op.OpenAccount a) = refl
-operation_goes_on (op.Close a) = refl
-operation_goes_on (op.Deposit a x) = refl
-operation_goes_on (op.Withdraw a x) = refl
-operation_goes_on (op.Move a b x) = refl
-operation_goes_on (op.Price i q) = refl
-operation_goes_on (op.Trade a b i q) = refl
-operation_goes_on (op.Margin a m) = refl
-operation_goes_on op.Next = refl
-operation_goes_on (op.Show a) = refl
-operation_goes_on (op.Sum a b) = refl
 
 -- an operation for which there is room
 operation_has_room : (count alternatives : ℕ) (o : Op) → is_too_many count alternatives (operation_words o) ≡ false → nat_le MOST_OPERATIONS count ≡ false
@@ -201,7 +165,7 @@ pub record HasNoFaultInside (version : Version) (region : Region) (instruments c
   pub few : is_too_many count alternatives words ≡ false
 
 has_no_fault_inside : (version : Version) (region : Region) (instruments count alternatives : ℕ) (words : Words)
-    → inside_at version region instruments count alternatives words ≡ None → HasNoFaultInside version region instruments count alternatives words
+    → inside_fault version region instruments count alternatives words ≡ None → HasNoFaultInside version region instruments count alternatives words
 has_no_fault_inside version region instruments count alternatives words none =
     let n1 = none_applies _ fault.Word _ none in
     let n2 = none_applies _ fault.Number _ n1.1 in
@@ -277,7 +241,7 @@ within_step lines words r none = by r.stage refl
     n = no_reason lines words r none
 
     line_is : IsOneOf (turning_forms (region_of r.stage)) words ⊎ ((o : Op) × IsOperationOf r.version r.books o × (words ≡ operation_words o))
-    line_is = operation_line r.version r.books (turning_forms (region_of r.stage)) words (instruments_fit r.books r.range) n.formed n.numbers n.ranges
+    line_is = operation_line r.version r.books (instruments_fit r.books r.range) (turning_forms (region_of r.stage)) words n.formed n.numbers n.ranges
 
     s : Submission
     s = record { caller = r.name; script = r.parts }

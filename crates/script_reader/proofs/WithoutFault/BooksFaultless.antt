@@ -14,13 +14,15 @@ use Rattle.std.proofs.lemmas.List.{append-nil}
 use Rattle.std.proofs.lemmas.List.Elements.{recursion_from_All}
 use Rattle.books_model.specs.Books.{ClearingBooks, position_cmp}
 use Rattle.books_model.specs.Ranges.{AreInRange, IsCall}
+use Rattle.books_model.specs.declared.limits.TheConstants.{GREATEST_SHORTFALL, MOST_INSTRUMENTS, MOST_RING}
 use Rattle.books_model.proofs.Maps.Trees.{positions_total}
 use Rattle.script_reader.specs.declared.version.Version.TheVariants.{One, Two}
-use Rattle.script_reader.specs.Versions.{version_word, AreBooksWithin}
+use Rattle.script_reader.specs.Versions.{version_word, most_blocks, greatest_cash, AreBooksWithin}
 use Rattle.script_reader.specs.Lines.{IsWord, AreWords}
+use Rattle.script_reader.specs.ListLanguage.{AreNumbersIn}
 use Rattle.script_reader.specs.Text.{header_words, account_words, price_words, position_words, call_words}
 use Rattle.script_reader.specs.Inner.LinesAsWords.{books_words}
-use Rattle.script_reader.specs.Forms.{Words, sizes, size_words, are_numbers, are_in_range}
+use Rattle.script_reader.specs.Forms.{Words, accounts, prices, quantities, sizes, size_words, are_numbers, are_in_range}
 use Rattle.script_reader.specs.Faults.{fault_of, first_reason, header_fault, AreFaultless}
 use Rattle.script_reader.specs.declared.fault.Fault.TheVariants as fault
 use Rattle.script_reader.proofs.Tokens.Cutting.{word_from_test}
@@ -28,10 +30,9 @@ use Rattle.script_reader.proofs.Tokens.Numerals.{number-IsWord}
 use Rattle.script_reader.proofs.Versions.{version_known, version_read, blocks_small, cash_small}
 use Rattle.script_reader.proofs.Conditions.{or_right}
 use Rattle.script_reader.proofs.Printing.Printed.{Printed, IsSmall}
-use Rattle.script_reader.proofs.WithoutFault.NoFault.{AreWithin, texts_are_numbers, texts_are_in_range}
+use Rattle.script_reader.proofs.Listed.Numbers.{texts_are_numbers, texts_are_in_range, both_in, three_in}
 use Rattle.script_reader.proofs.Printing.Sections.{rises_entries, rises_follow, number_less, pair_less, each_entry, all_follow}
-use Rattle.script_reader.proofs.WithoutFault.Faultless.{IsAccount, IsPrice, IsPosition, IsMarginCall, small_price}
-use Rattle.script_reader.proofs.WithoutFault.Faultless.{small_position}
+use Rattle.script_reader.proofs.WithoutFault.Faultless.{IsAccount, IsPrice, IsPosition, IsMarginCall, small_price, small_position}
 use Rattle.script_reader.proofs.WithoutFault.Faultless.{accounts_faultless, prices_faultless, positions_faultless, calls_faultless}
 use Rattle.script_reader.specs.declared.version.Version.{Version}
 use Rattle.script_reader.proofs.Judging.{faultless_append}
@@ -82,18 +83,19 @@ module _ (b : ClearingBooks) (range : AreInRange b) where
   -- the entries keep to their ranges
   pub accounts_are : (version : Version) → AreBooksWithin version b → AllByRecursion (IsAccount version) (finmap.entries b.accounts)
   accounts_are version within = each_entry nat_cmp nat_cmp_total (IsAccount version) b.accounts (λ e found.
-      ((range.accounts e.0 e.1 found).0, lit< tt, ((omega arith, within.cash e.0 e.1 found), cash_small version, tt)))
+      both_in accounts (0, greatest_cash version) ((range.accounts e.0 e.1 found).0, (omega arith, within.cash e.0 e.1 found)) (lit< tt) (cash_small version))
 
   pub prices_are : AllByRecursion (IsPrice b.instruments) (finmap.entries b.prices)
-  prices_are = each_entry nat_cmp nat_cmp_total (IsPrice b.instruments) b.prices (λ e found. let h =
-      range.prices e.0 e.1 found in (h.0, instruments_fit, (h.1, lit< tt, tt)))
+  prices_are = each_entry nat_cmp nat_cmp_total (IsPrice b.instruments) b.prices
+      (λ e found. both_in (1, b.instruments) prices (range.prices e.0 e.1 found) instruments_fit (lit< tt))
 
   pub positions_are : AllByRecursion (IsPosition b.instruments) (finmap.entries b.positions)
   positions_are = each_entry position_cmp positions_total (IsPosition b.instruments) b.positions (λ e found.
       let h = range.positions e.0.0 e.0.1 e.1 found in
       let account = some_of (finmap.get b.accounts e.0.0) h.0 in
       let price = some_of (finmap.get b.prices e.0.1) h.1 in
-      ((range.accounts e.0.0 account.0 account.1).0, lit< tt, ((range.prices e.0.1 price.0 price.1).0, instruments_fit, (h.2, lit< tt, tt))))
+      three_in accounts (1, b.instruments) quantities
+      ((range.accounts e.0.0 account.0 account.1).0, (range.prices e.0.1 price.0 price.1).0, h.2) (lit< tt) instruments_fit (lit< tt))
 
   positions_given : AllByRecursion (λ e. (list_any (λ x. x.0 == e.0.0) (finmap.entries b.accounts) ≡ true)
       × (list_any (λ x. x.0 == e.0.1) (finmap.entries b.prices) ≡ true)) (finmap.entries b.positions)
@@ -101,7 +103,8 @@ module _ (b : ClearingBooks) (range : AreInRange b) where
       range.positions e.0.0 e.0.1 e.1 found in (given_for b.accounts e.0.0 h.0, given_for b.prices e.0.1 h.1))
 
   pub calls_are : AllByRecursion IsMarginCall b.calls
-  calls_are = all_follow IsCall IsMarginCall b.calls (λ e h. (h.0, lit< tt, (h.1, lit< tt, tt))) (recursion_from_All IsCall b.calls range.calls)
+  calls_are = all_follow IsCall IsMarginCall b.calls (λ e h. both_in accounts (1, GREATEST_SHORTFALL) h (lit< tt) (lit< tt))
+      (recursion_from_All IsCall b.calls range.calls)
 
   pub small_accounts : AllByRecursion (λ e. e.0 < 2 ^ 64) (finmap.entries b.accounts)
   small_accounts = each_entry nat_cmp nat_cmp_total (λ e. e.0 < 2 ^ 64) b.accounts (λ e found. omega (arith, (range.accounts e.0 e.1 found).0.1))
@@ -133,28 +136,19 @@ version_is_word Two = word_from_test (codes "2") refl
 module _ (version : Version) (b : ClearingBooks) (range : AreInRange b) (within : AreBooksWithin version b) where
   -- the header
   pub header_words_are : AreWords (header_words version b)
-  header_words_are = record {
-    some = omega arith;
-    each = (
-      word_from_test (codes "books") refl,
-      (
-        version_is_word version,
-        (
-          word_from_test (codes "blocks") refl,
-          (
-            number-IsWord b.blocks (blocks_fit b range),
-            (
-              word_from_test (codes "instruments") refl,
-              (number-IsWord b.instruments (instruments_fit b range), (word_from_test (codes "ring") refl, (number-IsWord b.ring (ring_fits b range), tt))),
-            ),
-          ),
-        ),
-      ),
-    );
-  }
+  header_words_are =
+      let title = word_from_test (codes "books") refl in
+      let blocks = word_from_test (codes "blocks") refl in
+      let instruments = word_from_test (codes "instruments") refl in
+      let ring = word_from_test (codes "ring") refl in
+      let of_blocks = number-IsWord b.blocks (blocks_fit b range) in
+      let of_instruments = number-IsWord b.instruments (instruments_fit b range) in
+      let of_ring = number-IsWord b.ring (ring_fits b range) in
+      record { some = omega arith; each = (title, (version_is_word version, (blocks, (of_blocks, (instruments, (of_instruments, (ring, (of_ring, tt)))))))) }
 
-  sizes_within : AreWithin (b.blocks ∷ b.instruments ∷ b.ring ∷ []) (sizes version)
-  sizes_within = ((range.blocks.0, within.blocks), blocks_small version, (range.instruments, lit< tt, (range.ring, lit< tt, tt)))
+  sizes_within : AreNumbersIn (sizes version) (b.blocks ∷ b.instruments ∷ b.ring ∷ [])
+  sizes_within = three_in (1, most_blocks version) (1, MOST_INSTRUMENTS) (1, MOST_RING) ((range.blocks.0, within.blocks), range.instruments, range.ring)
+      (blocks_small version) (lit< tt) (lit< tt)
 
   pub header_has_none : header_fault (header_words version b) ≡ None
   header_has_none =
@@ -166,8 +160,8 @@ module _ (version : Version) (b : ClearingBooks) (range : AreInRange b) (within 
       ))
       ∙ (λ i. first_reason (
       (false, fault.Header)
-      ∷ (not (texts_are_numbers (b.blocks ∷ b.instruments ∷ b.ring ∷ []) (sizes version) refl sizes_within i), fault.Number)
-      ∷ (not (texts_are_in_range (b.blocks ∷ b.instruments ∷ b.ring ∷ []) (sizes version) sizes_within i), fault.Limit)
+      ∷ (not (texts_are_numbers (sizes version) (b.blocks ∷ b.instruments ∷ b.ring ∷ []) sizes_within i), fault.Number)
+      ∷ (not (texts_are_in_range (sizes version) (b.blocks ∷ b.instruments ∷ b.ring ∷ []) sizes_within i), fault.Limit)
       ∷ []
       ))
 

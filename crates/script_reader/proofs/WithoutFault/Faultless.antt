@@ -1,55 +1,45 @@
 -- The lines of an input have no fault.
-use Rattle.std.proofs.Common.{◌≡◌, ℕ, ◌+◌, ◌<◌, ◌≤◌, ◌^◌, true, ◌==◌, List, [], ◌∷◌, ◌++◌, codes, map, length, refl, subst, length-append}
-use Rattle.std.proofs.Common.{arith}
+use Rattle.std.proofs.Common.{◌≡◌, ℕ, ◌+◌, ◌<◌, ◌≤◌, ◌^◌, true, ◌==◌, List, [], ◌∷◌, ◌++◌, codes, map, length, refl, subst, length-append, arith}
 use Rattle.std.specs.List.{list_any, AllByRecursion}
 use Rattle.script_reader.specs.declared.version.Version.{Version}
 use Rattle.script_reader.specs.Inner.Rows.{account_ranges, price_ranges, position_ranges, call_ranges}
 use Rattle.script_reader.specs.Lines.{IsWord, AreWords}
 use Rattle.script_reader.specs.Text.{number, account_words, price_words, position_words, call_words}
 use Rattle.script_reader.specs.Faults.{AreFaultless, is_below}
+use Rattle.script_reader.proofs.Conditions.{all_append}
 use Rattle.script_reader.proofs.Tokens.Cutting.{word_from_test}
-use Rattle.script_reader.proofs.Tokens.Numerals.{number-IsWord}
+use Rattle.script_reader.specs.ListLanguage.{AreNumbersIn}
+use Rattle.script_reader.proofs.Listed.Numbers.{texts_are_words}
 use Rattle.script_reader.proofs.Printing.Printed.{Printed, IsSmall, header_of, print}
 use Rattle.script_reader.proofs.Printing.Growing.{account_more, price_more, position_more, call_more}
-use Rattle.script_reader.proofs.WithoutFault.NoFault.{AreWithin, account_has_none, price_has_none, position_has_none, call_has_none}
+use Rattle.script_reader.proofs.WithoutFault.NoFault.{account_has_none, price_has_none, position_has_none, call_has_none}
 use Rattle.script_reader.proofs.Printing.Sections.{Rises}
 
--- texts of numbers are words
-numbers_are_words : (ns : List ℕ) (ranges : List (ℕ × ℕ)) → length ns ≡ length ranges → AreWithin ns ranges → AllByRecursion IsWord (map number ns)
-numbers_are_words [] ranges e h = tt
-numbers_are_words (n ∷ ns) [] e h = absurd (omega (arith, e))
-numbers_are_words (n ∷ ns) (r ∷ ranges) e h = (number-IsWord n (omega (arith, h.0.1, h.1)), numbers_are_words ns ranges (omega (arith, e)) h.2)
-
 -- a word and numbers behind it are words of a line
-pub row_are_words : (k : List ℕ) (ns : List ℕ) (ranges : List (ℕ × ℕ)) → IsWord k → length ns ≡ length ranges
-    → AreWithin ns ranges → AreWords (k ∷ map number ns)
-row_are_words k ns ranges is e h = record { some = omega arith; each = (is, numbers_are_words ns ranges e h) }
-
-all_more : {A : Type 0} (P : A → Type 0) (xs : List A) (x : A) → AllByRecursion P xs → P x → AllByRecursion P (xs ++ x ∷ [])
-all_more P [] x all here = (here, tt)
-all_more P (y ∷ xs) x all here = (all.0, all_more P xs x all.1 here)
+pub row_are_words : (k : List ℕ) (ns : List ℕ) (ranges : List (ℕ × ℕ)) → IsWord k → AreNumbersIn ranges ns → AreWords (k ∷ map number ns)
+row_are_words k ns ranges is h = record { some = omega arith; each = (is, texts_are_words ranges ns h) }
 
 -- what the numbers of entries keep to
 abbrev pub IsAccount : Version → ℕ × ℕ → Type 0
-IsAccount version e = AreWithin (e.0 ∷ e.1 ∷ []) (account_ranges version)
+IsAccount version e = AreNumbersIn (account_ranges version) (e.0 ∷ e.1 ∷ [])
 
 abbrev pub IsPrice : ℕ → ℕ × ℕ → Type 0
-IsPrice instruments e = AreWithin (e.0 ∷ e.1 ∷ []) (price_ranges instruments)
+IsPrice instruments e = AreNumbersIn (price_ranges instruments) (e.0 ∷ e.1 ∷ [])
 
 abbrev pub IsPosition : ℕ → (ℕ × ℕ) × ℕ → Type 0
-IsPosition instruments e = AreWithin (e.0.0 ∷ e.0.1 ∷ e.1 ∷ []) (position_ranges instruments)
+IsPosition instruments e = AreNumbersIn (position_ranges instruments) (e.0.0 ∷ e.0.1 ∷ e.1 ∷ [])
 
 abbrev pub IsMarginCall : ℕ × ℕ → Type 0
-IsMarginCall e = AreWithin (e.0 ∷ e.1 ∷ []) call_ranges
+IsMarginCall e = AreNumbersIn call_ranges (e.0 ∷ e.1 ∷ [])
 
 pub small_account : (version : Version) (e : ℕ × ℕ) → IsAccount version e → e.0 < 2 ^ 64
-small_account version e h = omega (arith, h.0.1)
+small_account version e h = h.2
 
 pub small_price : (instruments : ℕ) (e : ℕ × ℕ) → IsPrice instruments e → e.0 < 2 ^ 64
-small_price instruments e h = omega (arith, h.0.1, h.1)
+small_price instruments e h = h.2
 
 pub small_position : (instruments : ℕ) (e : (ℕ × ℕ) × ℕ) → IsPosition instruments e → (e.0.0 < 2 ^ 64) × (e.0.1 < 2 ^ 64)
-small_position instruments e h = (omega (arith, h.0.1), omega (arith, h.2.0.1, h.2.1))
+small_position instruments e h = (h.2, h.3.2)
 
 module _ (version : Version) (blocks instruments ring : ℕ) (small_blocks : blocks < 2 ^ 64) (small_instruments : instruments < 2 ^ 64)
     (small_ring : ring < 2 ^ 64) where
@@ -67,6 +57,13 @@ module _ (version : Version) (blocks instruments ring : ℕ) (small_blocks : blo
     calls = calls;
   }
 
+  -- where their keys have texts, all that is printed of them has
+  is_small : (accounts prices : List (ℕ × ℕ)) (positions : List ((ℕ × ℕ) × ℕ)) (calls : List (ℕ × ℕ)) → AllByRecursion (λ e. e.0 < 2 ^ 64) accounts
+      → AllByRecursion (λ e. e.0 < 2 ^ 64) prices → AllByRecursion (λ e. (e.0.0 < 2 ^ 64) × (e.0.1 < 2 ^ 64)) positions
+      → IsSmall (sized accounts prices positions calls)
+  is_small accounts prices positions calls a p q =
+      record { blocks = small_blocks; instruments = small_instruments; ring = small_ring; accounts = a; prices = p; positions = q }
+
   -- accounts that rise behind accounts
   pub accounts_faultless : (done rest : List (ℕ × ℕ)) → AllByRecursion (λ e. e.0 < 2 ^ 64) done
       → AllByRecursion (IsAccount version) rest → Rises (λ x e. x.0 < e.0) done rest
@@ -74,22 +71,13 @@ module _ (version : Version) (blocks instruments ring : ℕ) (small_blocks : blo
   unfolding Rises
   accounts_faultless done [] small all rises room = tt
   accounts_faultless done (e ∷ rest) small all rises room =
-      let p : Printed = sized done [] [] [] in
-      let is_small : IsSmall p = record {
-        blocks = small_blocks;
-        instruments = small_instruments;
-        ring =
-            small_ring;
-        accounts = small;
-        prices = tt;
-        positions = tt;
-      } in (
-        row_are_words (codes "account") (e.0 ∷ e.1 ∷ []) (account_ranges version) (word_from_test (codes "account") refl) refl all.0,
-        account_has_none p is_small e refl refl refl all.0 rises.0 (omega (arith, room)),
+      let p : Printed = sized done [] [] [] in (
+        row_are_words (codes "account") (e.0 ∷ e.1 ∷ []) (account_ranges version) (word_from_test (codes "account") refl) all.0,
+        account_has_none p (is_small done [] [] [] small tt tt) e refl refl refl all.0 rises.0 (omega (arith, room)),
         refl,
         subst (λ ls. AreFaultless (header_of p ∷ ls) (map account_words rest)) (account_more done [] [] [] e refl refl refl)
             (accounts_faultless (done ++ e ∷ []) rest
-            (all_more (λ e. e.0 < 2 ^ 64) done e small (small_account version e all.0)) all.1 rises.1 (omega (arith, room, length-append done (e ∷ [])))),
+            (all_append (λ e. e.0 < 2 ^ 64) done (e ∷ []) small (small_account version e all.0, tt)) all.1 rises.1 (omega (arith, room, length-append done (e ∷ [])))),
       )
 
   module _ (accounts : List (ℕ × ℕ)) (small_accounts : AllByRecursion (λ e. e.0 < 2 ^ 64) accounts) where
@@ -100,22 +88,13 @@ module _ (version : Version) (blocks instruments ring : ℕ) (small_blocks : blo
     unfolding Rises
     prices_faultless done [] small all rises room = tt
     prices_faultless done (e ∷ rest) small all rises room =
-        let p : Printed = sized accounts done [] [] in
-        let is_small : IsSmall p = record {
-          blocks = small_blocks;
-          instruments = small_instruments;
-          ring =
-              small_ring;
-          accounts = small_accounts;
-          prices = small;
-          positions = tt;
-        } in (
-          row_are_words (codes "price") (e.0 ∷ e.1 ∷ []) (price_ranges instruments) (word_from_test (codes "price") refl) refl all.0,
-          price_has_none p is_small e refl refl all.0 rises.0 (omega (arith, room)),
+        let p : Printed = sized accounts done [] [] in (
+          row_are_words (codes "price") (e.0 ∷ e.1 ∷ []) (price_ranges instruments) (word_from_test (codes "price") refl) all.0,
+          price_has_none p (is_small accounts done [] [] small_accounts small tt) e refl refl all.0 rises.0 (omega (arith, room)),
           refl,
           subst (λ ls. AreFaultless (header_of p ∷ ls) (map price_words rest)) (price_more accounts done [] [] e refl refl)
               (prices_faultless (done ++ e ∷ []) rest
-              (all_more (λ e. e.0 < 2 ^ 64) done e small (small_price instruments e all.0)) all.1 rises.1
+              (all_append (λ e. e.0 < 2 ^ 64) done (e ∷ []) small (small_price instruments e all.0, tt)) all.1 rises.1
               (omega (arith, room, length-append done (e ∷ [])))),
         )
 
@@ -133,22 +112,12 @@ module _ (version : Version) (blocks instruments ring : ℕ) (small_blocks : blo
       unfolding Rises
       positions_faultless done [] small all given rises room = tt
       positions_faultless done (e ∷ rest) small all given rises room =
-          let p : Printed = sized accounts prices done [] in
-          let is_small : IsSmall p = record {
-            blocks = small_blocks;
-            instruments = small_instruments;
-            ring =
-                small_ring;
-            accounts = small_accounts;
-            prices = small_prices;
-            positions = small;
-          } in (
-            row_are_words (codes "position") (e.0.0 ∷ e.0.1 ∷ e.1 ∷ []) (position_ranges instruments) (word_from_test (codes "position") refl) refl all.0,
-            position_has_none p is_small e refl all.0 rises.0 given.0.0 given.0.1 (omega (arith, room)),
+          let p : Printed = sized accounts prices done [] in (
+            row_are_words (codes "position") (e.0.0 ∷ e.0.1 ∷ e.1 ∷ []) (position_ranges instruments) (word_from_test (codes "position") refl) all.0,
+            position_has_none p (is_small accounts prices done [] small_accounts small_prices small) e refl all.0 rises.0 given.0.0 given.0.1 (omega (arith, room)),
             refl,
             subst (λ ls. AreFaultless (header_of p ∷ ls) (map position_words rest)) (position_more accounts prices done [] e refl)
-                (positions_faultless (done ++ e ∷ []) rest (all_more (λ e. (e.0.0 < 2 ^ 64) × (e.0.1 < 2 ^ 64)) done e
-                small (small_position instruments e all.0)) all.1 given.1 rises.1 (omega (arith, room, length-append done (e ∷ [])))),
+                (positions_faultless (done ++ e ∷ []) rest (all_append (λ e. (e.0.0 < 2 ^ 64) × (e.0.1 < 2 ^ 64)) done (e ∷ []) small (small_position instruments e all.0, tt)) all.1 given.1 rises.1 (omega (arith, room, length-append done (e ∷ [])))),
           )
 
       module _ (positions : List ((ℕ × ℕ) × ℕ)) (small_positions : AllByRecursion (λ e. (e.0.0 < 2 ^ 64) × (e.0.1 < 2 ^ 64)) positions) where
@@ -157,18 +126,9 @@ module _ (version : Version) (blocks instruments ring : ℕ) (small_blocks : blo
             → length done + length rest ≤ ring → AreFaultless (print (sized accounts prices positions done)) (map call_words rest)
         calls_faultless done [] all room = tt
         calls_faultless done (e ∷ rest) all room =
-            let p : Printed = sized accounts prices positions done in
-            let is_small : IsSmall p = record {
-              blocks = small_blocks;
-              instruments = small_instruments;
-              ring =
-                  small_ring;
-              accounts = small_accounts;
-              prices = small_prices;
-              positions = small_positions;
-            } in (
-              row_are_words (codes "call") (e.0 ∷ e.1 ∷ []) call_ranges (word_from_test (codes "call") refl) refl all.0,
-              call_has_none p is_small e all.0 (omega (arith, room)),
+            let p : Printed = sized accounts prices positions done in (
+              row_are_words (codes "call") (e.0 ∷ e.1 ∷ []) call_ranges (word_from_test (codes "call") refl) all.0,
+              call_has_none p (is_small accounts prices positions done small_accounts small_prices small_positions) e all.0 (omega (arith, room)),
               refl,
               subst (λ ls. AreFaultless (header_of p ∷ ls) (map call_words rest))
                   (call_more accounts prices positions done e) (calls_faultless (done ++ e ∷ []) rest all.1 (omega (arith, room, length-append done (e ∷ [])))),

@@ -1,5 +1,5 @@
 -- The lines of scripts have no fault.
-use Rattle.std.proofs.Common.{lit<, ◌≡◌, ℕ, ◌+◌, ◌<◌, ◌≤◌, ◌^◌, false, List, [], ◌∷◌, ◌++◌, codes, map}
+use Rattle.std.proofs.Common.{◌≡◌, ℕ, ◌+◌, ◌≤◌, false, List, [], ◌∷◌, ◌++◌, codes, map}
 use Rattle.std.proofs.Common.{All, sum_by, None, fold, length, refl, sym, ap, subst, ◌∙◌, append_assoc, length-append, arith}
 use Rattle.std.specs.List.{flat_map, AllByRecursion}
 use Rattle.std.proofs.lemmas.Bool.{lt-leb}
@@ -7,32 +7,29 @@ use Rattle.std.proofs.lemmas.List.{append-nil}
 use Rattle.std.proofs.lemmas.List.Concat.{flat_map-append}
 use Rattle.std.proofs.lemmas.List.Elements.{recursion_from_All}
 use Rattle.std.proofs.lemmas.List.Sums.{sum_by-append, sum_by-cons}
-use Rattle.script_reader.specs.Inner.Rows.{price_ranges}
 use Rattle.books_model.specs.Books.{ClearingBooks}
 use Rattle.books_model.specs.Ranges.{AreInRange}
-use Rattle.books_model.specs.declared.limits.TheConstants.{MOST_ALTERNATIVES, MOST_OPERATIONS, GREATEST_RATE}
+use Rattle.books_model.specs.declared.limits.TheConstants.{MOST_ALTERNATIVES, MOST_OPERATIONS}
 use Rattle.books_model.specs.declared.script.Op.{Op}
-use Rattle.books_model.specs.declared.script.Op.TheVariants as op
 use Rattle.books_model.specs.declared.script.Part.{Part}
 use Rattle.books_model.specs.declared.script.Part.TheVariants as part
 use Rattle.books_model.specs.Scripts.{operations_in, operations_of, alternatives_in}
 use Rattle.books_model.proofs.Scripts.Branches.{All-front, All-back}
 use Rattle.script_reader.specs.declared.limits.TheConstants.{MOST_CALLERS, MOST_SCRIPTS}
-use Rattle.script_reader.specs.Lines.{AreWords, IsWord}
+use Rattle.script_reader.specs.Lines.{IsWord}
 use Rattle.script_reader.specs.Text.{operation_words, part_words}
 use Rattle.script_reader.specs.Inner.LinesAsWords.{Open, BetweenParts, InFirst, InSecond, parts_with, region_of, script_words, books_words}
 use Rattle.script_reader.specs.Inner.LinesAsWords.{submission_words, lines_so_far, lines_inside}
 use Rattle.script_reader.specs.Input.{Submission, callers_of, count_scripts}
 use Rattle.script_reader.specs.Versions.{AreBooksWithin}
-use Rattle.script_reader.specs.Forms.{Words, is_only, accounts, amounts, quantities}
-use Rattle.script_reader.specs.Faults.{fault_of, AreFaultless}
-use Rattle.script_reader.proofs.Versions.{amount_small}
+use Rattle.script_reader.specs.Forms.{Words, is_only}
+use Rattle.script_reader.specs.Faults.{inside_fault, fault_of, AreFaultless}
 use Rattle.script_reader.proofs.Tokens.Cutting.{word_from_test}
-use Rattle.script_reader.proofs.Printing.Scripted.{ended, outside_fault_is, inside_at, inside_fault_is}
+use Rattle.script_reader.proofs.Printing.Scripted.{ended, outside_fault_is, inside_fault_is}
+use Rattle.script_reader.proofs.OperationRows.{no_finish, operation-AreWords}
 use Rattle.script_reader.proofs.Printing.Opened.{parts_more, open_more, words_more, operations_more, words_try, operations_try, words_else}
 use Rattle.script_reader.proofs.Printing.Opened.{inside_more, rest_of_branch, first_count}
 use Rattle.script_reader.proofs.WithoutFault.NoFault.{operation_has_none, try_fault, scripts_has_none}
-use Rattle.script_reader.proofs.WithoutFault.Faultless.{row_are_words}
 use Rattle.script_reader.proofs.WithoutFault.BooksFaultless.{printed, printed_small, instruments_fit, books_faultless}
 use Rattle.script_reader.proofs.Grouped.Submitting.{IsGoodScript, scripts_are_good, caller-AreWords}
 use Rattle.script_reader.proofs.Grouped.Grouping.{callers_of-push, callers_of-gathered}
@@ -41,52 +38,6 @@ use Rattle.script_reader.specs.Inner.Gatherings.{add_submission, is_beyond_in}
 use Rattle.script_reader.specs.Inner.OfVersion.{IsScriptOf, IsOperationOf, AreCallersOf}
 use Rattle.script_reader.specs.declared.version.Version.{Version}
 use Rattle.script_reader.proofs.Judging.{faultless_append}
-
--- the words of an operation are those of a line
-pub operation-AreWords : (version : Version) (books : ClearingBooks) → books.instruments < 2 ^ 64 → (o : Op) → IsOperationOf version books o
-    → AreWords (operation_words o)
-operation-AreWords version books fits (op.OpenAccount a) h =
-    row_are_words (codes "open") (a ∷ []) (accounts ∷ []) (word_from_test (codes "open") refl) refl (h, lit< tt, tt)
-operation-AreWords version books fits (op.Close a) h =
-    row_are_words (codes "close") (a ∷ []) (accounts ∷ []) (word_from_test (codes "close") refl) refl (h, lit< tt, tt)
-operation-AreWords version books fits (op.Deposit a x) h =
-    row_are_words (codes "deposit") (a ∷ x ∷ []) (accounts ∷ amounts version ∷ [])
-    (word_from_test (codes "deposit") refl) refl (h.0, lit< tt, (h.1, amount_small version, tt))
-operation-AreWords version books fits (op.Withdraw a x) h =
-    row_are_words (codes "withdraw") (a ∷ x ∷ []) (accounts ∷ amounts version ∷ [])
-    (word_from_test (codes "withdraw") refl) refl (h.0, lit< tt, (h.1, amount_small version, tt))
-operation-AreWords version books fits (op.Move a b x) h =
-    row_are_words (codes "move") (a ∷ b ∷ x ∷ []) (accounts ∷ accounts ∷ amounts version ∷ [])
-    (word_from_test (codes "move") refl) refl (h.0, lit< tt, (h.1, lit< tt, (h.2, amount_small version, tt)))
-operation-AreWords version books fits (op.Price i q) h =
-    row_are_words (codes "price") (i ∷ q ∷ []) (price_ranges books.instruments)
-    (word_from_test (codes "price") refl) refl (h.0, fits, (h.1, lit< tt, tt))
-operation-AreWords version books fits (op.Trade a b i q) h =
-    row_are_words (codes "trade") (a ∷ b ∷ i ∷ q ∷ []) (accounts ∷ accounts ∷ (1, books.instruments)
-    ∷ quantities ∷ []) (word_from_test (codes "trade") refl) refl (h.0, lit< tt, (h.1, lit< tt, (h.2, fits, (h.3, lit< tt, tt))))
-operation-AreWords version books fits (op.Margin a m) h =
-    row_are_words (codes "margin") (a ∷ m ∷ []) (accounts ∷ (1, GREATEST_RATE) ∷ []) (word_from_test (codes "margin") refl) refl
-    (h.0, lit< tt, (h.1, lit< tt, tt))
-operation-AreWords version books fits op.Next h = row_are_words (codes "next") [] [] (word_from_test (codes "next") refl) refl tt
-operation-AreWords version books fits (op.Show a) h =
-    row_are_words (codes "show") (a ∷ []) (accounts ∷ []) (word_from_test (codes "show") refl) refl (h, lit< tt, tt)
-operation-AreWords version books fits (op.Sum a b) h =
-    row_are_words (codes "sum") (a ∷ b ∷ []) (accounts ∷ accounts ∷ [])
-    (word_from_test (codes "sum") refl) refl (h.0, lit< tt, (h.1, lit< tt, tt))
-
--- no operation is the line `finish`
-operation_unfinished : (o : Op) → is_only (codes "finish") (operation_words o) ≡ false
-operation_unfinished (op.OpenAccount a) = refl
-operation_unfinished (op.Close a) = refl
-operation_unfinished (op.Deposit a x) = refl
-operation_unfinished (op.Withdraw a x) = refl
-operation_unfinished (op.Move a b x) = refl
-operation_unfinished (op.Price i q) = refl
-operation_unfinished (op.Trade a b i q) = refl
-operation_unfinished (op.Margin a m) = refl
-operation_unfinished op.Next = refl
-operation_unfinished (op.Show a) = refl
-operation_unfinished (op.Sum a b) = refl
 
 module _ (version : Version) (b : ClearingBooks) (range : AreInRange b) where
   -- lines behind scripts that have ended
@@ -103,7 +54,7 @@ module _ (version : Version) (b : ClearingBooks) (range : AreInRange b) where
     inside_fault_is (printed version b) subs name parts stage (operation_words o) (printed_small b range version)
         ∙ operation_has_none version b (instruments_fit b range) (region_of stage) (length (operations_of (parts_with parts stage))) _
         (omega (arith, room)) o all.0,
-    operation_unfinished o,
+    no_finish o,
     subst (λ ls. AreFaultless ls (map operation_words rest))
         (inside_more version b subs name parts (parts_more parts stage o) stage (open_more stage o) (operation_words o ∷ []) (words_more parts stage o))
         (operations_faultless subs name (parts_more parts stage o) (open_more stage o) rest all.1
@@ -113,7 +64,7 @@ module _ (version : Version) (b : ClearingBooks) (range : AreInRange b) where
   -- a line of one word of a script that turns it
   pub turning_faultless : (subs : List Submission) (name : List ℕ) (parts : List Part) (stage : Open) (word : List ℕ)
       → IsWord word → is_only (codes "finish") (word ∷ []) ≡ false
-      → inside_at version (region_of stage) b.instruments (length (operations_of (parts_with parts stage))) (sum_by alternatives_in (parts_with parts stage))
+      → inside_fault version (region_of stage) b.instruments (length (operations_of (parts_with parts stage))) (sum_by alternatives_in (parts_with parts stage))
       (word ∷ []) ≡ None
       → AreFaultless (lines_inside version b subs name parts stage) ((word ∷ []) ∷ [])
   turning_faultless subs name parts stage word is more none = (

@@ -17,7 +17,7 @@ use Rattle.txn_words.specs.Frames.{KeepsOthers}
 use Rattle.txn_alloc.specs.declared.arena.Arena.{Arena}
 use Rattle.txn_alloc.specs.declared.arena.TheConstants.{HEADS}
 use Rattle.txn_alloc.specs.FreeLists.{block_at, head_of, IsHead, IsLaidOut, HasList, FreeListsHold}
-use Rattle.txn_alloc.specs.Laying.{IsAmong, IsWrittenByLaying, of_list}
+use Rattle.txn_alloc.specs.Laying.{IsAmong, IsInRow, IsWrittenByLaying, of_list}
 use Rattle.txn_alloc.proofs.FreeLists.Rounds.{is_head}
 use Rattle.txn_alloc.proofs.Sets.{in_here, in_there, in_or, out_empty, out_rest, contains-insert_other, distinct_more}
 use Rattle.txn_alloc.proofs.FreeLists.Lists.{blocks_of, list_kept, laid_kept, no_head, head_in, block_in}
@@ -174,25 +174,24 @@ among_all P (c ∷ bs) all b m = elim (in_or (blocks_of bs) c b m) [
   | inr k ↦ among_all P bs (λ i d lt. all (suc i) d (omega (arith, lt))) b k
 ]
 
--- heads that are cleared one after another
-pub record AreCleared (arena : Arena) (first : List ℕ) (n : ℕ) (words : List ℕ) : Type 0 where
-  pub kept : KeepsOthers (IsHead arena) first words
-  pub none : (a : ℕ) → arena.heads ≤ a → a < arena.heads + n → slice_get words a ≡ Some 0
+-- words that are cleared one after another
+pub record AreCleared (first count : ℕ) (start : List ℕ) (n : ℕ) (words : List ℕ) : Type 0 where
+  pub kept : KeepsOthers (IsInRow first count) start words
+  pub none : (a : ℕ) → IsInRow first n a → slice_get words a ≡ Some 0
 
-pub cleared_more : (arena : Arena) (first words : List ℕ) (n : ℕ) → IsLaidOut arena first → n < HEADS
-    → AreCleared arena first n words → AreCleared arena first (n + 1) (slice_set words (arena.heads + n) 0)
-cleared_more arena first words n laid lt h =
-    let place : ℕ = arena.heads + n in
-    let head : IsHead arena place = record { low = omega arith; high = omega (arith, lt) } in
+pub cleared_more : (first count n : ℕ) (start words : List ℕ) → first + count ≤ length start → n < count
+    → AreCleared first count start n words → AreCleared first count start (n + 1) (slice_set words (first + n) 0)
+cleared_more first count n start words within lt h =
+    let place : ℕ = first + n in
+    let mine : IsInRow first count place = record { low = omega arith; high = omega (arith, lt) } in
     record {
       kept = record {
         count = length-set words place 0 ∙ h.kept.count;
-        same = λ a other. get_set_other words place a 0 (λ e. other (subst (λ z. IsHead arena z) (sym e) head)) ∙ h.kept.same a other;
+        same = λ a other. get_set_other words place a 0 (λ e. other (subst (λ z. IsInRow first count z) (sym e) mine)) ∙ h.kept.same a other;
       };
-      none = λ a low high. dite (ℕ_discrete a place)
-          (λ e. ap (λ z. slice_get (slice_set words place 0) z) e
-          ∙ get_set_same words place 0 (let there : arena.heads + HEADS ≤ length first = laid.heads in omega (arith, there, lt, h.kept.count)))
-          (λ ne. get_set_other words place a 0 ne ∙ h.none a low (omega (arith, high, ne)));
+      none = λ a mine. dite (ℕ_discrete a place)
+          (λ e. ap (λ z. slice_get (slice_set words place 0) z) e ∙ get_set_same words place 0 (omega (arith, within, lt, h.kept.count)))
+          (λ ne. get_set_other words place a 0 ne ∙ h.none a (record { low = mine.low; high = omega (arith, mine.high, ne) }));
     }
 
 -- a block of the order is put in front, where those behind it are laid

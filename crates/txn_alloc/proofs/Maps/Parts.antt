@@ -10,7 +10,7 @@ use Rattle.txn_words.specs.Looks.{Looks}
 use Rattle.txn_words.proofs.Looks.{leads_back, seen_before}
 use Rattle.txn_alloc.specs.declared.put.Put.{Put}
 use Rattle.txn_alloc.specs.declared.put.Put.TheVariants.{New, Old, Full}
-use Rattle.txn_alloc.specs.FreeLists.{HasNone}
+use Rattle.txn_alloc.specs.FreeLists.{FreeListsHold, HasNone}
 use Rattle.txn_alloc.specs.EntryMaps.{Entries, Blocks, Part, HasMap, HoldsApart, HasMapApart, Finds, IsUsedIn, IsMoved, Inserts, LacksRoom, Removes}
 use Rattle.txn_alloc.proofs.FreeLists.Lists.{one_set}
 use Rattle.txn_alloc.proofs.Sets.{out_empty, out_itself}
@@ -48,6 +48,15 @@ free_unused part s f u v b hold free = at (set.contains u b) refl
     at : (m : Bool) → set.contains u b ≡ m → set.contains u b ≡ false
     at false e = e
     at true e = absurd (true≢false (sym free ∙ hold.apart b e))
+
+-- entries that are held are some
+pub some_apart : {part : Part} {s : List ℕ} {f : Entries} {u v : Blocks} → HoldsApart part s f u v → HasMapApart part s
+some_apart {f = f} {u = u} {v = v} hold = record { entries = f; used = u; free = v; holds = hold }
+
+-- a map with no entry stands beside free blocks
+pub empty_apart : (part : Part) (s : List ℕ) (free : Blocks) → part.Holds s entry_map.empty set.empty → FreeListsHold part.arena s free
+    → HoldsApart part s entry_map.empty set.empty free
+empty_apart part s free map lists = record { map = map; free_lists = lists; apart = λ b m. absurd (true≢false (sym m ∙ out_empty b)) }
 
 -- what a look leaves is held, and in order
 pub held_found : (part : Part) (key : ℕ) (answer : Option ℕ) (x y : List ℕ) → HasMap part x → Finds part key answer x y → HasMap part y

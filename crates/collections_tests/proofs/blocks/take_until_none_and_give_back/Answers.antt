@@ -1,6 +1,6 @@
 use Rattle.txn_books.proofs.OneState.Parts.{fresh_books}
 use Rattle.txn_books.proofs.OneState.States.{tree_apart}
-use Rattle.txn_books.proofs.LaidOut.Empty.{small}
+use Rattle.txn_books.proofs.LaidOut.Small.{small}
 use Rattle.collections_tests.proofs.blocks.take_until_none_and_give_back.Goals as goal
 
 pub take_all-requires-clause-order : goal.take_all-requires-clause-order

@@ -1,16 +1,26 @@
-use Rattle.std.proofs.Common.{◌≡◌, length, subst}
-use Rattle.std.specs.FinMap as entry_map
-use Rattle.books_model.specs.Books.{ClearingBooks}
-use Rattle.txn_books.specs.Layout.{words_of, shape_of}
-use Rattle.txn_books.specs.Standing.{Stands}
-use Rattle.txn_books.proofs.OneState.States.{tree_apart}
+use Rattle.std.proofs.Common.{◌≡◌, ℕ, length, arith}
+use Rattle.txn_alloc.specs.EntryMaps.{HasMapApart}
+use Rattle.txn_tree_map.specs.Trees.{tree_part}
+use Rattle.collections_tests.specs.declared.paths.TheConstants.{MAP}
+use Rattle.txn_alloc.proofs.FreeLists.AllLaid.{laid_good}
 use Rattle.collections_tests.proofs.paths.empty_map.Goals as goal
+
+pub lay_empty-requires : goal.lay_empty-requires
+lay_empty-requires c =
+    let count : length c.deref_mut.result.now ≡ 2681 = omega (arith, c.deref_mut.ensures.len, c.in_ok-words.ensures) in
+    record {
+      arena = record {
+        places = omega (arith, count);
+        blocks = λ b lt. omega (arith, count, lt);
+        heads = omega (arith, count);
+        outside = λ b a lt mine head. omega (arith, mine.low, head.high);
+      };
+      root = omega (arith, count);
+      no_head = λ head. omega (arith, head.low);
+      outside = λ b lt mine. omega (arith, mine.low);
+    }
 
 pub new-requires : goal.new-requires
 new-requires c =
-    let at = subst (λ (books : ClearingBooks). (length c.in_ok-words.words.items ≡ words_of (shape_of books))
-    × Stands (shape_of books) c.in_ok-words.words.items books) c.new-books.ensures (c.in_ok-words.ensures.count, c.in_ok-words.ensures.stands) in
-    record {
-      count = at.0;
-      good = record { entries = entry_map.empty; used = at.1.parts.tree_used; free = at.1.parts.free; holds = tree_apart _ _ _ at.1 };
-    }
+    let long : length c.lay_empty.new.words ≡ 2681 = omega (arith, c.lay_empty.ensures.others.count, c.deref_mut.ensures.len, c.in_ok-words.ensures) in
+    laid_good 2681 (HasMapApart (tree_part MAP)) _ c.in_ok-words.words.items c.lay_empty.new.words (omega (arith, c.deref_mut.ensures.len, c.in_ok-words.ensures)) long c.lay_empty.ensures.order

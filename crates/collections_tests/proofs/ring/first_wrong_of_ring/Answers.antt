@@ -1,6 +1,6 @@
 use Rattle.txn_books.proofs.OneState.Parts.{fresh_books}
 use Rattle.txn_books.proofs.OneState.States.{queue_held}
-use Rattle.txn_books.proofs.LaidOut.Empty.{small}
+use Rattle.txn_books.proofs.LaidOut.Small.{small}
 use Rattle.collections_tests.proofs.ring.first_wrong_of_ring.Goals as goal
 
 pub first_wrong-requires-clause-order : goal.first_wrong-requires-clause-order

@@ -1,28 +1,24 @@
 use Rattle.txn_words.proofs.CallLaws.{state_after}
 use Rattle.std.proofs.Common.{sym, subst}
-use Rattle.txn_alloc.specs.EntryMaps.{HasMapApart, Finds, SumsRange}
-use Rattle.txn_alloc.proofs.Maps.Parts.{held, order_found}
+use Rattle.txn_alloc.specs.EntryMaps.{HasMapApart, SumsRange}
+use Rattle.txn_alloc.proofs.Maps.InJobs.{may_look, there_still}
 use Rattle.txn_tree_map.specs.Trees.{tree_part}
 use Rattle.txn_tree_map.specs.Firsts.{FindsFirst}
 use Rattle.collections_tests.proofs.tree.is_answered.Goals as goal
 
 pub get-requires-clause-order : goal.get-requires-clause-order
-get-requires-clause-order g c = record { at = λ s fit. held (c.requires.order.at s fit) }
+get-requires-clause-order g c = may_look c.requires.order
 
 pub returns-in_ok-get-in-Get-clause-order : goal.returns-in_ok-get-in-Get-clause-order
 returns-in_ok-get-in-Get-clause-order g c =
     let got = c.in_ok-get-in-Get.ensures in
-    let answer = c.in_ok-get-in-Get.field-0 in
-    let key = c.in-Get.key in
-    let part = tree_part c.args.tree.now in
-    state_after _ _ _ _ (HasMapApart part) (HasMapApart part) (Finds part key answer) got.goes_on.shape got.goes_on.begins
-    c.requires.order got.found (order_found part key answer)
+    there_still got.goes_on got.found c.requires.order
 
 pub sum_range-requires-clause-order : goal.sum_range-requires-clause-order
-sum_range-requires-clause-order g c = record { at = λ s fit. held (c.requires.order.at s fit) }
+sum_range-requires-clause-order g c = may_look c.requires.order
 
 pub first_from-requires-clause-order : goal.first_from-requires-clause-order
-first_from-requires-clause-order g c = record { at = λ s fit. held (c.requires.order.at s fit) }
+first_from-requires-clause-order g c = may_look c.requires.order
 
 pub returns-in_ok-sum_range-in-Sum-clause-order : goal.returns-in_ok-sum_range-in-Sum-clause-order
 returns-in_ok-sum_range-in-Sum-clause-order g c =

@@ -1,5 +1,5 @@
 use Rattle.txn_books.proofs.OneState.Parts.{fresh_parts, some_tree}
-use Rattle.txn_books.proofs.LaidOut.Empty.{small}
+use Rattle.txn_books.proofs.LaidOut.Small.{small}
 use Rattle.collections_tests.proofs.tree.tree_and_blocks.Goals as goal
 
 pub are_answered-ended-requires-clause-order : goal.are_answered-ended-requires-clause-order

@@ -12,9 +12,9 @@ use Rattle.script_reader.specs.Inner.LinesAsWords.{books_words}
 use Rattle.script_reader.specs.Faults.{fault_of}
 use Rattle.script_reader.specs.Rows.{HasNumbers, numbers_fault}
 use Rattle.script_reader.specs.Inner.Rows.{position_ranges}
-use Rattle.script_reader.proofs.Printing.Printed.{is_low_in}
+use Rattle.script_reader.proofs.Printing.Printed.{reasons, is_low_in}
 use Rattle.script_reader.proofs.WithoutFault.BooksFaultless.{printed}
-use Rattle.script_reader.proofs.LineFaults.Refusing.{reasons, has_no_block, late_row, numbers_row, read_row, some_is, position_fault, gives_position}
+use Rattle.script_reader.proofs.LineFaults.Refusing.{has_no_block, late_row, numbers_row, read_row, some_is, position_fault, gives_position}
 use Rattle.script_reader.proofs.Tokens.Ranging.{first_read, second_read}
 use Rattle.script_reader.proofs.Finding.{position_low, given_is_found}
 use Rattle.script_reader.proofs.books.position_of.Goals as goal

@@ -1,8 +1,7 @@
 -- What is read up to the last line, or the first fault.
-use Rattle.std.proofs.Common.{◌≡◌, ◌≢◌, ◌⊎◌, inl, inr, ℕ, ◌+◌, ◌-◌, ◌≤◌, ◌==◌, List, [], Err, length, take, drop, sym, ap, subst, ◌∙◌, take-append-drop}
+use Rattle.std.proofs.Common.{◌≡◌, inl, ℕ, ◌-◌, ◌≤◌, ◌==◌, List, [], Err, length, take, drop, sym, ap, subst, ◌∙◌, take-append-drop}
 use Rattle.std.proofs.Common.{length-append, length-take, arith}
 use Rattle.script_reader.specs.declared.fault.Fault.{Fault as AnyFault}
-use Rattle.script_reader.specs.declared.fault.Fault.TheVariants as fault
 use Rattle.script_reader.specs.declared.fault.InputFault.TheVariants as refused
 use Rattle.std.specs.List.{count_by}
 use Rattle.script_reader.specs.declared.words.TheConstants.{LINE_FEED}
@@ -10,30 +9,18 @@ use Rattle.script_reader.specs.Input.{ClearingInput}
 use Rattle.script_reader.specs.Grammar.{Spells}
 use Rattle.script_reader.specs.Inner.Scripts.{HasFront}
 use Rattle.script_reader.specs.Faults.{IsFaultyBehind, IsFrontFault}
-use Rattle.script_reader.proofs.Texts.Counting.{Told, told, feeds}
+use Rattle.script_reader.proofs.Texts.Counting.{told, in_front}
+use Rattle.script_reader.proofs.Judged.{feeds}
 use Rattle.script_reader.proofs.Texts.Deciding.{front_not_both, fronts_once, one_fault}
 use Rattle.script_reader.proofs.Texts.Fronting.{take_front}
 use Rattle.script_reader.proofs.Texts.OneInput.{one_input}
 use Rattle.script_reader.proofs.front.read_front.Goals as goal
 
--- a text that was read behind, and the number of its faulty line
-module _ (text left : List ℕ) (why : AnyFault) (behind : IsFaultyBehind [] text left why) (n line : ℕ) (counted : n
-    ≡ feeds text left) (missing : why ≡ fault.End → line ≡ n + 1) (whole : why ≢ fault.End → line ≡ n) where
-  is_front_fault : IsFrontFault text line why
-  is_front_fault = record { left = left; faulty = behind; number_is = number what.either }
-    where
-      what : Told text left why (length behind.more)
-      what = told text left why behind
-
-      number : (why ≡ fault.End) ⊎ (why ≢ fault.End) → line ≡ length behind.more + 1
-      number (inl e) = omega (arith, missing e, counted, what.missing e)
-      number (inr other) = omega (arith, whole other, counted, what.whole other)
-
 -- a front that was read
 ok_read : (text left : List ℕ) (input other : ClearingInput) (end : ℕ) → HasFront input text left → end ≤ length text
     → Spells (take end text) other → (input ≡ other) × (length text - length left ≡ end)
 ok_read text left input other end h short k =
-    let same = fronts_once text h.front left (take end text) (drop end text) input other h.text (sym (take-append-drop end text)) h.spelled k in (
+    let same = fronts_once text h.front left (take end text) (drop end text) h.text (sym (take-append-drop end text)) (input, h.spelled) (other, k) in (
       one_input h.front input other h.spelled (subst (λ t. Spells t other) (sym same.0) k),
       omega (arith, ap length h.text, ap length same.0, length-append h.front left, length-take end text, short),
     )
@@ -85,20 +72,20 @@ returns-in-Ok-clause-read c input end short h =
 
 pub returns-in-Ok-clause-faulty : goal.returns-in-Ok-clause-faulty
 returns-in-Ok-clause-faulty c number why h =
-    front_not_both c.args.bytes.now (front c).front c.input_of.new.lines c.in-Ok.input number why (front c).text (front c).spelled h
+    front_not_both c.args.bytes.now (front c).front c.input_of.new.lines number why (front c).text (c.in-Ok.input, (front c).spelled) h
 
 numbered : (c : goal.After-faulty_line-line) → c.occurrences-read.result ≡ feeds c.args.bytes.now c.input_of.new.lines
 numbered c = c.occurrences-read.ensures
     ∙ ap (λ n. count_by (λ b. b == LINE_FEED) (take (length c.args.bytes.now - n) c.args.bytes.now)) c.len-in-Err-LineFault.ensures
 
 faulty : (c : goal.After-faulty_line-line) → IsFrontFault c.args.bytes.now c.faulty_line-line.result c.in-Err-LineFault.why
-faulty c = is_front_fault c.args.bytes.now c.input_of.new.lines c.in-Err-LineFault.why (behind_numbered c)
+faulty c = in_front c.args.bytes.now c.input_of.new.lines c.in-Err-LineFault.why (behind_numbered c)
     c.occurrences-read.result c.faulty_line-line.result (numbered c) c.faulty_line-line.ensures.missing c.faulty_line-line.ensures.whole
 
 pub returns-in-Err-LineFault-clause-read : goal.returns-in-Err-LineFault-clause-read
 returns-in-Err-LineFault-clause-read c input end short h =
-    absurd (front_not_both c.args.bytes.now (take end c.args.bytes.now) (drop end c.args.bytes.now) input
-    c.faulty_line-line.result c.in-Err-LineFault.why (sym (take-append-drop end c.args.bytes.now)) h (faulty c))
+    absurd (front_not_both c.args.bytes.now (take end c.args.bytes.now) (drop end c.args.bytes.now)
+    c.faulty_line-line.result c.in-Err-LineFault.why (sym (take-append-drop end c.args.bytes.now)) (input, h) (faulty c))
 
 pub returns-in-Err-LineFault-clause-refused : goal.returns-in-Err-LineFault-clause-refused
 returns-in-Err-LineFault-clause-refused c number why e =

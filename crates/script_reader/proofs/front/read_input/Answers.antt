@@ -18,11 +18,11 @@ use Rattle.script_reader.proofs.front.read_input.Goals as goal
 
 -- a text that goes on begins with one of an input
 front_read : (text : List ℕ) (number : ℕ) (why : AnyFault) → (g : GoesOn text number why)
-    → (length g.front ≤ length text) × Spells (take (length g.front) text) g.input
+    → (length g.front ≤ length text) × Spells (take (length g.front) text) g.spelled.0
 front_read text number why g = (
   omega (arith, ap length g.text_is, length-append g.front g.rest),
-  subst (λ t. Spells t g.input) (sym (take_front text g.front g.rest (length g.front) g.text_is
-      (omega (arith, ap length g.text_is, length-append g.front g.rest)))) g.spelled,
+  subst (λ t. Spells t g.spelled.0) (sym (take_front text g.front g.rest (length g.front) g.text_is
+      (omega (arith, ap length g.text_is, length-append g.front g.rest)))) g.spelled.1,
 )
 
 -- a text whose front is that of an input, and which is longer, goes on
@@ -31,9 +31,8 @@ goes_on : (text : List ℕ) (end number : ℕ) (input : ClearingInput) → end <
 goes_on text end number input shorter h counted = record {
   front = take end text;
   rest = drop end text;
-  input = input;
   text_is = sym (take-append-drop end text);
-  spelled = h;
+  spelled = (input, h);
   some = λ none. omega (arith, ap length none, length-drop end text, shorter);
   number_is = ap (λ n. n + 1) counted;
   why_is = refl;
@@ -59,7 +58,7 @@ returns-in_err-input-clause-faulty c number why h =
     let is : c.from_residual.result ≡ Err c.in_err-input.field-0.0 = cc (p.1, p.2) in
     subst (λ r. MatchResult r (λ x. ⊥) (λ fault. (fault ≡ refused.Line number why) ⊎ (fault ≡ refused.OutOfMemory))) (sym is) (elim h [
       | inl f ↦ c.in_err-input.ensures.faulty number why f
-      | inr g ↦ let front = front_read c.args.bytes.now number why g in inr (c.in_err-input.ensures.read g.input (length g.front) front.0 front.1)
+      | inr g ↦ let front = front_read c.args.bytes.now number why g in inr (c.in_err-input.ensures.read g.spelled.0 (length g.front) front.0 front.1)
     ])
 
 pub overflow_cast-result : goal.overflow_cast-result

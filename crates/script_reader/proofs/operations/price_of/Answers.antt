@@ -8,6 +8,7 @@ use Rattle.script_reader.specs.Rows.{HasNumbers, numbers_fault}
 use Rattle.script_reader.proofs.WithoutFault.BooksFaultless.{instruments_fit}
 use Rattle.script_reader.proofs.LineFaults.Operating.{row_two}
 use Rattle.script_reader.proofs.LineFaults.RowFaults.{two_wrong}
+use Rattle.script_reader.proofs.OperationRows.{free}
 use Rattle.script_reader.proofs.operations.price_of.Goals as goal
 use Rattle.script_reader.proofs.operations.price_of.Goals.{In_ok-instrument}
 
@@ -39,4 +40,4 @@ overflow_cast-result c = omega (
 )
 
 pub returns-clause-found : goal.returns-clause-found
-returns-clause-found c version = read (goal.at.returns-clause-found c).In_ok-instrument
+returns-clause-found c version = free (read (goal.at.returns-clause-found c).In_ok-instrument)

@@ -7,7 +7,8 @@ use Rattle.script_reader.specs.Forms.{operation_forms, accounts, quantities}
 use Rattle.script_reader.specs.Rows.{HasNumbers, numbers_fault}
 use Rattle.script_reader.proofs.WithoutFault.BooksFaultless.{instruments_fit}
 use Rattle.script_reader.proofs.LineFaults.Operating.{row_four}
-use Rattle.script_reader.proofs.LineFaults.RowFaults.{other_length, unknown_word, four_wrong}
+use Rattle.script_reader.proofs.LineFaults.RowFaults.{unknown_word, four_wrong}
+use Rattle.script_reader.proofs.OperationRows.{free}
 use Rattle.script_reader.proofs.operations.with_four_numbers.Goals as goal
 use Rattle.script_reader.proofs.operations.with_four_numbers.Goals.{In_ok-buyer}
 
@@ -49,19 +50,8 @@ overflow_cast-result-then-is_row-2 c = omega (
 )
 
 pub returns-then-is_row-clause-found : goal.returns-then-is_row-clause-found
-returns-then-is_row-clause-found c version = read (goal.at.returns-then-is_row-clause-found c).In_ok-buyer
+returns-then-is_row-clause-found c version = free (read (goal.at.returns-then-is_row-clause-found c).In_ok-buyer)
 
 pub returns-clause-err : goal.returns-clause-err
 returns-clause-err c version =
-    unknown_word version c.args.books.now.instruments c.args.words.now
-    (other_length (codes "open") 2 c.args.words.now (λ e. omega (arith, e, c.requires)))
-    (other_length (codes "close") 2 c.args.words.now (λ e. omega (arith, e, c.requires)))
-    (other_length (codes "deposit") 3 c.args.words.now (λ e. omega (arith, e, c.requires)))
-    (other_length (codes "withdraw") 3 c.args.words.now (λ e. omega (arith, e, c.requires)))
-    (other_length (codes "move") 4 c.args.words.now (λ e. omega (arith, e, c.requires)))
-    (other_length (codes "price") 3 c.args.words.now (λ e. omega (arith, e, c.requires)))
-    (sym c.is_row.ensures ∙ c.if-is_row.false)
-    (other_length (codes "margin") 3 c.args.words.now (λ e. omega (arith, e, c.requires)))
-    (other_length (codes "next") 1 c.args.words.now (λ e. omega (arith, e, c.requires)))
-    (other_length (codes "show") 2 c.args.words.now (λ e. omega (arith, e, c.requires)))
-    (other_length (codes "sum") 3 c.args.words.now (λ e. omega (arith, e, c.requires)))
+    unknown_word (operation_forms version c.args.books.now.instruments) c.args.words.now 5 c.requires (sym c.is_row.ensures ∙ c.if-is_row.false, tt)

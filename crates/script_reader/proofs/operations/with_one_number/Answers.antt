@@ -2,7 +2,8 @@ use Rattle.std.proofs.Common.{lit<, codes, refl, sym, ◌∙◌, arith}
 use Rattle.std.proofs.lemmas.Result.{err_from_is_err_and}
 use Rattle.script_reader.specs.Forms.{operation_forms, accounts}
 use Rattle.script_reader.proofs.LineFaults.Operating.{row_one}
-use Rattle.script_reader.proofs.LineFaults.RowFaults.{other_length, unknown_word, one_wrong}
+use Rattle.script_reader.proofs.LineFaults.RowFaults.{unknown_word, one_wrong}
+use Rattle.script_reader.proofs.OperationRows.{free}
 use Rattle.script_reader.proofs.operations.with_one_number.Goals as goal
 
 pub returns-in_err-account-clause-err : goal.returns-in_err-account-clause-err
@@ -16,8 +17,9 @@ overflow_cast-result c = omega
     (arith, (row_one (codes "open") c.args.words.now accounts (sym c.is_row.ensures ∙ c.if-is_row.true) (lit< tt) c.in_ok-account.ensures.found).0.1)
 
 pub returns-then-is_row-clause-found : goal.returns-then-is_row-clause-found
-returns-then-is_row-clause-found c version books = row_one (codes "open") c.args.words.now accounts (sym c.is_row.ensures ∙ c.if-is_row.true) (lit< tt)
-    c.in_ok-account.ensures.found
+returns-then-is_row-clause-found c version books =
+    free (row_one (codes "open") c.args.words.now accounts (sym c.is_row.ensures ∙ c.if-is_row.true) (lit< tt)
+    c.in_ok-account.ensures.found)
 
 pub returns-in_err-account-2-clause-err : goal.returns-in_err-account-2-clause-err
 returns-in_err-account-2-clause-err c =
@@ -30,8 +32,9 @@ overflow_cast-result-then-is_row-2 c = omega
     (arith, (row_one (codes "close") c.args.words.now accounts (sym c.is_row-2.ensures ∙ c.if-is_row-2.true) (lit< tt) c.in_ok-account-2.ensures.found).0.1)
 
 pub returns-then-is_row-2-clause-found : goal.returns-then-is_row-2-clause-found
-returns-then-is_row-2-clause-found c version books = row_one (codes "close") c.args.words.now accounts (sym c.is_row-2.ensures ∙ c.if-is_row-2.true) (lit< tt)
-    c.in_ok-account-2.ensures.found
+returns-then-is_row-2-clause-found c version books =
+    free (row_one (codes "close") c.args.words.now accounts (sym c.is_row-2.ensures ∙ c.if-is_row-2.true) (lit< tt)
+    c.in_ok-account-2.ensures.found)
 
 pub returns-in_err-account-3-clause-err : goal.returns-in_err-account-3-clause-err
 returns-in_err-account-3-clause-err c =
@@ -44,20 +47,10 @@ overflow_cast-result-then-is_row-3 c = omega
     (arith, (row_one (codes "show") c.args.words.now accounts (sym c.is_row-3.ensures ∙ c.if-is_row-3.true) (lit< tt) c.in_ok-account-3.ensures.found).0.1)
 
 pub returns-then-is_row-3-clause-found : goal.returns-then-is_row-3-clause-found
-returns-then-is_row-3-clause-found c version books = row_one (codes "show") c.args.words.now accounts (sym c.is_row-3.ensures ∙ c.if-is_row-3.true) (lit< tt)
-    c.in_ok-account-3.ensures.found
+returns-then-is_row-3-clause-found c version books =
+    free (row_one (codes "show") c.args.words.now accounts (sym c.is_row-3.ensures ∙ c.if-is_row-3.true) (lit< tt)
+    c.in_ok-account-3.ensures.found)
 
 pub returns-clause-err : goal.returns-clause-err
-returns-clause-err c version n =
-    unknown_word version n c.args.words.now
-    (sym c.is_row.ensures ∙ c.if-is_row.false)
-    (sym c.is_row-2.ensures ∙ c.if-is_row-2.false)
-    (other_length (codes "deposit") 3 c.args.words.now (λ e. omega (arith, e, c.requires)))
-    (other_length (codes "withdraw") 3 c.args.words.now (λ e. omega (arith, e, c.requires)))
-    (other_length (codes "move") 4 c.args.words.now (λ e. omega (arith, e, c.requires)))
-    (other_length (codes "price") 3 c.args.words.now (λ e. omega (arith, e, c.requires)))
-    (other_length (codes "trade") 5 c.args.words.now (λ e. omega (arith, e, c.requires)))
-    (other_length (codes "margin") 3 c.args.words.now (λ e. omega (arith, e, c.requires)))
-    (other_length (codes "next") 1 c.args.words.now (λ e. omega (arith, e, c.requires)))
-    (sym c.is_row-3.ensures ∙ c.if-is_row-3.false)
-    (other_length (codes "sum") 3 c.args.words.now (λ e. omega (arith, e, c.requires)))
+returns-clause-err c version n = unknown_word (operation_forms version n) c.args.words.now 2 c.requires
+    (sym c.is_row.ensures ∙ c.if-is_row.false, (sym c.is_row-2.ensures ∙ c.if-is_row-2.false, (sym c.is_row-3.ensures ∙ c.if-is_row-3.false, tt)))

@@ -8,7 +8,8 @@ use Rattle.script_reader.specs.Forms.{operation_forms, accounts, amounts}
 use Rattle.script_reader.specs.Rows.{HasNumbers, numbers_fault}
 use Rattle.script_reader.proofs.Versions.{amount_small}
 use Rattle.script_reader.proofs.LineFaults.Operating.{row_three}
-use Rattle.script_reader.proofs.LineFaults.RowFaults.{other_length, unknown_word, three_wrong}
+use Rattle.script_reader.proofs.LineFaults.RowFaults.{unknown_word, three_wrong}
+use Rattle.script_reader.proofs.OperationRows.{bound_move}
 use Rattle.script_reader.proofs.operations.with_three_numbers.Goals as goal
 use Rattle.script_reader.proofs.operations.with_three_numbers.Goals.{In_ok-from}
 
@@ -38,19 +39,8 @@ pub overflow_cast-result-then-is_row : goal.overflow_cast-result-then-is_row
 overflow_cast-result-then-is_row c = omega (arith, (read (goal.at.overflow_cast-result-then-is_row c).In_ok-from).0.1.1)
 
 pub returns-then-is_row-clause-found : goal.returns-then-is_row-clause-found
-returns-then-is_row-clause-found c books = read (goal.at.returns-then-is_row-clause-found c).In_ok-from
+returns-then-is_row-clause-found c books = bound_move c.args.version (read (goal.at.returns-then-is_row-clause-found c).In_ok-from)
 
 pub returns-clause-err : goal.returns-clause-err
 returns-clause-err c n =
-    unknown_word c.args.version n c.args.words.now
-    (other_length (codes "open") 2 c.args.words.now (λ e. omega (arith, e, c.requires)))
-    (other_length (codes "close") 2 c.args.words.now (λ e. omega (arith, e, c.requires)))
-    (other_length (codes "deposit") 3 c.args.words.now (λ e. omega (arith, e, c.requires)))
-    (other_length (codes "withdraw") 3 c.args.words.now (λ e. omega (arith, e, c.requires)))
-    (sym c.is_row.ensures ∙ c.if-is_row.false)
-    (other_length (codes "price") 3 c.args.words.now (λ e. omega (arith, e, c.requires)))
-    (other_length (codes "trade") 5 c.args.words.now (λ e. omega (arith, e, c.requires)))
-    (other_length (codes "margin") 3 c.args.words.now (λ e. omega (arith, e, c.requires)))
-    (other_length (codes "next") 1 c.args.words.now (λ e. omega (arith, e, c.requires)))
-    (other_length (codes "show") 2 c.args.words.now (λ e. omega (arith, e, c.requires)))
-    (other_length (codes "sum") 3 c.args.words.now (λ e. omega (arith, e, c.requires)))
+    unknown_word (operation_forms c.args.version n) c.args.words.now 4 c.requires (sym c.is_row.ensures ∙ c.if-is_row.false, tt)

@@ -8,7 +8,8 @@ use Rattle.script_reader.specs.Forms.{operation_forms, accounts, amounts}
 use Rattle.script_reader.specs.Rows.{HasNumbers, numbers_fault}
 use Rattle.script_reader.proofs.Versions.{amount_small}
 use Rattle.script_reader.proofs.LineFaults.Operating.{row_two}
-use Rattle.script_reader.proofs.LineFaults.RowFaults.{other_length, unknown_word, two_wrong}
+use Rattle.script_reader.proofs.LineFaults.RowFaults.{unknown_word, two_wrong}
+use Rattle.script_reader.proofs.OperationRows.{free, bound}
 use Rattle.script_reader.proofs.operations.with_two_numbers.Goals as goal
 use Rattle.script_reader.proofs.operations.with_two_numbers.Goals.{In_ok-account, In_ok-account-2}
 
@@ -33,7 +34,7 @@ pub overflow_cast-result : goal.overflow_cast-result
 overflow_cast-result c = omega (arith, (deposit_read (goal.at.overflow_cast-result c).In_ok-account).0.0.1)
 
 pub returns-then-is_row-clause-found : goal.returns-then-is_row-clause-found
-returns-then-is_row-clause-found c = deposit_read (goal.at.returns-then-is_row-clause-found c).In_ok-account
+returns-then-is_row-clause-found c = bound c.args.version (deposit_read (goal.at.returns-then-is_row-clause-found c).In_ok-account)
 
 pub returns-in_err-account-2-clause-err : goal.returns-in_err-account-2-clause-err
 returns-in_err-account-2-clause-err c =
@@ -58,7 +59,7 @@ pub overflow_cast-result-then-is_row-2 : goal.overflow_cast-result-then-is_row-2
 overflow_cast-result-then-is_row-2 c = omega (arith, (withdraw_read (goal.at.overflow_cast-result-then-is_row-2 c).In_ok-account-2).0.0.1)
 
 pub returns-then-is_row-2-clause-found : goal.returns-then-is_row-2-clause-found
-returns-then-is_row-2-clause-found c = withdraw_read (goal.at.returns-then-is_row-2-clause-found c).In_ok-account-2
+returns-then-is_row-2-clause-found c = bound c.args.version (withdraw_read (goal.at.returns-then-is_row-2-clause-found c).In_ok-account-2)
 
 pub returns-in_err-account-3-clause-err : goal.returns-in_err-account-3-clause-err
 returns-in_err-account-3-clause-err c =
@@ -76,8 +77,8 @@ overflow_cast-result-then-is_row-4 c = omega (
 
 pub returns-then-is_row-4-clause-found : goal.returns-then-is_row-4-clause-found
 returns-then-is_row-4-clause-found c =
-    row_two (codes "margin") c.args.words.now accounts (1, GREATEST_RATE) (sym c.is_row-4.ensures ∙ c.if-is_row-4.true) (lit< tt) (lit< tt)
-    c.in_ok-account-3.ensures.found
+    free (row_two (codes "margin") c.args.words.now accounts (1, GREATEST_RATE) (sym c.is_row-4.ensures ∙ c.if-is_row-4.true) (lit< tt) (lit< tt)
+    c.in_ok-account-3.ensures.found)
 
 pub returns-in_err-first-clause-err : goal.returns-in_err-first-clause-err
 returns-in_err-first-clause-err c =
@@ -101,22 +102,20 @@ overflow_cast-result-then-is_row-5-2 c = omega (
 
 pub returns-then-is_row-5-clause-found : goal.returns-then-is_row-5-clause-found
 returns-then-is_row-5-clause-found c =
-    row_two (codes "sum") c.args.words.now accounts accounts (sym c.is_row-5.ensures ∙ c.if-is_row-5.true) (lit< tt) (lit< tt) c.in_ok-first.ensures.found
+    free (row_two (codes "sum") c.args.words.now accounts accounts (sym c.is_row-5.ensures ∙ c.if-is_row-5.true)
+    (lit< tt) (lit< tt) c.in_ok-first.ensures.found)
 
 pub price_of-requires : goal.price_of-requires
 price_of-requires c = sym c.is_row-3.ensures ∙ c.if-is_row-3.true
 
 pub returns-clause-err : goal.returns-clause-err
-returns-clause-err c =
-    unknown_word c.args.version c.args.books.now.instruments c.args.words.now
-    (other_length (codes "open") 2 c.args.words.now (λ e. omega (arith, e, c.requires)))
-    (other_length (codes "close") 2 c.args.words.now (λ e. omega (arith, e, c.requires)))
-    (sym c.is_row.ensures ∙ c.if-is_row.false)
-    (sym c.is_row-2.ensures ∙ c.if-is_row-2.false)
-    (other_length (codes "move") 4 c.args.words.now (λ e. omega (arith, e, c.requires)))
-    (sym c.is_row-3.ensures ∙ c.if-is_row-3.false)
-    (other_length (codes "trade") 5 c.args.words.now (λ e. omega (arith, e, c.requires)))
-    (sym c.is_row-4.ensures ∙ c.if-is_row-4.false)
-    (other_length (codes "next") 1 c.args.words.now (λ e. omega (arith, e, c.requires)))
-    (other_length (codes "show") 2 c.args.words.now (λ e. omega (arith, e, c.requires)))
-    (sym c.is_row-5.ensures ∙ c.if-is_row-5.false)
+returns-clause-err c = unknown_word (operation_forms c.args.version c.args.books.now.instruments) c.args.words.now 3 c.requires (
+  sym c.is_row.ensures ∙ c.if-is_row.false,
+  (
+    sym c.is_row-2.ensures ∙ c.if-is_row-2.false,
+    (
+      sym c.is_row-3.ensures ∙ c.if-is_row-3.false,
+      (sym c.is_row-4.ensures ∙ c.if-is_row-4.false, (sym c.is_row-5.ensures ∙ c.if-is_row-5.false, tt)),
+    ),
+  ),
+)

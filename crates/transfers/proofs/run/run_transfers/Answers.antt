@@ -1,9 +1,9 @@
 use Rattle.std.proofs.Common.{◌≡◌, ℕ, Bool, List, get_or, sum, sym, ap, ◌∙◌, subst, arith}
 use Rattle.std.proofs.lemmas.Option.{same_Some, slice_get-get_or}
 use Rattle.std.proofs.lemmas.Result.{IfOk-weaker}
-use Rattle.transfer_jobs.specs.declared.request.Answer.{Answer}
-use Rattle.transfer_jobs.specs.declared.request.Request.{Request}
-use Rattle.transfer_jobs.specs.Requests.{Does}
+use Rattle.transfers.specs.declared.request.Answer.{Answer}
+use Rattle.transfers.specs.declared.request.Request.{Request}
+use Rattle.transfers.specs.Requests.{Does}
 use Rattle.transfers.proofs.run.run_transfers.Goals as goal
 
 -- an audit answers the sum

@@ -16,8 +16,8 @@ loop-index-init g c = record {
   list = list_none c.args.caller c.args.done.now.items;
 }
 
-pub run_job-requires-clause-room : goal.run_job-requires-clause-room
-run_job-requires-clause-room g c =
+pub run_listed-requires-clause-room : goal.run_listed-requires-clause-room
+run_listed-requires-clause-room g c =
     let i = c.loop-index.invariant in
     omega (
       arith,
@@ -41,7 +41,7 @@ loop-index-preserved g c =
       idle = e.next.idle;
       who = e.next.who_stays ∙ i.who;
       run = run_more (AreGoodWords g.L.Shape.Shape desk) (g.L.Lists.means c.args.lists.now) desk.seats (number c.args.pass.now.view)
-          at.pass.view c.run_job.new.pass.view at.done.items c.push.new.self.items item i.run named e.made is;
+          at.pass.view c.run_listed.new.pass.view at.done.items c.push.new.self.items item i.run named e.made is;
       list = list_more c.args.caller at.index c.args.done.now.items at.done.items c.push.new.self.items item i.list e.place.0 e.place.1 is;
     }
 
@@ -49,16 +49,16 @@ pub returns-in_err-item : goal.returns-in_err-item
 returns-in_err-item g c =
     let failed = c.from_residual.ensures.0 in
     let i = c.loop-index.invariant in
-    let e = c.run_job.ensures.next in
-    let next : IsNext c.args.pass.now c.run_job.new.pass = record { table_stays = e.table_stays ∙ i.table; idle = e.idle; who_stays = e.who_stays ∙ i.who } in
+    let e = c.run_listed.ensures.next in
+    let next : IsNext c.args.pass.now c.run_listed.new.pass = record { table_stays = e.table_stays ∙ i.table; idle = e.idle; who_stays = e.who_stays ∙ i.who } in
     search IfOk-from_err
 
 pub returns-in_err-push : goal.returns-in_err-push
 returns-in_err-push g c =
     let failed = c.from_residual-in_err-push.ensures.0 in
     let i = c.loop-index.invariant in
-    let e = c.run_job.ensures.next in
-    let next : IsNext c.args.pass.now c.run_job.new.pass = record { table_stays = e.table_stays ∙ i.table; idle = e.idle; who_stays = e.who_stays ∙ i.who } in
+    let e = c.run_listed.ensures.next in
+    let next : IsNext c.args.pass.now c.run_listed.new.pass = record { table_stays = e.table_stays ∙ i.table; idle = e.idle; who_stays = e.who_stays ∙ i.who } in
     search IfOk-from_err
 
 pub returns : goal.returns

@@ -1,5 +1,5 @@
 use Rattle.std.proofs.Common.{◌≡◌}
-use Rattle.history_model.specs.declared.view.Phase.TheVariants.{Idle}
+use Rattle.txn.specs.Prelude.{Idle}
 use Rattle.turnstile.proofs.visitors.VisitorClient.work.Given as goal
 
 -- the pass is between calls, and made one for each turn

@@ -6,8 +6,8 @@ use Rattle.txn_commit.proofs.JobCounts.{entry_of_job, job_there, of_job}
 use Rattle.txn_commit.proofs.jobs.JobListsLists.run.Goals as goal
 use Rattle.word_table.specs.Desks.{AreGoodWords}
 
-pub transact-requires-clause-job : goal.transact-requires-clause-job
-transact-requires-clause-job g c =
+pub run_job-requires-clause-job : goal.run_job-requires-clause-job
+run_job-requires-clause-job g c =
     let it = c.args.self.now in
     let job = c.index-list-index.result in
     let at = job_there it.lists.now c.args.caller c.args.index c.list.result.now job c.list.ensures c.requires.index c.index-list-index.is in
@@ -20,4 +20,4 @@ returns-clause-entry g c =
     let job = c.index-list-index.result in
     let at = job_there it.lists.now c.args.caller c.args.index c.list.result.now job c.list.ensures c.requires.index c.index-list-index.is in
     entry_of_job it.lists.now g.J.Job.means (AreGoodWords g.J.Shape.Shape c.args.desk.now) (number c.args.pass.now.view) _ _ _
-    c.args.caller c.args.index job at c.transact.result c.transact.ensures.entry
+    c.args.caller c.args.index job at c.run_job.result c.run_job.ensures.entry

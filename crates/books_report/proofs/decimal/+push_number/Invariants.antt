@@ -1,5 +1,0 @@
-use Rattle.books_report.proofs.decimal.+push_number.Given as goal
-
--- a tenth is smaller
-abbrev pub decreases-push_number : goal.decreases-push_number
-decreases-push_number l = l.value

@@ -1,0 +1,2 @@
+-- what the proofs of jobs and clients cite
+pub mod Common
