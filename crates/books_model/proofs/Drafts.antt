@@ -61,7 +61,7 @@ found_after_remove false x v found = (refl, found)
 pub room_left : (books : ClearingBooks) → AreInRange books → is_full books ≡ false → used books < books.blocks
 room_left books h not_full = below_most (used books) books.blocks h.blocks_used not_full
 
--- books in range stay so when an instrument has a price, for which there is a block where it had none
+-- books in range stay so when an instrument has a price, for which there is a block if it had none
 pub priced-in_range : (books : ClearingBooks) (i price : ℕ) → AreInRange books → IsInstrumentOf books i
     → IsWithin 1 GREATEST_PRICE price → (map.get books.prices i ≡ None → used books < books.blocks) → AreInRange (put_price books i price)
 priced-in_range books i price h instrument fits room =
@@ -71,7 +71,7 @@ priced-in_range books i price h instrument fits room =
       | Some p ↦ λ some. omega (arith, used_price books i (Some price), ap (λ (x : Option ℕ). cond {A = ℕ} (is_some x) 1 0) some, h.blocks_used)
     ] refl)
 
--- books in range stay so when an account holds another quantity, for which there is a block where it held none
+-- books in range stay so when an account holds another quantity, for which there is a block if it held none
 pub held-in_range : (books : ClearingBooks) (a i quantity : ℕ) → AreInRange books → IsSome (map.get books.accounts a)
     → IsSome (map.get books.prices i) → IsWithin 1 GREATEST_QUANTITY quantity
     → (map.get books.positions (a, i) ≡ None → used books < books.blocks) → AreInRange (put_quantity books a i quantity)

@@ -22,9 +22,9 @@ use Rattle.books_model.specs.declared.overlay.Change.{Change}
 use Rattle.books_model.specs.Books.{ClearingBooks, position_cmp, price_of}
 use Rattle.books_model.specs.Ranges.{AreInRange, IsWithin}
 use Rattle.books_model.specs.Interpreter.{cash_between, worth_of, holds_any}
-use Rattle.books_model.specs.Inner.Changes.{KnowBefore, changed, now_or, set_at, before_between, now_between}
+use Rattle.books_model.specs.Inner.Changes.{KnowBefore, changed, set_at, before_between, now_between}
 use Rattle.books_model.proofs.Maps.Trees.{positions_total, exact_positions, entries-from_entries}
-use Rattle.books_model.proofs.Maps.Changes.{get-changed, change_at_first, none_further, KnowBefore-further, KnowBefore-past}
+use Rattle.books_model.proofs.Maps.Changes.{get-changed, change_at_first, none_further, KnowBefore-further, KnowBefore-past, now_or}
 use Rattle.books_model.proofs.Maps.Entries.{weigh, All-entries, some_found, sum_by-filter, sum_by-same, sum_by-plus, sum_by-most, sum_by-set_at, sum_by-one}
 
 -- the tests of a range are those of its ends

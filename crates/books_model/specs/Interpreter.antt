@@ -27,7 +27,7 @@ holds_any books a = list_any (λ e. e.0.0 == a) (map.entries books.positions)
 abbrev pub is_full : ClearingBooks → Bool
 is_full books = used books == books.blocks
 
--- the account holds this much of the instrument, and has no such position where it is 0
+-- the account holds this much of the instrument, and has no such position if it is 0
 abbrev pub put_position : ClearingBooks → ℕ → ℕ → ℕ → ClearingBooks
 put_position books a i quantity = record books {
   positions = (if quantity == 0 then map.remove books.positions (a, i) else map.insert books.positions (a, i) quantity);
@@ -62,7 +62,7 @@ trade_of books lowered a b i q cost =
     if not (map.contains_key books.positions (a, i)) && is_full lowered then FindsNoBlock
     else Gives value.Done (put_cash (put_cash (put_position lowered a i (position_of books a i + q)) a (cash_of books a - cost)) b (cash_of books b + cost))
 
--- a margin call for the shortfall, where there is one
+-- a margin call for the shortfall, if there is one
 abbrev pub margin_of : ClearingBooks → ℕ → ℕ → Step
 margin_of books a shortfall =
     if shortfall == 0 then Gives (value.Number 0) books
@@ -148,7 +148,7 @@ abbrev pub run_from : ℕ → List Op → ClearingBooks → Run
 run_from k [] books = Ends [] books
 run_from k (op ∷ ops) books = after_step k (step_of op books) (λ next. run_from (k + 1) ops next)
 
--- the first branch of an alternative; where it is refused the second, which is run on the books from before the first
+-- the first branch of an alternative; if it is refused the second, which is run on the books from before the first
 abbrev pub either_of : Run → Run → Run
 either_of (Ends values after) second = Ends (value.First ∷ values) after
 either_of (Stops stop) second = after_value value.Second second

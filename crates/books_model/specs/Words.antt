@@ -7,13 +7,13 @@ use Rattle.books_model.specs.declared.reply.Value.{Value}
 use Rattle.books_model.specs.declared.reply.Value.TheVariants as value
 
 -- the word of a value: a margin call is its account, a colon and its shortfall
-abbrev pub value_word : Value → List ℕ
-value_word value.Done = codes "ok"
-value_word (value.Number n) = decimal n
-value_word (value.Call a d) = decimal a ++ codes ":" ++ decimal d
-value_word value.Nothing = codes "none"
-value_word value.First = codes "first"
-value_word value.Second = codes "second"
+abbrev pub word_of_value : Value → List ℕ
+word_of_value value.Done = codes "ok"
+word_of_value (value.Number n) = decimal n
+word_of_value (value.Call a d) = decimal a ++ codes ":" ++ decimal d
+word_of_value value.Nothing = codes "none"
+word_of_value value.First = codes "first"
+word_of_value value.Second = codes "second"
 
 -- the word of a reason to decline
 abbrev pub decline_word : Decline → List ℕ

@@ -8,7 +8,7 @@ ghost use Rattle.std.specs.Ordering.{is_lt};
 use crate::limits::{
     GREATEST_CASH, GREATEST_PRICE, GREATEST_QUANTITY, MOST_BLOCKS, MOST_INSTRUMENTS, MOST_RING,
 };
-use crate::overlay::{Changes, append_all, drop_front, make_all_room, settle, take_back};
+use crate::overlay::{Changes, append_all, apply_changes, drop_front, make_all_room, take_back};
 use io_ends::OutOfMemory;
 use std::alloc::Global;
 use std::collections::{BTreeMap, VecDeque};
@@ -243,9 +243,9 @@ impl Books {
             take_back(&mut self.prices, &changes.prices);
             return Err(error);
         }
-        settle(&mut self.accounts, &changes.accounts);
-        settle(&mut self.positions, &changes.positions);
-        settle(&mut self.prices, &changes.prices);
+        apply_changes(&mut self.accounts, &changes.accounts);
+        apply_changes(&mut self.positions, &changes.positions);
+        apply_changes(&mut self.prices, &changes.prices);
         append_all(&mut self.calls, &changes.added);
         drop_front(&mut self.calls, changes.taken);
         Ok(())

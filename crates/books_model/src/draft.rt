@@ -232,7 +232,7 @@ impl<'a> Draft<'a> {
         self.change_account(account, Some(was), None)
     }
 
-    // Gives an instrument a price, for which there is a block where it has none.
+    // Gives an instrument a price, for which there is a block if it has none.
     pub(crate) fn put_price(
         &mut self,
         instrument: u32,
@@ -250,7 +250,7 @@ impl<'a> Draft<'a> {
         self.change_price(instrument, was, price)
     }
 
-    // Gives an account other holdings of an instrument: no position where they are 0.
+    // Gives an account other holdings of an instrument: no position if they are 0.
     pub(crate) fn set_quantity(
         &mut self,
         account: u32,

@@ -210,7 +210,7 @@ impl<'a> Draft<'a> {
         self.exchange(buys, sells, instrument, quantity, cost)
     }
 
-    // One side of a trade, where its account is there.
+    // One side of a trade, if its account is there.
     fn side(&self, account: u32, instrument: u32) -> Option<Side>
         ensures account { IfSome result (λ side. side.account ≡ account) }
         ensures side { IfSome result (IsSideOf self.now.after instrument) }

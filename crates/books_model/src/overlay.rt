@@ -165,7 +165,7 @@ fn set_value<K: Key>(values: &mut BTreeMap<K, u64>, key: K, now: Option<u64>)
 }
 
 // Puts in changes for which there is room. It takes no memory.
-pub(crate) fn settle<K: Key>(values: &mut BTreeMap<K, u64>, changes: &BTreeMap<K, Change>)
+pub(crate) fn apply_changes<K: Key>(values: &mut BTreeMap<K, u64>, changes: &BTreeMap<K, Change>)
     requires { HasRoomFor (map.from_entries {R = K.cmp} values.old.entries) changes.now.entries }
     ensures { map.from_entries {R = K.cmp} values.new.entries
         ≡ changed (map.from_entries {R = K.cmp} values.old.entries) changes.now.entries }

@@ -15,7 +15,7 @@ pub enum Decline {
     Exists,
     /// The account is not there.
     Absent,
-    /// There is too little cash, or some where none may be.
+    /// There is too little cash, or some if none may be.
     Cash,
     /// The account holds a position.
     Held,
@@ -71,9 +71,9 @@ pub enum Value {
 
 impl fmt::Display for Value {
     ghost use Rattle.std.specs.Prelude.{Some};
-    ghost use Rattle.books_model.specs.Words.{value_word};
+    ghost use Rattle.books_model.specs.Words.{word_of_value};
 
-    ghost output = { λ value. Some (value_word value) };
+    ghost output = { λ value. Some (word_of_value value) };
 
     fn fmt<W: fmt::Write>(&self, f: &mut fmt::Formatter<W>) -> fmt::Result {
         match self {

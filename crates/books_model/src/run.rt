@@ -59,7 +59,7 @@ fn run_operations(
     Ok(Reply::Done(values))
 }
 
-// Runs the first branch of an alternative on a copy of the draft, and where it is refused the second on the draft.
+// Runs the first branch of an alternative on a copy of the draft, and if it is refused the second on the draft.
 fn run_either(
     alloc: Global,
     first: &Ops,

@@ -136,7 +136,7 @@ impl<'a> IntoIterator for &'a Ops {
 pub enum Part {
     /// One operation.
     One(Op),
-    /// An alternative: the operations of the first branch or, where one of them is refused, those of the second in their place.
+    /// An alternative: the operations of the first branch or, if one of them is refused, those of the second in their place.
     Either(Ops, Ops),
 }
 

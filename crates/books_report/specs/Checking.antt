@@ -1,14 +1,17 @@
--- The first line of a text that is wrong, where the text should be an output of an input. Lines are numbered from 1,
+-- The first line of a text that is wrong, if the text should be an output of an input. Lines are numbered from 1,
 -- and each is taken with its line feed.
 use Rattle.std.specs.Prelude.{◌≡◌, ◌≢◌, ℕ, ◌+◌, ◌<◌, ◌==◌, if◌then◌else◌, List, [], ◌∷◌, ◌++◌, map as map_list, length, count_by, codes}
 use Rattle.std.specs.List.{concat}
 use Rattle.std.specs.FinMap as map
+use Rattle.script_reader.specs.Gathered.{caller_at}
 use Rattle.books_model.specs.Books.{ClearingBooks}
-use Rattle.script_reader.specs.declared.version.Version.TheVariants.{Two}
+use Rattle.script_reader.specs.declared.books.version.Version.TheVariants.{Two}
 use Rattle.script_reader.specs.Text.{line, header_line, account_line, price_line, position_line, call_line, finish_line}
-use Rattle.script_reader.specs.Input.{ClearingInput, caller_at, count_scripts}
+use Rattle.script_reader.specs.Input.{ClearingInput, count_scripts}
 use Rattle.script_reader.specs.Journal.{Place, IsPlace}
-use Rattle.books_report.specs.Output.{Ran, places_run, journal_line, reply_to, books_after}
+use Rattle.books_report.specs.Journals.{places_run, journal_line}
+use Rattle.books_report.specs.Output.{Ran, reply_to, books_after}
+use Rattle.books_report.specs.Words.{reply_words}
 
 -- the script at a place can come next, behind those at other places: its caller has it left, and none of its own
 -- before it
@@ -30,10 +33,10 @@ FollowInTurn input limit before (ran ∷ scripts) =
     MayFollow input limit before ran × FollowInTurn input limit (before ++ ran ∷ []) scripts
 
 -- a journal's line for each script, the first of which has this serial number
-abbrev pub lines_of : ClearingInput → ℕ → List Ran → List (List ℕ)
-lines_of input serial [] = []
-lines_of input serial (ran ∷ scripts) =
-    journal_line serial (caller_at input ran.place.caller).name ran ∷ lines_of input (serial + 1) scripts
+abbrev pub journal_as_lines : ClearingInput → ℕ → List Ran → List (List ℕ)
+journal_as_lines input serial [] = []
+journal_as_lines input serial (ran ∷ scripts) =
+    journal_line reply_words serial (caller_at input.callers ran.place.caller).name ran ∷ journal_as_lines input (serial + 1) scripts
 
 -- the lines of closing books, and the last line
 abbrev pub closing_lines : ClearingBooks → List (List ℕ)
@@ -53,7 +56,7 @@ lines_behind input scripts =
 
 -- the lines of an output up to where these scripts, in their order, lead
 abbrev pub output_lines : ClearingInput → List Ran → List (List ℕ)
-output_lines input scripts = line (codes "journal" ∷ []) ∷ (lines_of input 1 scripts ++ lines_behind input scripts)
+output_lines input scripts = line (codes "journal" ∷ []) ∷ (journal_as_lines input 1 scripts ++ lines_behind input scripts)
 
 -- an output can begin with these lines: `journal`, and then a line of a script that may come next, as long as one is
 -- left, and then those of the books reached and `finish`
@@ -71,7 +74,7 @@ pub record AreAll (input : ClearingInput) (limit : ℕ) (lines : List (List ℕ)
   pub lines_are : output_lines input scripts ≡ lines
 
 -- The first wrong line of a text. An output can begin with the lines before it, and what is left begins with no line
--- that can come next; and where they are all of an output, something is left. So a line that is missing is wrong, one
+-- that can come next; and if they are all of an output, something is left. So a line that is missing is wrong, one
 -- without its line feed is, and what stands behind the last line is.
 pub record IsFirstWrongLine (input : ClearingInput) (limit : ℕ) (text : List ℕ) (number : ℕ) : Type 0 where
   pub before : List (List ℕ)

@@ -1,4 +1,5 @@
 pub mod Words
+pub mod Journals
 pub mod Output
 pub mod Lines
 pub mod Checking

@@ -1,47 +1,32 @@
 -- The output: a journal of the scripts in the order in which they were run, and the closing books.
-use Rattle.std.specs.Prelude.{◌≡◌, ℕ, ◌+◌, ◌<◌, List, [], ◌∷◌, ◌++◌, map, All, codes}
+use Rattle.std.specs.Prelude.{◌≡◌, ℕ, ◌<◌, List, [], ◌∷◌, ◌++◌, map, All, codes}
+use Rattle.script_reader.specs.Gathered.{script_at}
 use Rattle.books_model.specs.declared.reply.Reply.{Reply}
 use Rattle.books_model.specs.Books.{ClearingBooks}
 use Rattle.books_model.specs.Interpreter.{outcome_of}
-use Rattle.script_reader.specs.declared.version.Version.TheVariants.{Two}
-use Rattle.script_reader.specs.Text.{number, line, books_lines, finish_line}
-use Rattle.script_reader.specs.Input.{ClearingInput, caller_at, script_at}
+use Rattle.script_reader.specs.declared.books.version.Version.TheVariants.{Two}
+use Rattle.script_reader.specs.Text.{line, books_lines, finish_line}
+use Rattle.script_reader.specs.Input.{ClearingInput}
 use Rattle.script_reader.specs.Journal.{Place, IsJournal}
 use Rattle.books_report.specs.Words.{reply_words}
+use Rattle.books_report.specs.Journals.{RanOf, journal_lines, places_run}
 
 -- a script that was run: its place, how often it was restarted, and its reply
-pub record Ran : Type 0 where
-  pub place : Place
-  pub restarts : ℕ
-  pub reply : Reply
-
--- the places of scripts that were run
-abbrev pub places_run : List Ran → List Place
-places_run scripts = map (λ ran. ran.place) scripts
-
--- SERIAL CALLER INDEX RESTARTS REPLY: serial numbers and indexes count from 1 in the text
-abbrev pub journal_line : ℕ → List ℕ → Ran → List ℕ
-journal_line serial name ran =
-    line (number serial ∷ name ∷ number (ran.place.index + 1) ∷ number ran.restarts ∷ reply_words ran.reply)
-
--- a line for each script, the first of which has this serial number
-abbrev pub journal_lines : ClearingInput → ℕ → List Ran → List ℕ
-journal_lines input serial [] = []
-journal_lines input serial (ran ∷ scripts) =
-    journal_line serial (caller_at input ran.place.caller).name ran ++ journal_lines input (serial + 1) scripts
+abbrev pub Ran : Type 0
+Ran = RanOf Reply
 
 -- the whole text of a journal and of closing books, which are printed as those of a text of version 2
 abbrev pub text_of : ClearingInput → List Ran → ClearingBooks → List ℕ
 text_of input scripts closing =
-    line (codes "journal" ∷ []) ++ journal_lines input 1 scripts ++ books_lines Two closing ++ finish_line
+    line (codes "journal" ∷ []) ++ journal_lines reply_words input.callers 1 scripts ++ books_lines Two closing ++ finish_line
 
 -- what the sequential interpreter replies to the script at a place, run on these books
 abbrev pub reply_to : ClearingInput → ClearingBooks → Place → Reply
-reply_to input books place = (outcome_of (script_at input place.caller place.index) books).0
+reply_to input books place = (outcome_of (script_at input.callers place.caller place.index) books).0
 
 -- the books that it leaves
 abbrev pub books_left : ClearingInput → ClearingBooks → Place → ClearingBooks
-books_left input books place = (outcome_of (script_at input place.caller place.index) books).1
+books_left input books place = (outcome_of (script_at input.callers place.caller place.index) books).1
 
 -- what it replies to the scripts at these places, run one after the other from these books
 abbrev pub replies_of : ClearingInput → ClearingBooks → List Place → List Reply

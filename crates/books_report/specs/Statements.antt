@@ -1,7 +1,7 @@
 -- What the laws of outputs say.
 use Rattle.std.specs.Prelude.{◌≡◌, ◌⊎◌, ℕ, List, ◌++◌}
 use Rattle.std.specs.List.{flat_map}
-use Rattle.script_reader.specs.declared.version.Version.TheVariants.{Two}
+use Rattle.script_reader.specs.declared.books.version.Version.TheVariants.{Two}
 use Rattle.script_reader.specs.Text.{books_lines, scripts_line, finish_line}
 use Rattle.script_reader.specs.Input.{ClearingInput, Submission, AreCallersFor, IsInput, callers_of}
 use Rattle.script_reader.specs.Grammar.{Spells, submission_lines}

@@ -5,12 +5,12 @@ ghost use Rattle.std.specs.String.{string_bytes};
 ghost use Rattle.std.specs.List.{flat_map};
 ghost use Rattle.std.specs.FinMap.{entries};
 ghost use Rattle.books_model.specs.Ranges.{AreInRange};
-ghost use Rattle.script_reader.specs.declared.version.Version.TheVariants.{Two};
+ghost use Rattle.script_reader.specs.declared.books.version.Version.TheVariants.{Two};
 ghost use Rattle.script_reader.specs.Text.{account_line, books_lines, call_line, header_line, position_line, price_line};
 
 use books_model::Books;
 use io_ends::OutOfMemory;
-use script_reader::decimal::{push_next, write_size};
+use script_reader::text::decimal::{push_next, write_size};
 use std::alloc::{AllocError, Global};
 
 fn write_header(text: &mut String, books: &Books) -> Result<(), AllocError>
@@ -24,7 +24,7 @@ fn write_header(text: &mut String, books: &Books) -> Result<(), AllocError>
     text.push('\n')
 }
 
-/// Appends the line of an account. Where memory runs out, a part of it may stand there.
+/// Appends the line of an account. If memory runs out, a part of it may stand there.
 pub fn write_account(text: &mut String, account: u32, cash: u64) -> Result<(), AllocError>
     ensures { OnOk result
         (string_bytes text.new ≡ string_bytes text.old ++ account_line (account, cash)) }
@@ -49,7 +49,7 @@ fn write_accounts(text: &mut String, books: &Books) -> Result<(), AllocError>
     Ok(())
 }
 
-/// Appends the line of an instrument's price. Where memory runs out, a part of it may stand there.
+/// Appends the line of an instrument's price. If memory runs out, a part of it may stand there.
 pub fn write_price(text: &mut String, instrument: u32, price: u64) -> Result<(), AllocError>
     ensures { OnOk result
         (string_bytes text.new ≡ string_bytes text.old ++ price_line (instrument, price)) }
@@ -74,7 +74,7 @@ fn write_prices(text: &mut String, books: &Books) -> Result<(), AllocError>
     Ok(())
 }
 
-/// Appends the line of what an account holds of an instrument. Where memory runs out, a part of it may stand there.
+/// Appends the line of what an account holds of an instrument. If memory runs out, a part of it may stand there.
 pub fn write_position(
     text: &mut String,
     account: u32,

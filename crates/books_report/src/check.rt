@@ -2,10 +2,11 @@
 
 ghost use Rattle.std.specs.Prelude.{◌≡◌, ◌≢◌, ℕ, ◌+◌, ◌<◌, ◌≤◌, ◌==◌, ◌^◌, List, ◌∷◌, ◌++◌, Ok, Some, codes, length, replicate, count_by, slice_index, IfOk, IfSome, IfNone, IsSomeAnd, OnOk};
 ghost use Rattle.std.specs.List.{concat};
-ghost use Rattle.script_reader.specs.declared.words.TheConstants.{SPACE, LINE_FEED};
+ghost use Rattle.script_reader.specs.Gathered.{caller_at};
+ghost use Rattle.script_reader.specs.declared.text.words.TheConstants.{SPACE, LINE_FEED};
 ghost use Rattle.script_reader.specs.Lines.{IsFreeOf};
 ghost use Rattle.script_reader.specs.Text.{number};
-ghost use Rattle.script_reader.specs.Input.{IsInput, caller_at};
+ghost use Rattle.script_reader.specs.Input.{IsInput};
 ghost use Rattle.script_reader.specs.Journal.{IsPlace};
 ghost use Rattle.books_report.specs.Output.{Ran, IsOutput};
 ghost use Rattle.books_report.specs.Lines.{place_of_line};
@@ -20,7 +21,7 @@ use books_model::laws::{scripts_go_by_instruments, scripts_keep_sizes};
 use books_model::{Books, run_plain};
 use io_ends::OutOfMemory;
 use script_reader::Input;
-use script_reader::words::{LINE_FEED, SPACE};
+use script_reader::text::words::{LINE_FEED, SPACE};
 use std::alloc::Global;
 use std::str;
 
@@ -62,7 +63,7 @@ fn caller_of(input: &Input, word: &[u8]) -> Option<u32>
     requires valid { IsInput input.now }
     ensures within { IfSome result (λ caller. caller < length input.now.callers) }
     ensures named { (caller : ℕ) → caller < length input.now.callers
-        → word.now ≡ (caller_at input.now caller).name → result ≡ Some caller }
+        → word.now ≡ (caller_at input.now.callers caller).name → result ≡ Some caller }
 {
     let Ok(name) = str::from_utf8(word) else {
         return None;
@@ -70,7 +71,7 @@ fn caller_of(input: &Input, word: &[u8]) -> Option<u32>
     input.caller_named(name)
 }
 
-// The number that a word is, where it is small.
+// The number that a word is, if it is small.
 fn number_of(word: &[u8]) -> Option<u32>
     ensures { (n : ℕ) → n < 2 ^ 32 → word.now ≡ number n → result ≡ Some n }
 {
@@ -80,7 +81,7 @@ fn number_of(word: &[u8]) -> Option<u32>
     digits.parse().ok()
 }
 
-// The line of the next script of a caller, where the first words of a text name it, its restarts are below their limit and
+// The line of the next script of a caller, if the first words of a text name it, its restarts are below their limit and
 // the caller has a script left.
 fn named_line(input: &Input, done: &[u32], text: &[u8]) -> Option<Line>
     requires valid { IsInput input.now }
@@ -90,9 +91,9 @@ fn named_line(input: &Input, done: &[u32], text: &[u8]) -> Option<Line>
         × (line.index + 1 < 2 ^ 32)) }
     ensures named { (serial caller index restarts : ℕ) (rest : List ℕ)
         → caller < length input.now.callers
-        → slice_index done.now caller < length (caller_at input.now caller).scripts
+        → slice_index done.now caller < length (caller_at input.now.callers caller).scripts
         → restarts < RESTARTS_BELOW
-        → text.now ≡ four_words (number serial) (caller_at input.now caller).name
+        → text.now ≡ four_words (number serial) (caller_at input.now.callers caller).name
         (number index) (number restarts) rest
         → result ≡ Some (record {
           caller = caller;
@@ -124,7 +125,7 @@ fn text_behind<'a>(text: &'a [u8], front: &[u8]) -> Option<&'a [u8]>
 }
 
 // Runs the script that the next line of a text names, on the books that the scripts so far leave, and counts it as done.
-// What is left stands behind the line, where that is right.
+// What is left stands behind the line, if that is right.
 fn run_next_line<'a>(
     alloc: Global,
     input: &Input,
@@ -174,7 +175,7 @@ fn lines_in_common(expected: &[u8], text: &[u8]) -> usize
     lines
 }
 
-// How many lines of a text are those of the closing books and the last one, where the text is not all of them.
+// How many lines of a text are those of the closing books and the last one, if the text is not all of them.
 fn check_closing(alloc: Global, books: &Books, text: &[u8]) -> Result<Option<u32>, OutOfMemory>
     ensures same { IfOk result (λ lines. IfNone lines
         (text.now ≡ concat (closing_lines books.now))) }

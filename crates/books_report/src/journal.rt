@@ -2,12 +2,14 @@
 
 ghost use Rattle.std.specs.Prelude.{◌≡◌, ◌+◌, ◌<◌, ◌^◌, [], ◌∷◌, ◌++◌, length, All, IfOk, OnOk};
 ghost use Rattle.std.specs.String.{string_bytes};
-ghost use Rattle.script_reader.specs.declared.words.TheConstants.{SPACE};
-ghost use Rattle.script_reader.specs.declared.version.Version.TheVariants.{Two};
+ghost use Rattle.script_reader.specs.declared.text.words.TheConstants.{SPACE};
+ghost use Rattle.script_reader.specs.declared.books.version.Version.TheVariants.{Two};
 ghost use Rattle.script_reader.specs.Text.{books_lines, finish_line, number};
 ghost use Rattle.script_reader.specs.Journal.{IsPlace};
-ghost use Rattle.books_report.specs.Output.{journal_line, journal_lines, text_of};
+ghost use Rattle.books_report.specs.Journals.{journal_line, journal_lines};
+ghost use Rattle.books_report.specs.Output.{text_of};
 ghost use Rattle.books_report.specs.Lines.{lent, place_of_line, ran_of_line, scripts_of};
+ghost use Rattle.books_report.specs.Words.{reply_words};
 
 use crate::books::write_books;
 use crate::line::Line;
@@ -15,7 +17,7 @@ use crate::words::write_reply;
 use books_model::{Books, Reply};
 use io_ends::OutOfMemory;
 use script_reader::Input;
-use script_reader::decimal::{push_next, push_number};
+use script_reader::text::decimal::{push_next, push_number};
 use std::alloc::{AllocError, Global};
 
 /// Appends what stands before the reply in a journal's line, with the space behind it.
@@ -46,7 +48,7 @@ pub(crate) fn write_line(
     ensures { OnOk result
         (string_bytes text.new
         ≡ string_bytes text.old
-        ++ journal_line serial name.now (ran_of_line line reply.now)) }
+        ++ journal_line reply_words serial name.now (ran_of_line line reply.now)) }
 {
     write_place(text, serial, name, line)?;
     write_reply(text, reply)?;
@@ -65,7 +67,7 @@ pub fn write_lines(
     requires places { All (λ l. IsPlace input.now (place_of_line l)) lines.now }
     requires numbers { first + length lines.now < 2 ^ 64 }
     ensures { OnOk result (string_bytes text.new ≡ string_bytes text.old
-        ++ journal_lines input.now first (scripts_of lines.now (lent replies.now))) }
+        ++ journal_lines reply_words input.now.callers first (scripts_of lines.now (lent replies.now))) }
 {
     let mut serial = first;
     for (line, reply) in lines.iter().zip(replies) {

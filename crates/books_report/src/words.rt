@@ -3,13 +3,13 @@
 ghost use Rattle.std.specs.Prelude.{◌≡◌, ◌∷◌, ◌++◌, OnOk, codes};
 ghost use Rattle.std.specs.String.{string_bytes};
 ghost use Rattle.std.specs.List.{flat_map, join_with_byte};
-ghost use Rattle.script_reader.specs.declared.words.TheConstants.{SPACE};
+ghost use Rattle.script_reader.specs.declared.text.words.TheConstants.{SPACE};
 ghost use Rattle.script_reader.specs.Text.{number};
-ghost use Rattle.books_model.specs.Words.{value_word};
+ghost use Rattle.books_model.specs.Words.{word_of_value};
 ghost use Rattle.books_report.specs.Words.{reply_words};
 
 use books_model::{Reply, Value, Values};
-use script_reader::decimal::{push_next, push_next_wide, push_number};
+use script_reader::text::decimal::{push_next, push_next_wide, push_number};
 use std::alloc::AllocError;
 
 fn write_taken(text: &mut String, account: u32, shortfall: u64) -> Result<(), AllocError>
@@ -24,7 +24,7 @@ fn write_taken(text: &mut String, account: u32, shortfall: u64) -> Result<(), Al
 
 fn write_value(text: &mut String, value: Value) -> Result<(), AllocError>
     ensures { OnOk result
-        (string_bytes text.new ≡ string_bytes text.old ++ SPACE ∷ value_word value) }
+        (string_bytes text.new ≡ string_bytes text.old ++ SPACE ∷ word_of_value value) }
 {
     match value {
         Value::Done => text.push_str(" ok"),
@@ -39,7 +39,7 @@ fn write_value(text: &mut String, value: Value) -> Result<(), AllocError>
 fn write_values(text: &mut String, values: &Values) -> Result<(), AllocError>
     ensures { OnOk result
         (string_bytes text.new
-        ≡ string_bytes text.old ++ flat_map (λ v. SPACE ∷ value_word v) values.now) }
+        ≡ string_bytes text.old ++ flat_map (λ v. SPACE ∷ word_of_value v) values.now) }
 {
     for value in values {
         write_value(text, *value)?;

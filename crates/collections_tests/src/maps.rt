@@ -47,7 +47,7 @@ fn is_answered<W: Words>(chains: &ChainMap, w: &mut W, call: &Call) -> Result<bo
     })
 }
 
-// The number of the first call that answers otherwise, where they are made one after another.
+// The number of the first call that answers otherwise, if they are made one after another.
 fn first_wrong<W: Words>(
     chains: &ChainMap,
     w: &mut W,

@@ -82,7 +82,7 @@ fn no_value_twice(trace: &[Event]) -> bool {
     true
 }
 
-// How many words the sum of all reads in the map of these keys, where it is right and reads no value twice.
+// How many words the sum of all reads in the map of these keys, if it is right and reads no value twice.
 fn reads_of_a_sum(alloc: Global, spacing: u32) -> Result<Option<usize>, Fail> {
     let mut plain = empty_map(alloc)?;
     let new = put_all(&mut plain, &MAP, spacing)?;

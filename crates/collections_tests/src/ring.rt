@@ -36,7 +36,7 @@ fn is_answered<W: Words>(ring: &Ring, w: &mut W, call: &Call) -> Result<bool, St
     })
 }
 
-// The number of the first call that answers otherwise, where they are made one after another.
+// The number of the first call that answers otherwise, if they are made one after another.
 fn first_wrong<W: Words>(ring: &Ring, w: &mut W, calls: &[Call]) -> Result<Option<usize>, Stop>
     requires ready { IsReady W.Words w.old }
     requires order { InEachState W.Words W.Shape.Shape w.old (IsInOrder ring.now) }

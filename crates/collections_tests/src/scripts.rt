@@ -2,8 +2,8 @@
 //! by hand.
 
 ghost use Rattle.std.specs.Prelude.{◌<◌, length};
+ghost use Rattle.script_reader.specs.Gathered.{caller_at};
 ghost use Rattle.books_model.specs.Ranges.{IsScriptFor};
-ghost use Rattle.script_reader.specs.Input.{caller_at};
 
 use books_model::laws::scripts_go_by_instruments;
 use books_model::{Books, Decline, Reply, Script, Value, Values, run_plain};
@@ -220,7 +220,7 @@ fn run_in_memory(
 // Whether a script of the first caller replies so, both ways, and leaves the same books.
 fn replies(alloc: Global, input: &Input, index: u32, want: Want<'_>) -> Result<bool, OutOfMemory>
     requires caller { 0 < length input.now.callers }
-    requires index { index < length (caller_at input.now 0).scripts }
+    requires index { index < length (caller_at input.now.callers 0).scripts }
 {
     let _ = input.callers();
     let script = input.script(0, index);

@@ -61,7 +61,7 @@ fn is_answered<W: Words>(tree: &TreeMap, w: &mut W, call: &Call) -> Result<bool,
     })
 }
 
-// The number of the first call that answers otherwise, where they are made one after another.
+// The number of the first call that answers otherwise, if they are made one after another.
 fn first_wrong<W: Words>(tree: &TreeMap, w: &mut W, calls: &[Call]) -> Result<Option<usize>, Stop>
     requires ready { IsReady W.Words w.old }
     requires order { InEachState W.Words W.Shape.Shape w.old (HasMapApart (tree_part tree.now)) }

@@ -17,7 +17,7 @@ abbrev pub Uses : Item → ℕ → ℕ → Bool → Type 0
 Uses x k v wrote = HasUse x.uses k v wrote
 
 -- whoever has the first uses comes before whoever has the second: both use a lock, the first at a lower version,
--- or at the same one where the first only read and the second wrote
+-- or at the same one if the first only read and the second wrote
 pub record UsedBefore (us vs : List LockUse) : Type 0 where
   pub lock : ℕ
   pub found : ℕ
@@ -38,7 +38,7 @@ unfoldable pub writer_at : ℕ → ℕ → List Item → Option Item
 writer_at k v [] = None
 writer_at k v (x ∷ xs) = if wrote_at k v x.uses then Some x else writer_at k v xs
 
--- the value of word a after this writer, where it was v before
+-- the value of word a after this writer, if it was v before
 abbrev pub value_left : Option Item → ℕ → ℕ → ℕ
 value_left None a v = v
 value_left (Some x) a v = last_written x.trace a v

@@ -2,7 +2,7 @@
 //!
 //! A proof cites a law by calling its function, or the lemma of `proofs/` behind it.
 
-ghost use Rattle.history_model.specs.Statements.{AppendedAfter, AppendedLegal, KeptLength, LegalByPlaces, LastEventStands, LastWriteStands, UnwrittenStays, TouchedByLast, WritesUndone, NotedWrite, AppendedReplay, LastReplayed, WordsApart, FewAttempts};
+ghost use Rattle.history_model.specs.Statements.{AppendedAfter, AppendedLegal, KeptLength, LegalByPlaces, LastEventStands, LastWriteStands, UnwrittenStays, TouchedByLast, WritesUndone, NotedWrite, AppendedReplay, LastReplayed, WordsApart, FewAttempts, OfEachFittingState};
 ghost use Rattle.history_model.specs.Marks.{NotesByParts, NotesCounted, RestUndone, OneNoteMore, WrittenReadsTheSame};
 ghost use Rattle.history_model.specs.ArrangementLaws.{OrderedIsLegal, SameWords, StandsLast, DropsItems};
 ghost use Rattle.std.specs.Prelude.{◌≡◌};
@@ -15,7 +15,7 @@ pub fn appended_after()
     ensures { AppendedAfter }
 {}
 
-/// An appended trace is legal exactly where its first part is, and its second part is on what the first leaves.
+/// An appended trace is legal exactly if its first part is, and its second part is on what the first leaves.
 pub fn appended_legal()
     ensures { AppendedLegal }
 {}
@@ -25,7 +25,7 @@ pub fn kept_length()
     ensures { KeptLength }
 {}
 
-/// A trace is legal exactly where each of its reads finds its value in what the events before it leave.
+/// A trace is legal exactly if each of its reads finds its value in what the events before it leave.
 pub fn legal_by_places()
     ensures { LegalByPlaces }
 {}
@@ -86,7 +86,7 @@ pub fn appended_replay()
     ensures { AppendedReplay }
 {}
 
-/// The last entry of a list does its writes where it was kept, and leaves the words where it was not.
+/// The last entry of a list does its writes if it was kept, and leaves the words if it was not.
 pub fn last_replayed()
     ensures { LastReplayed }
 {}
@@ -100,6 +100,11 @@ pub fn words_apart()
 /// A call has fewer abandoned attempts than there are seats: each gave way to another seat, and no two to the same.
 pub fn few_attempts()
     ensures { FewAttempts }
+{}
+
+/// A word has a value in each good state that fits a trace exactly if each fitting state has it there.
+pub fn of_each_fitting_state<S: Shape>()
+    ensures { (shape : _) → OfEachFittingState (S.word_count shape) (S.good shape) }
 {}
 
 /// How many locks the words share, in digits.

@@ -14,13 +14,13 @@ use Rattle.std.proofs.lemmas.List.FromFn.{length-map-range_with_len}
 use Rattle.std.proofs.lemmas.List.Sums.{fold_push}
 use Rattle.script_reader.specs.declared.limits.TheConstants.{MOST_CALLERS, MOST_SCRIPTS}
 use Rattle.script_reader.specs.Inner.OfVersion.{IsScriptOf, AreCallersOf}
-use Rattle.script_reader.specs.declared.version.Version.TheVariants.{One}
-use Rattle.script_reader.proofs.Versions.{callers_for, callers_within}
+use Rattle.script_reader.specs.declared.books.version.Version.TheVariants.{One}
+use Rattle.script_reader.proofs.books.Versions.{callers_for, callers_within}
 use Rattle.script_reader.specs.Input.{Caller, Submission, IsName, add_name, first_seen, callers_of}
 use Rattle.script_reader.specs.Inner.Gatherings.{is_caller}
-use Rattle.script_reader.proofs.Grouped.Grouping.{callers_of-push, no-names}
-use Rattle.script_reader.proofs.Grouped.Outside.{scripts_counted, callers_counted, caller_named}
-use Rattle.script_reader.proofs.Grouped.Submitting.{callers_more}
+use Rattle.script_reader.proofs.language.Grouped.Grouping.{callers_of-push, no-names}
+use Rattle.script_reader.proofs.language.Grouped.Outside.{scripts_counted, callers_counted, caller_named}
+use Rattle.script_reader.proofs.language.Grouped.Submitting.{callers_more}
 use Rattle.input_maker.specs.Made.{made_books, caller_name, script_from, made_submission, made_submissions, submissions_to, state_of_script}
 use Rattle.input_maker.specs.Statements.{MadeInputsAreInputs}
 use Rattle.input_maker.proofs.Listing.{submissions-none, submissions-more}

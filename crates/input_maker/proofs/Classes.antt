@@ -15,7 +15,7 @@ use Rattle.books_model.proofs.Maps.Entries.{AllByRecursion-weaker, All-entries, 
 use Rattle.script_reader.proofs.Conditions.{count_always}
 use Rattle.books_report.proofs.Order.Classes.{sums, by_classes}
 
--- what those weigh that pass a test, where each of them weighs the same
+-- what those weigh that pass a test, if each of them weighs the same
 pub same_weight : {A : Type 0} (t : A → Bool) (w : A → ℕ) (d : ℕ) (xs : List A) → ((x : A) → t x ≡ true → w x ≡ d)
     → sum_by (λ x. cond (t x) (w x) 0) xs ≡ count_by t xs * d
 same_weight t w d [] each = omega arith

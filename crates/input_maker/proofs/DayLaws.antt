@@ -3,11 +3,12 @@ use Rattle.std.proofs.Common.{ℕ, ◌+◌, ◌*◌, ◌≤◌, Bool, List, [], 
 use Rattle.std.specs.List.{AllByRecursion}
 use Rattle.std.proofs.lemmas.List.{get_or_append_left}
 use Rattle.std.proofs.lemmas.List.Elements.{recursion_from_All}
+use Rattle.script_reader.specs.Gathered.{script_at}
 use Rattle.books_model.specs.Scripts.{operations_of}
 use Rattle.books_model.specs.Interpreter.{outcome_of}
 use Rattle.books_model.proofs.Maps.Entries.{AllByRecursion-weaker, sum_by-most}
 use Rattle.script_reader.specs.declared.limits.TheConstants.{MOST_SCRIPTS}
-use Rattle.script_reader.specs.Input.{ClearingInput, count_scripts, script_at}
+use Rattle.script_reader.specs.Input.{ClearingInput, count_scripts}
 use Rattle.script_reader.specs.Journal.{Place, IsPlace, IsJournal}
 use Rattle.books_report.specs.Output.{books_after}
 use Rattle.books_report.proofs.Order.Turns.{length_of_journal, next_of_journal}
@@ -32,7 +33,7 @@ opening_day = record {
 
 -- the scripts of an input are made, and not too many
 record HasMade (input : ClearingInput) : Type 0 where
-  made : (p : Place) → IsPlace input p → IsMadeOnce (script_at input p.caller p.index)
+  made : (p : Place) → IsPlace input p → IsMadeOnce (script_at input.callers p.caller p.index)
   few : count_scripts input.callers ≤ MOST_SCRIPTS
 
 input_made : (seed callers scripts : ℕ) → AreForMake seed callers scripts → HasMade (made_input seed callers scripts)
@@ -44,8 +45,8 @@ input_made seed callers scripts h = record {
 module _ (input : ClearingInput) (h : HasMade input) where
   module _ (before behind : List Place) (j : IsJournal input (before ++ behind)) where
     -- the scripts in front of an order are made and not too many, and have so few deposits
-    front_made : AllByRecursion (λ p. IsMadeOnce (script_at input p.caller p.index)) before
-    front_made = recursion_from_All (λ p. IsMadeOnce (script_at input p.caller p.index)) before (λ k d less.
+    front_made : AllByRecursion (λ p. IsMadeOnce (script_at input.callers p.caller p.index)) before
+    front_made = recursion_from_All (λ p. IsMadeOnce (script_at input.callers p.caller p.index)) before (λ k d less.
         let there : IsPlace input (get_or before k d) =
         subst (IsPlace input) (get_or_append_left before behind d k less) (j.only k d (omega (arith, less, length-append before behind))) in
         h.made (get_or before k d) there)
@@ -55,8 +56,8 @@ module _ (input : ClearingInput) (h : HasMade input) where
 
     front_deposits : sum_by (deposits_at input) before ≤ length before * 300
     front_deposits = sum_by-most (deposits_at input) 300 before
-        (AllByRecursion-weaker (λ p. IsMadeOnce (script_at input p.caller p.index)) (λ p. deposits_at input p ≤ 300)
-        (λ p m. deposits_most m.0 (script_at input p.caller p.index) m.1) before front_made)
+        (AllByRecursion-weaker (λ p. IsMadeOnce (script_at input.callers p.caller p.index)) (λ p. deposits_at input p ≤ 300)
+        (λ p m. deposits_most m.0 (script_at input.callers p.caller p.index) m.1) before front_made)
 
     -- what they leave
     front_leaves : Leave (sum_by (deposits_at input) before) made_books (books_after input made_books before)
@@ -64,15 +65,15 @@ module _ (input : ClearingInput) (h : HasMade input) where
 
   -- and the script behind them
   next_goes : (before : List Place) (place : Place) (behind : List Place) → IsJournal input (before ++ place ∷ behind)
-      → (first : Bool) × IsMadeScript first (script_at input place.caller place.index)
+      → (first : Bool) × IsMadeScript first (script_at input.callers place.caller place.index)
       × IsOutcome first (deposits_at input place) (books_after input made_books before)
-      (outcome_of (script_at input place.caller place.index) (books_after input made_books before))
+      (outcome_of (script_at input.callers place.caller place.index) (books_after input made_books before))
   next_goes before place behind j =
       let made = h.made place (next_of_journal input before place behind j).left in
       let front = front_leaves before (place ∷ behind) j in (
         made.0,
         made.1,
-        script_goes made.0 (script_at input place.caller place.index) (books_after input made_books before) front.day
+        script_goes made.0 (script_at input.callers place.caller place.index) (books_after input made_books before) front.day
             (omega (arith, front.cash, opening_cash, front_deposits before (place ∷ behind) j, front_few before (place ∷ behind) j)) made.1,
       )
 
@@ -95,12 +96,12 @@ pub first_kind_is_done : FirstKindIsDone
 first_kind_is_done seed callers scripts before place behind s first =
     let input = made_input seed callers scripts in
     let next = next_goes input (input_made seed callers scripts s.range) before place behind s.journal in
-    next.2.done (kind_is next.0 (script_at input place.caller place.index) next.1 first)
+    next.2.done (kind_is next.0 (script_at input.callers place.caller place.index) next.1 first)
 
 pub second_kind_keeps_cash : SecondKindKeepsCash
 second_kind_keeps_cash seed callers scripts before place behind s second =
     let input = made_input seed callers scripts in
-    let script = script_at input place.caller place.index in
+    let script = script_at input.callers place.caller place.index in
     let next = next_goes input (input_made seed callers scripts s.range) before place behind s.journal in
     let none = deposits_none next.0 (operations_of script) next.1.each (kind_is_not next.0 script next.1 second) in
     omega (arith, next.2.left.cash, none)

@@ -2,6 +2,7 @@
 use Rattle.std.proofs.Common.{ap, ◌≡◌, ◌≢◌, ℕ, ◌+◌, ◌*◌, ◌≤◌, Bool, true, false, List, [], ◌∷◌, length, sum_by, refl, sym, subst, ◌∙◌, true≢false, arith}
 use Rattle.std.specs.List.{AllByRecursion}
 use Rattle.std.proofs.lemmas.List.Sums.{sum_by-cons}
+use Rattle.script_reader.specs.Gathered.{script_at}
 use Rattle.books_model.specs.declared.limits.TheConstants.{GREATEST_CASH}
 use Rattle.books_model.specs.declared.script.Op.{Op}
 use Rattle.books_model.specs.declared.script.Part.{Part}
@@ -18,7 +19,7 @@ use Rattle.books_model.specs.Laws.{all_cash, all_held}
 use Rattle.books_model.proofs.Scripts.Outcomes.{WhereEnds}
 use Rattle.books_model.proofs.Scripts.RangeLaws.{operation_for, run_stays}
 use Rattle.books_model.proofs.Scripts.SizeLaws.{run_keeps}
-use Rattle.script_reader.specs.Input.{ClearingInput, script_at}
+use Rattle.script_reader.specs.Input.{ClearingInput}
 use Rattle.script_reader.specs.Journal.{Place}
 use Rattle.books_report.specs.Output.{books_left, books_after}
 use Rattle.books_report.proofs.Order.Classes.{sums-same}
@@ -123,16 +124,17 @@ script_goes first script books h room m =
 module _ (input : ClearingInput) where
   -- the deposits of the script at a place
   abbrev pub deposits_at : Place → ℕ
-  deposits_at place = deposits_of (script_at input place.caller place.index)
+  deposits_at place = deposits_of (script_at input.callers place.caller place.index)
 
   -- made scripts, one after the other
   pub scripts_leave : (books : ClearingBooks) (places : List Place)
-      → AllByRecursion (λ p. IsMadeOnce (script_at input p.caller p.index)) places → AreOfDay books → all_cash books + length places * 300 ≤ GREATEST_CASH
+      → AllByRecursion (λ p. IsMadeOnce (script_at input.callers p.caller p.index)) places → AreOfDay books
+      → all_cash books + length places * 300 ≤ GREATEST_CASH
       → Leave (sum_by deposits_at places) books (books_after input books places)
   scripts_leave books [] each h room = leave_all books h
   scripts_leave books (p ∷ places) each h room =
       let made = each.0 in
-      let script = script_at input p.caller p.index in
+      let script = script_at input.callers p.caller p.index in
       let left = (script_goes made.0 script books h (omega (arith, room)) made.1).left in
       let more = scripts_leave (books_left input books p) places each.1 left.day (omega (arith, room, left.cash, deposits_most made.0 script made.1)) in
       leave_both (deposits_at p) (sum_by deposits_at places) (sum_by deposits_at (p ∷ places)) books

@@ -10,9 +10,9 @@ use Rattle.books_model.specs.declared.script.Part.{Part}
 use Rattle.books_model.specs.Scripts.{operations_of}
 use Rattle.input_maker.proofs.Listing.{lines_alone}
 use Rattle.books_model.proofs.Maps.Entries.{AllByRecursion-weaker, sum_by-most}
-use Rattle.script_reader.specs.declared.words.TheConstants.{SPACE, LINE_FEED}
-use Rattle.script_reader.specs.declared.version.Version.TheVariants.{One}
-use Rattle.script_reader.specs.Text.{line, number, header_line, account_line, price_line, position_line, books_lines, operation_words, script_lines}
+use Rattle.script_reader.specs.declared.text.words.TheConstants.{SPACE, LINE_FEED}
+use Rattle.script_reader.specs.declared.books.version.Version.TheVariants.{One}
+use Rattle.script_reader.specs.Text.{line, number, header_line, account_line, price_line, position_line, books_lines, books_operation_words, script_lines}
 use Rattle.script_reader.specs.Text.{scripts_line, end_line, finish_line}
 use Rattle.script_reader.specs.Input.{Submission}
 use Rattle.script_reader.specs.Grammar.{submission_lines}
@@ -89,7 +89,7 @@ lines_most : {X : Type 0} (write : X → List ℕ) (most : ℕ) (xs : List X)
 lines_most write most xs each = omega (arith, length-flat_map write xs, sum_by-most (λ x. length (write x)) most xs each)
 
 -- the line of an operation
-operation_short : (first : Bool) (o : Op) → IsMade first o → length (line (operation_words o)) ≤ 26
+operation_short : (first : Bool) (o : Op) → IsMade first o → length (line (books_operation_words o)) ≤ 26
 operation_short first o (made_deposit a x account amount) =
     let k : length (codes "deposit") ≡ 7 = refl in
     omega (arith, k, line3 (codes "deposit") (number a) (number x), three a (omega (arith, account.1)), three x (omega (arith, amount.1)))
@@ -132,11 +132,11 @@ operation_short first o (made_show a account) = let k : length (codes "show") �
 script_short : (script : List Part) → IsMadeOnce script → length (script_lines script) ≤ 78
 script_short script (first, made) =
     let ops = operations_of script in
-    let each = AllByRecursion-weaker (IsMade first) (λ o. length (line (operation_words o)) ≤ 26) (operation_short first) ops made.each in
+    let each = AllByRecursion-weaker (IsMade first) (λ o. length (line (books_operation_words o)) ≤ 26) (operation_short first) ops made.each in
     omega (
       arith,
       made.few,
-      lines_most (λ o. line (operation_words o)) 26 ops each,
+      lines_most (λ o. line (books_operation_words o)) 26 ops each,
       ap (λ parts. length (script_lines parts)) made.alone,
       ap length
           (lines_alone ops),

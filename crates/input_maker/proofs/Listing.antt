@@ -6,10 +6,10 @@ use Rattle.std.proofs.lemmas.List.Concat.{flat_map-append}
 use Rattle.std.proofs.lemmas.List.FromFn.{map-range_with_len_more}
 use Rattle.books_model.specs.declared.script.Op.{Op}
 use Rattle.books_model.specs.declared.script.Part.TheVariants as part
-use Rattle.script_reader.specs.Text.{end_line, line, operation_words, position_line, script_lines}
+use Rattle.script_reader.specs.Text.{end_line, line, books_operation_words, position_line, script_lines}
 use Rattle.script_reader.specs.Grammar.{submission_lines}
 use Rattle.input_maker.specs.Lines.{operation_lines}
-use Rattle.input_maker.specs.Generator.{state_after}
+use Rattle.input_maker.specs.Generator.{drawn_state}
 use Rattle.input_maker.specs.Made.{accounts_to, prices_to, positions_in, positions_to, operation_from, operations_from, state_after_operations}
 use Rattle.input_maker.specs.Made.{script_from, script_operations, state_after_script, state_of_script, made_submission, submissions_to}
 
@@ -83,7 +83,7 @@ pub states-none : (x : ℕ) → state_after_operations 0 x ≡ x
 unfolding state_after_operations
 states-none x = refl
 
-pub states-more : (n x : ℕ) → state_after_operations (n + 1) x ≡ state_after 5 (state_after_operations n x)
+pub states-more : (n x : ℕ) → state_after_operations (n + 1) x ≡ drawn_state 5 (state_after_operations n x)
 unfolding state_after_operations
 states-more n x = ap (λ m. state_after_operations m x) (add-one n)
 
@@ -106,7 +106,7 @@ scripts-more seed n = ap (state_of_script seed) (add-one n)
 -- the lines of a script without alternatives
 pub lines_alone : (ops : List Op) → script_lines (map part.One ops) ≡ operation_lines ops
 lines_alone [] = refl
-lines_alone (o ∷ ops) = ap (λ l. line (operation_words o) ++ l) (lines_alone ops)
+lines_alone (o ∷ ops) = ap (λ l. line (books_operation_words o) ++ l) (lines_alone ops)
 
 -- the text of a made script
 pub script_written : (name : List ℕ) (x : ℕ)

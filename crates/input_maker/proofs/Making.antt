@@ -16,13 +16,13 @@ use Rattle.books_model.specs.Scripts.{operations_of, alternatives_in}
 use Rattle.books_model.specs.Ranges.{IsWithin, IsOperationFor}
 use Rattle.books_model.proofs.Maps.Entries.{AllByRecursion-weaker, sum_by-most}
 use Rattle.script_reader.specs.Input.{Submission, first_seen, scripts_by, callers_of}
-use Rattle.input_maker.specs.Generator.{drawn, state_after}
+use Rattle.input_maker.specs.Generator.{drawn, drawn_state}
 use Rattle.input_maker.specs.Made.{made_books, first_kind, second_kind, operation_from, operations_from, script_from, script_operations}
 use Rattle.input_maker.specs.Made.{made_submission, submissions_to}
 use Rattle.input_maker.specs.Made.{state_of_script, state_after_operations}
 use Rattle.input_maker.specs.Days.{IsOfFirstKind, deposits_in, deposits_of, is_of_first_kind, paid_in_by}
 use Rattle.input_maker.proofs.Opening.{all_mapped}
-use Rattle.script_reader.specs.declared.version.Version.TheVariants.{One}
+use Rattle.script_reader.specs.declared.books.version.Version.TheVariants.{One}
 use Rattle.script_reader.specs.Versions.{amount_of}
 use Rattle.script_reader.specs.Inner.OfVersion.{IsOperationOf, IsScriptOf}
 
@@ -175,10 +175,10 @@ operation_made false t a b i q account other instrument amount =
 operation_from_made : (g x : ℕ) → IsMade (g == 0) (operation_from g x)
 unfolding operation_from
 operation_from_made g x =
-    operation_made (g == 0) (drawn 4 x) (1 + drawn 200 (state_after 1 x)) (1 + drawn 200 (state_after 2 x))
-    (1 + drawn 8 (state_after 3 x)) (1 + drawn 100 (state_after 4 x))
-    (within_one 200 (state_after 1 x) (omega arith)) (within_one 200 (state_after 2 x) (omega arith))
-    (within_one 8 (state_after 3 x) (omega arith)) (within_one 100 (state_after 4 x) (omega arith))
+    operation_made (g == 0) (drawn 4 x) (1 + drawn 200 (drawn_state 1 x)) (1 + drawn 200 (drawn_state 2 x))
+    (1 + drawn 8 (drawn_state 3 x)) (1 + drawn 100 (drawn_state 4 x))
+    (within_one 200 (drawn_state 1 x) (omega arith)) (within_one 200 (drawn_state 2 x) (omega arith))
+    (within_one 8 (drawn_state 3 x) (omega arith)) (within_one 100 (drawn_state 4 x) (omega arith))
 
 -- a script of such operations alone
 made_of : (first : Bool) (ops : List Op) → AllByRecursion (IsMade first) ops → 1 ≤ length ops → length ops ≤ 3 → IsMadeScript first (map part.One ops)
@@ -195,13 +195,13 @@ made_of first ops each some few =
 pub script_made : (x : ℕ) → IsMadeOnce (script_from x)
 unfolding script_from script_operations operations_from
 script_made x =
-    let make : ℕ → Op = λ k. operation_from (drawn 2 x) (state_after_operations k (state_after 2 x)) in
-    let count = length-map-range_with_len make 0 (1 + drawn 3 (state_after 1 x)) in (
+    let make : ℕ → Op = λ k. operation_from (drawn 2 x) (state_after_operations k (drawn_state 2 x)) in
+    let count = length-map-range_with_len make 0 (1 + drawn 3 (drawn_state 1 x)) in (
       drawn 2 x == 0,
-      made_of (drawn 2 x == 0) (map make (range_with_len 0 (1 + drawn 3 (state_after 1 x))))
-          (all_mapped (IsMade (drawn 2 x == 0)) make 0 (1 + drawn 3 (state_after 1 x)) (λ k low high.
-          operation_from_made (drawn 2 x) (state_after_operations k (state_after 2 x))))
-          (omega (arith, count)) (omega (arith, count, drawn_below 3 (state_after 1 x) (omega arith))),
+      made_of (drawn 2 x == 0) (map make (range_with_len 0 (1 + drawn 3 (drawn_state 1 x))))
+          (all_mapped (IsMade (drawn 2 x == 0)) make 0 (1 + drawn 3 (drawn_state 1 x)) (λ k low high.
+          operation_from_made (drawn 2 x) (state_after_operations k (drawn_state 2 x))))
+          (omega (arith, count)) (omega (arith, count, drawn_below 3 (drawn_state 1 x) (omega arith))),
     )
 
 -- what holds of each script of a text holds of each of its callers' scripts

@@ -13,10 +13,10 @@ use Rattle.std.proofs.lemmas.List.FromFn.{length-map-range_with_len}
 use Rattle.std.proofs.lemmas.List.{append-nil}
 use Rattle.books_model.specs.Books.{position_cmp, used}
 use Rattle.books_model.specs.Ranges.{IsWithin, AreInRange}
-use Rattle.script_reader.specs.declared.version.Version.TheVariants.{One}
+use Rattle.script_reader.specs.declared.books.version.Version.TheVariants.{One}
 use Rattle.script_reader.specs.Versions.{AreBooksWithin}
 use Rattle.script_reader.specs.Text.{books_lines, header_line, account_line, price_line, position_line}
-use Rattle.script_reader.proofs.Printing.Sections.{less_number}
+use Rattle.script_reader.proofs.books.Printing.Sections.{less_number}
 use Rattle.books_report.proofs.Outputs.Rows.{all_both}
 use Rattle.input_maker.specs.Made.{accounts_to, prices_to, positions_in, positions_to, made_books}
 

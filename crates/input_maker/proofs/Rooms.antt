@@ -13,7 +13,7 @@ use Rattle.books_model.specs.Inner.Draft.{set_position}
 use Rattle.books_model.proofs.Drafts.{used_position}
 use Rattle.books_model.proofs.Maps.Entries.{AllByRecursion-weaker, All-entries, weigh, sum_by-set_at}
 use Rattle.books_model.proofs.Maps.Trees.{positions_total, exact_positions, found_after_insert, stays_after_insert}
-use Rattle.script_reader.proofs.WithoutFault.BooksFaultless.{some_of}
+use Rattle.script_reader.proofs.books.WithoutFault.BooksFaultless.{some_of}
 use Rattle.books_report.proofs.Order.Classes.{sums, by_weights}
 use Rattle.input_maker.specs.Days.{all_quantities}
 use Rattle.input_maker.proofs.Classes.{numbers_most, pairs_most}
@@ -30,7 +30,7 @@ pub record AreOfDay (books : ClearingBooks) : Type 0 where
   pub instruments : books.instruments ≡ 8
   pub accounts : HasAccounts books.accounts
 
--- they are the same accounts where one of them has other cash
+-- they are the same accounts if one of them has other cash
 pub other_cash : (accounts : map.FinMap nat_cmp ℕ) (a cash : ℕ) → HasAccounts accounts → IsWithin 1 200 a → HasAccounts (map.insert accounts a cash)
 other_cash accounts a cash h within = record {
   only = λ q w found. elim (found_after_insert nat_cmp_total exact_unsigned accounts a q cash w found) [
@@ -62,7 +62,7 @@ module _ (books : ClearingBooks) (h : AreOfDay books) where
   pub not_full : is_full books ≡ false
   not_full = ne_eqb (used books) books.blocks (λ same. omega (arith, same, used_most, h.blocks))
 
-  -- also where a position was changed
+  -- also if a position was changed
   pub not_full_after : (a i quantity : ℕ) → is_full (put_position books a i quantity) ≡ false
   not_full_after a i quantity = elim (quantity == 0) as
       (λ t. is_full (record books { positions = cond t (map.remove books.positions (a, i)) (map.insert books.positions (a, i) quantity) }) ≡ false) [

@@ -27,7 +27,7 @@ gives : (first : Bool) (C : ClearingBooks → Type 0) (v : Value) (after : Clear
 unfolding Goes
 gives first C v after h = h
 
--- what is left to choose from where a test is known to fail
+-- what is left to choose from if a test is known to fail
 past : (first : Bool) (C : ClearingBooks → Type 0) (b : Bool) (x y : Step) → b ≡ false → Goes first C y → Goes first C (if b then x else y)
 past first C b x y fails h = subst (λ b. Goes first C (if b then x else y)) (sym fails) h
 

@@ -5,9 +5,10 @@ use Rattle.std.specs.List.{flat_map, range_with_len}
 use Rattle.std.proofs.lemmas.Bool.{and_parts}
 use Rattle.std.proofs.lemmas.List.Elements.{recursion_from_All}
 use Rattle.std.proofs.lemmas.List.Sums.{sum_by-cons, sum_by-append}
+use Rattle.script_reader.specs.Gathered.{caller_at, script_at}
 use Rattle.books_model.specs.declared.script.Part.{Part}
 use Rattle.books_model.specs.Laws.{all_cash}
-use Rattle.script_reader.specs.Input.{Caller, ClearingInput, caller_at, script_at}
+use Rattle.script_reader.specs.Input.{Caller, ClearingInput}
 use Rattle.script_reader.specs.Journal.{Place, IsJournal}
 use Rattle.books_report.proofs.Order.Classes.{sums-same, by_weights, sum_by_all}
 use Rattle.input_maker.specs.Made.{accounts_to, positions_in, positions_to, made_books}
@@ -17,36 +18,36 @@ use Rattle.input_maker.proofs.Classes.{same_weight}
 
 -- a sum over the scripts of an order is the sum over the callers' scripts
 pub sum_of_order : (input : ClearingInput) (w : List Part → ℕ) (order : List Place) → IsJournal input order
-    → sum_by (λ p. w (script_at input p.caller p.index)) order ≡ sum_by (λ c. sum_by w c.scripts) input.callers
+    → sum_by (λ p. w (script_at input.callers p.caller p.index)) order ≡ sum_by (λ c. sum_by w c.scripts) input.callers
 sum_of_order input w order j =
     by_weights (λ p. true) (λ p. p.caller) at (length input.callers) order
     (recursion_from_All (λ p. true ≡ true → p.caller < length input.callers) order (λ k d less yes. (j.only k d less).0))
-    ∙ sums-same (length input.callers) (λ c. sum_by (λ p. cond (p.caller == c) (at p) 0) order) (λ c. sum_by w (caller_at input c).scripts) each
+    ∙ sums-same (length input.callers) (λ c. sum_by (λ p. cond (p.caller == c) (at p) 0) order) (λ c. sum_by w (caller_at input.callers c).scripts) each
     ∙ sym (sum_by_all (λ (c : Caller). sum_by w c.scripts) (record { name = []; scripts = [] }) input.callers)
   where
     at : Place → ℕ
-    at p = w (script_at input p.caller p.index)
+    at p = w (script_at input.callers p.caller p.index)
 
-    one : (c i : ℕ) → c < length input.callers → i < length (caller_at input c).scripts
-        → sum_by (λ p. cond (p.caller == c && p.index == i) (at p) 0) order ≡ w (script_at input c i)
+    one : (c i : ℕ) → c < length input.callers → i < length (caller_at input.callers c).scripts
+        → sum_by (λ p. cond (p.caller == c && p.index == i) (at p) 0) order ≡ w (script_at input.callers c i)
     one c i within less =
-        same_weight (λ p. p.caller == c && p.index == i) at (w (script_at input c i)) order
+        same_weight (λ p. p.caller == c && p.index == i) at (w (script_at input.callers c i)) order
         (λ p both. let parts = and_parts (p.caller == c) (p.index == i) both in
-        λ t. w (script_at input (eqb-true p.caller c parts.0 t) (eqb-true p.index i parts.1 t)))
-        ∙ ap (λ n. n * w (script_at input c i)) (j.once (record { caller = c; index = i }) (within, less))
+        λ t. w (script_at input.callers (eqb-true p.caller c parts.0 t) (eqb-true p.index i parts.1 t)))
+        ∙ ap (λ n. n * w (script_at input.callers c i)) (j.once (record { caller = c; index = i }) (within, less))
         ∙ omega arith
 
-    each : (c : ℕ) → c < length input.callers → sum_by (λ p. cond (p.caller == c) (at p) 0) order ≡ sum_by w (caller_at input c).scripts
+    each : (c : ℕ) → c < length input.callers → sum_by (λ p. cond (p.caller == c) (at p) 0) order ≡ sum_by w (caller_at input.callers c).scripts
     each c within =
-        by_weights (λ p. p.caller == c) (λ p. p.index) at (length (caller_at input c).scripts) order
-        (recursion_from_All (λ p. (p.caller == c) ≡ true → p.index < length (caller_at input c).scripts) order
-        (λ k d less same. subst (λ x. (get_or order k d).index < length (caller_at input x).scripts)
+        by_weights (λ p. p.caller == c) (λ p. p.index) at (length (caller_at input.callers c).scripts) order
+        (recursion_from_All (λ p. (p.caller == c) ≡ true → p.index < length (caller_at input.callers c).scripts) order
+        (λ k d less same. subst (λ x. (get_or order k d).index < length (caller_at input.callers x).scripts)
         (eqb-true (get_or order k d).caller c same) (j.only k d less).1))
-        ∙ sums-same (length (caller_at input c).scripts)
-        (λ i. sum_by (λ p. cond (p.caller == c && p.index == i) (at p) 0) order) (λ i. w (script_at input c i)) (λ i less. one c i within less)
-        ∙ sym (sum_by_all w [] (caller_at input c).scripts)
+        ∙ sums-same (length (caller_at input.callers c).scripts)
+        (λ i. sum_by (λ p. cond (p.caller == c && p.index == i) (at p) 0) order) (λ i. w (script_at input.callers c i)) (λ i less. one c i within less)
+        ∙ sym (sum_by_all w [] (caller_at input.callers c).scripts)
 
--- a sum over what is made of the numbers of a row, where each adds as much
+-- a sum over what is made of the numbers of a row, if each adds as much
 sum_by-even : {X : Type 0} (f : X → ℕ) (make : ℕ → X) (each : ℕ) → ((k : ℕ) → f (make k) ≡ each) → (a n : ℕ)
     → sum_by f (map make (range_with_len a n)) ≡ n * each
 sum_by-even f make each is a zero = omega arith

@@ -2,6 +2,7 @@
 use Rattle.std.specs.Prelude.{◌≡◌, ◌≢◌, ℕ, ◌+◌, Bool, true, false, List, ◌∷◌, ◌++◌, sum_by}
 use Rattle.std.specs.List.{list_all}
 use Rattle.std.specs.FinMap as map
+use Rattle.script_reader.specs.Gathered.{script_at}
 use Rattle.books_model.specs.declared.script.Op.{Op}
 use Rattle.books_model.specs.declared.script.Op.TheVariants as op
 use Rattle.books_model.specs.declared.script.Part.{Part}
@@ -10,7 +11,7 @@ use Rattle.books_model.specs.declared.reply.Value.{Value}
 use Rattle.books_model.specs.declared.reply.Reply.TheVariants as reply
 use Rattle.books_model.specs.Books.{ClearingBooks}
 use Rattle.books_model.specs.Laws.{all_cash}
-use Rattle.script_reader.specs.Input.{ClearingInput, script_at}
+use Rattle.script_reader.specs.Input.{ClearingInput}
 use Rattle.script_reader.specs.Journal.{Place, IsJournal}
 use Rattle.books_report.specs.Output.{reply_to, books_left, books_after}
 use Rattle.input_maker.specs.Made.{made_books, made_input}
@@ -76,7 +77,7 @@ abbrev pub FirstKindIsDone : Type 0
 FirstKindIsDone =
     (seed callers scripts : ℕ) (before : List Place) (place : Place) (behind : List Place)
     → StandsIn seed callers scripts before place behind
-    → IsOfFirstKind (script_at (made_input seed callers scripts) place.caller place.index)
+    → IsOfFirstKind (script_at (made_input seed callers scripts).callers place.caller place.index)
     → (values : List Value)
     × (reply_to (made_input seed callers scripts) (books_at seed callers scripts before) place ≡ reply.Done values)
 
@@ -85,7 +86,7 @@ abbrev pub SecondKindKeepsCash : Type 0
 SecondKindKeepsCash =
     (seed callers scripts : ℕ) (before : List Place) (place : Place) (behind : List Place)
     → StandsIn seed callers scripts before place behind
-    → (¬ IsOfFirstKind (script_at (made_input seed callers scripts) place.caller place.index))
+    → (¬ IsOfFirstKind (script_at (made_input seed callers scripts).callers place.caller place.index))
     → all_cash (books_left (made_input seed callers scripts) (books_at seed callers scripts before) place)
     ≡ all_cash (books_at seed callers scripts before)
 

@@ -7,9 +7,9 @@ unfoldable pub next_state : ℕ → ℕ
 next_state x = (x * 1103515245 + 12345) % 2147483648
 
 -- the state after so many draws
-abbrev pub state_after : ℕ → ℕ → ℕ
-state_after zero x = x
-state_after (suc k) x = next_state (state_after k x)
+abbrev pub drawn_state : ℕ → ℕ → ℕ
+drawn_state zero x = x
+drawn_state (suc k) x = next_state (drawn_state k x)
 
 -- what a draw gives, a number below n, from the state before it
 unfoldable pub drawn : ℕ → ℕ → ℕ

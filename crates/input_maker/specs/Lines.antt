@@ -2,8 +2,8 @@
 use Rattle.std.specs.Prelude.{ℕ, List}
 use Rattle.std.specs.List.{flat_map}
 use Rattle.books_model.specs.declared.script.Op.{Op}
-use Rattle.script_reader.specs.Text.{line, operation_words}
+use Rattle.script_reader.specs.Text.{line, books_operation_words}
 
 -- operations, a line each
 abbrev pub operation_lines : List Op → List ℕ
-operation_lines ops = flat_map (λ o. line (operation_words o)) ops
+operation_lines ops = flat_map (λ o. line (books_operation_words o)) ops

@@ -7,10 +7,10 @@ use Rattle.books_model.specs.declared.script.Op.TheVariants as op
 use Rattle.books_model.specs.declared.script.Part.{Part}
 use Rattle.books_model.specs.declared.script.Part.TheVariants as part
 use Rattle.books_model.specs.Books.{ClearingBooks}
-use Rattle.script_reader.specs.declared.version.Version.TheVariants.{One}
+use Rattle.script_reader.specs.declared.books.version.Version.TheVariants.{One}
 use Rattle.script_reader.specs.Input.{ClearingInput, Submission, callers_of}
 use Rattle.script_reader.specs.Grammar.{input_text}
-use Rattle.input_maker.specs.Generator.{state_after, drawn}
+use Rattle.input_maker.specs.Generator.{drawn_state, drawn}
 
 -- accounts from 1 to n, with the cash that each has
 unfoldable pub accounts_to : ℕ → List (ℕ × ℕ)
@@ -65,13 +65,13 @@ made_operation g t a b i q = if g == 0 then first_kind t a b i q else second_kin
 -- the operation whose draws begin at a state
 unfoldable pub operation_from : ℕ → ℕ → Op
 operation_from g x =
-    made_operation g (drawn 4 x) (1 + drawn 200 (state_after 1 x)) (1 + drawn 200 (state_after 2 x))
-    (1 + drawn 8 (state_after 3 x)) (1 + drawn 100 (state_after 4 x))
+    made_operation g (drawn 4 x) (1 + drawn 200 (drawn_state 1 x)) (1 + drawn 200 (drawn_state 2 x))
+    (1 + drawn 8 (drawn_state 3 x)) (1 + drawn 100 (drawn_state 4 x))
 
 -- the state after so many operations, five draws each
 unfoldable pub state_after_operations : ℕ → ℕ → ℕ
 state_after_operations zero x = x
-state_after_operations (suc k) x = state_after 5 (state_after_operations k x)
+state_after_operations (suc k) x = drawn_state 5 (state_after_operations k x)
 
 -- so many operations of a script of kind g
 unfoldable pub operations_from : ℕ → ℕ → ℕ → List Op
@@ -79,18 +79,18 @@ operations_from g x n = map_list (λ k. operation_from g (state_after_operations
 
 -- how many operations the script has whose draws begin at a state: the first draw is its kind, the second is this
 abbrev pub count_from : ℕ → ℕ
-count_from x = 1 + drawn 3 (state_after 1 x)
+count_from x = 1 + drawn 3 (drawn_state 1 x)
 
 -- the script: these operations, and no alternatives
 unfoldable pub script_operations : ℕ → List Op
-script_operations x = operations_from (drawn 2 x) (state_after 2 x) (count_from x)
+script_operations x = operations_from (drawn 2 x) (drawn_state 2 x) (count_from x)
 
 unfoldable pub script_from : ℕ → List Part
 script_from x = map_list part.One (script_operations x)
 
 -- the state after it
 unfoldable pub state_after_script : ℕ → ℕ
-state_after_script x = state_after_operations (count_from x) (state_after 2 x)
+state_after_script x = state_after_operations (count_from x) (drawn_state 2 x)
 
 -- the state at which the script with a number begins, from 0
 unfoldable pub state_of_script : ℕ → ℕ → ℕ

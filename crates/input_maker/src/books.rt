@@ -4,12 +4,12 @@ ghost use Rattle.std.specs.Prelude.{◌≡◌, ◌++◌, OnOk};
 ghost use Rattle.std.specs.String.{string_bytes};
 ghost use Rattle.std.specs.List.{flat_map};
 ghost use Rattle.books_model.specs.Books.{empty_books};
-ghost use Rattle.script_reader.specs.declared.version.Version.TheVariants.{One};
+ghost use Rattle.script_reader.specs.declared.books.version.Version.TheVariants.{One};
 ghost use Rattle.script_reader.specs.Text.{account_line, books_lines, header_line, position_line, price_line};
 ghost use Rattle.input_maker.specs.Made.{accounts_to, made_books, positions_in, positions_to, prices_to};
 
 use books_report::books::{write_account, write_position, write_price};
-use script_reader::decimal::write_size;
+use script_reader::text::decimal::write_size;
 use std::alloc::AllocError;
 
 const BLOCKS: u32 = 4_096;

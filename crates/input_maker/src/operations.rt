@@ -2,8 +2,8 @@
 
 ghost use Rattle.std.specs.Prelude.{◌≡◌, ◌+◌, ◌*◌, ◌<◌, ◌++◌, OnOk};
 ghost use Rattle.std.specs.String.{string_bytes};
-ghost use Rattle.script_reader.specs.Text.{line, operation_words};
-ghost use Rattle.input_maker.specs.Generator.{state_after};
+ghost use Rattle.script_reader.specs.Text.{line, books_operation_words};
+ghost use Rattle.input_maker.specs.Generator.{drawn_state};
 ghost use Rattle.input_maker.specs.Made.{first_kind, made_operation, operation_from, second_kind};
 
 use crate::books::{ACCOUNTS, INSTRUMENTS};
@@ -52,7 +52,7 @@ fn operation_of(kind: u32, which: u32, account: u32, other: u32, instrument: u32
 // The next operation of a script of this kind.
 #[tactic(auto, unfolding(crate::specs::Made::operation_from))]
 pub(crate) fn next_operation(generator: &mut Generator, kind: u32) -> Op
-    ensures state { generator.new.state ≡ state_after 5 generator.old.state }
+    ensures state { generator.new.state ≡ drawn_state 5 generator.old.state }
     ensures operation { result ≡ operation_from kind generator.old.state }
 {
     let which = generator.draw(4);
@@ -66,7 +66,7 @@ pub(crate) fn next_operation(generator: &mut Generator, kind: u32) -> Op
 // Appends the line of an operation.
 pub(crate) fn write_operation(text: &mut String, operation: Op) -> Result<(), AllocError>
     ensures { OnOk result
-        (string_bytes text.new ≡ string_bytes text.old ++ line (operation_words operation)) }
+        (string_bytes text.new ≡ string_bytes text.old ++ line (books_operation_words operation)) }
 {
     match operation {
         Op::OpenAccount(account) => write!(text, "open {account}\n"),

@@ -10,6 +10,6 @@ next_count n = min (n + 1) LAST_COUNT
 abbrev pub Rose : ℕ → ℕ → Type 0
 Rose before now = (before < now) ⊎ (now ≡ LAST_COUNT)
 
--- a call failed only where its object's count of faults rose in it
+-- a call failed only if its object's count of faults rose in it
 abbrev pub HasCause : {A E : Type 0} → Result A E → ℕ → ℕ → Type 0
 HasCause result before now = OnErr result (Rose before now)

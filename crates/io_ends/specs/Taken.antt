@@ -2,7 +2,7 @@
 use Rattle.std.specs.Prelude.{ℕ, ◌-◌, ◌≤◌, List, length, take, Option, Some, None}
 use Rattle.std.specs.Io.KnownBytes.{Appends, Consumes}
 
--- how many bytes were taken, where they are told
+-- how many bytes were taken, if they are told
 abbrev pub count_taken : Option (List ℕ) → Option (List ℕ) → Option ℕ
 count_taken (Some before) (Some now) = Some (length before - length now)
 count_taken (Some before) None = None

@@ -66,7 +66,7 @@ impl From<AllocError> for ReadStop {
 pub fn read_all<S: Source>(alloc: Global, source: &mut S, limit: usize) -> Result<Vec<u8>, ReadStop>
     requires { limit ≤ GREATEST_READ_LIMIT }
 
-    // What `Ok` gives: all that was left, where it is told, and never more than the limit.
+    // What `Ok` gives: all that was left, if it is told, and never more than the limit.
     ensures bytes { IfOk result (λ bytes.
         Consumes (S.left source.old) (S.left source.new) bytes.items) }
     ensures end { OnOk result (IsAtEnd (S.left source.new)) }

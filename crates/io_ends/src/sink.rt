@@ -8,7 +8,7 @@ use crate::source::Failed;
 
 /// A stream of bytes that is written at its end.
 pub trait Sink {
-    /// The bytes that it has taken, where the sink tells them.
+    /// The bytes that it has taken, if the sink tells them.
     ghost taken: { Self → Option (List ℕ) };
 
     /// How many faults there were. It never falls, and stands still at its last value.

@@ -21,7 +21,7 @@ impl Error for Failed {}
 
 /// A stream of bytes that is read from its start.
 pub trait Source {
-    /// The bytes that are left, where the source tells them.
+    /// The bytes that are left, if the source tells them.
     ghost left: { Self → Option (List ℕ) };
 
     /// How many faults there were. It never falls, and stands still at its last value.

@@ -49,7 +49,7 @@ impl<T: Read> Source for StdSource<T> {
 
     ghost reads = { λ s. s.reads };
 
-    /// One read of the reader: the bytes that it gave, or the end where it gave none. Each of its errors is a fault.
+    /// One read of the reader: the bytes that it gave, or the end if it gave none. Each of its errors is a fault.
     fn read(&mut self, buf: &mut [u8]) -> Result<usize, Failed>
         ensures bound { IfOk result (λ n. n ≤ length buf.new) }
         ensures bytes { ReadConsumes None None result buf.new }
@@ -57,7 +57,7 @@ impl<T: Read> Source for StdSource<T> {
         ensures faults { self.old.faults ≤ self.new.faults }
         ensures reads { self.new.reads ≡ next_count self.old.reads }
 
-        // The reader lost exactly the bytes that were given, none of them after a failure; and it is at its end where
+        // The reader lost exactly the bytes that were given, none of them after a failure; and it is at its end if
         // none were given although there was room.
         ensures inner { ReadConsumes (T.remaining self.old.inner) (T.remaining self.new.inner)
             result buf.new }

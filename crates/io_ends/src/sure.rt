@@ -1,5 +1,5 @@
 //! A source and a sink that never fail: bytes in memory, and a sink that takes every piece and keeps none. Their count of
-//! faults is the constant 0, so that it cannot rise, and nothing that is said where it rose can come. Neither takes memory.
+//! faults is the constant 0, so that it cannot rise, and nothing that is said if it rose can come. Neither takes memory.
 
 ghost use Rattle.std.specs.Prelude.{◌≡◌};
 

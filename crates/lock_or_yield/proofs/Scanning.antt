@@ -14,7 +14,7 @@ use Rattle.word_table.specs.Calls.{GrantsStay, ScannedBy}
 use Rattle.word_table.specs.Unscanned.{IsUnscanned}
 use Rattle.lock_or_yield.specs.Turns.{ScansClear}
 
--- 1 where seat j is another and was not found clear for the claim on lock k
+-- 1 if seat j is another and was not found clear for the claim on lock k
 abbrev pub left_at : ℕ → ℕ → List ℕ → List (ℕ × ℕ) → ℕ
 left_at j k who scans = if has j who || has_pair k j scans then 0 else 1
 

@@ -257,7 +257,7 @@ turned a i (judged.Yield stamp) old met r new none seat has asked grants e waits
     subst (λ (x : Tried). Turned a old met x new) (sym e)
     (yielded a (record { seat = i; stamp = stamp }) old met new none seat has asked grants (yields (record { seat = i; stamp = stamp }) e).1)
 
--- the timestamp was drawn, where there was none, and shown
+-- the timestamp was drawn, if there was none, and shown
 shown_view : (met drawn shown : View) → drawn ≡ record met { stamp = drawn.stamp; draws = draws_once met }
     → shown ≡ record drawn { announced = true } → shown ≡ record met { stamp = shown.stamp; announced = true; draws = draws_once met }
 shown_view met drawn shown draws shows =

@@ -38,7 +38,7 @@ gains_on_twice k old mid new f s = (
   λ l j is. ⊎_elim (λ (t : IsIn (l, j) f.0). f.2 l j t) (λ (t : IsIn (l, j) s.0). s.2 l j t) (in_either f.0 s.0 (l, j) is),
 )
 
--- nothing was gained in two turns where nothing was gained in each
+-- nothing was gained in two turns if nothing was gained in each
 none_twice : (old mid new m w : List (ℕ × ℕ)) → mid ≡ old ++ m → new ≡ mid ++ w → new ≡ old → (mid ≡ old) × (new ≡ mid)
 none_twice old mid new m w e f same =
     let all : length new ≡ length old = ap (λ (l : List (ℕ × ℕ)). length l) same in
@@ -194,7 +194,7 @@ module _ {S : Type 0} (shapes : Shapes S) (desk : DeskView S) (i : Intent) (a : 
     bounded = λ cause e. subst (λ (n : ℕ). AreRestartsBounded desk.seats n new) (ap number on) (h.bounded cause e);
   }
 
-  -- where asking once met nobody it is all
+  -- if asking once met nobody it is all
   pub since_clear : (new : View) → old.met ≡ [] → ComesTo i (RuleHolds shapes desk) a old None new → AsksSince shapes desk i a old got.Granted new
   since_clear new none once = let t = turn_clear shapes desk i a old new none once in
       record { asks = t.asks; locks = t.locks; judged = t.judged; answer = ends_granted new t.turn }

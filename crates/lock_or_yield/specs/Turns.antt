@@ -1,4 +1,4 @@
--- What one turn of asking for a lock does: where it meets a seat, it judges that seat, and answers what this came to.
+-- What one turn of asking for a lock does: if it meets a seat, it judges that seat, and answers what this came to.
 use Rattle.std.specs.Prelude.{◌≡◌, ◌≢◌, ◌⊎◌, ℕ, ◌<◌, true, List, [], ◌∷◌, ◌++◌, Some}
 use Rattle.history_model.specs.declared.event.Cause.{Cause}
 use Rattle.history_model.specs.declared.view.View.{View}
@@ -17,7 +17,7 @@ use Rattle.lock_or_yield.specs.declared.turn.Tried.{Tried}
 use Rattle.lock_or_yield.specs.declared.turn.Tried.TheVariants as tried
 use Rattle.lock_or_yield.specs.Asking.{draws_once, with_locks}
 
--- what a turn comes to that met seat j, where judge answers this of it
+-- what a turn comes to that met seat j, if judge answers this of it
 abbrev pub tried_of : ℕ → Judged → Tried
 tried_of j judged.Wait = tried.Wait j
 tried_of j (judged.Yield stamp) = tried.Yield (record { seat = j; stamp = stamp })
@@ -36,7 +36,7 @@ abbrev pub IsReadStep : ℕ → ℕ → View → (View → Action) → View → 
 IsReadStep k j before action asking =
     (a : ℕ) × (lock_of_word a ≡ k) × (action ≡ load_writer_action (number before) k a) × (asking ≡ with_bit k a before)
 
--- and by such a step one that writes: a claim of the writer word, or a scan of the seat's row, where the seat is the
+-- and by such a step one that writes: a claim of the writer word, or a scan of the seat's row, if the seat is the
 -- least that is left to scan
 abbrev pub IsWriteStep : ℕ → ℕ → View → (View → Action) → View → Type 0
 IsWriteStep k j before action asking = (asking ≡ before) × (

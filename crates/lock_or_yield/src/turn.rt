@@ -32,7 +32,7 @@ pub enum Tried {
     Wait(u32),
 }
 
-// Draws a timestamp, where the call has none.
+// Draws a timestamp, if the call has none.
 fn draw_once<S: Shape>(desk: &Desk<S>, pass: &mut Pass<S>)
     requires desk { pass.old.table ≡ desk.now.table }
     requires phase { pass.old.view.phase ≡ Phase.Running }
@@ -50,7 +50,7 @@ fn draw_once<S: Shape>(desk: &Desk<S>, pass: &mut Pass<S>)
     }
 }
 
-// Shows the call's timestamp to the others, where it is not shown.
+// Shows the call's timestamp to the others, if it is not shown.
 fn announce_once<S: Shape>(desk: &Desk<S>, pass: &mut Pass<S>)
     requires desk { pass.old.table ≡ desk.now.table }
     requires phase { pass.old.view.phase ≡ Phase.Running }
@@ -173,7 +173,7 @@ pub(crate) fn try_to<S: Shape>(desk: &Desk<S>, pass: &mut Pass<S>, a: u64, inten
     }
 }
 
-/// One turn of asking for the lock of word a, to read it. The read bit stays set where the turn waits.
+/// One turn of asking for the lock of word a, to read it. The read bit stays set if the turn waits.
 pub fn try_read<S: Shape>(desk: &Desk<S>, pass: &mut Pass<S>, a: u64) -> Tried
     requires desk { pass.old.table ≡ desk.now.table }
     requires phase { pass.old.view.phase ≡ Phase.Running }
@@ -190,7 +190,7 @@ pub fn try_read<S: Shape>(desk: &Desk<S>, pass: &mut Pass<S>, a: u64) -> Tried
 }
 
 /// One turn of asking for the lock of word a, to write it. The lock is claimed, and the other seats are scanned for
-/// it, up to the first that is met. A claim stays where the turn waits, and the next turn goes on from there.
+/// it, up to the first that is met. A claim stays if the turn waits, and the next turn goes on from there.
 pub fn try_write<S: Shape>(desk: &Desk<S>, pass: &mut Pass<S>, a: u64) -> Tried
     requires desk { pass.old.table ≡ desk.now.table }
     requires phase { pass.old.view.phase ≡ Phase.Running }

@@ -61,7 +61,7 @@ store_version_action j k x v = record {
   view = λ w. record v { owed = without k v.owed };
 }
 
--- the claim of lock k is given up, where no version of it is owed
+-- the claim of lock k is given up, if no version of it is owed
 pub record MayReleaseUnowed (j k : ℕ) (v : View) : Type 0 where
   pub releases : MayReleaseWriter j k v
   pub unowed : has k v.owed ≡ false

@@ -117,7 +117,7 @@ fn has_none(pass: &Pass<Triple>) -> bool
     pass.next_bit().is_none()
 }
 
-// Gives up the claim on this lock, where it is the pass's least, and tells whether it was the last lock.
+// Gives up the claim on this lock, if it is the pass's least, and tells whether it was the last lock.
 fn give_up(desk: &Desk<Triple>, pass: &mut Pass<Triple>, lock: u32) -> bool
     requires desk { (pass.old.table ≡ desk.now.table) × (length pass.old.view.base ≡ 3) }
     requires yields { (pass.old.view.phase ≡ Phase.Yielding) × (pass.old.view.undo ≡ []) }

@@ -30,7 +30,7 @@ fn open_many(
     Ok((desk, passes, last))
 }
 
-// The words that a desk leaves. Where no memory is found for them it is closed again, with the passes that came back.
+// The words that a desk leaves. If no memory is found for them it is closed again, with the passes that came back.
 fn close_all(
     alloc: Global,
     desk: Desk<Pair>,
@@ -69,7 +69,7 @@ fn write_or_not<R: Wait>(
     Ok(())
 }
 
-// The words that are left of 3 and 4 where of so many passes the last writes, or does nothing, and the others do nothing.
+// The words that are left of 3 and 4 if of so many passes the last writes, or does nothing, and the others do nothing.
 fn left_by<R: Wait>(
     rt: &R,
     alloc: Global,

@@ -43,7 +43,7 @@ fn added_to(alloc: Global) -> Result<Option<u64>, Fail> {
 // Amounts that are added to 10, whether all of them fit, and what the job leaves.
 const AMOUNTS: &[(&[u64], bool, u64)] = &[(&[3, 4], true, 17), (&[3, u64::MAX], false, 13)];
 
-// What 3 and 4, or else 2, are added to. Where 3 fits and 4 does not, 3 is taken back.
+// What 3 and 4, or else 2, are added to. If 3 fits and 4 does not, 3 is taken back.
 const PAIRS: &[(u64, bool, u64)] = &[
     (10, true, 17),
     (u64::MAX - 7, true, u64::MAX),

@@ -237,7 +237,7 @@ fn meet<R: Threads + Wait + Sync>(
     Ok((restarts, gate.yielded.load(), same))
 }
 
-// Of two that write both words one gives way once, also where whoever has the left word tries to write the right one,
+// Of two that write both words one gives way once, also if whoever has the left word tries to write the right one,
 // for which the other holds the lock, and takes it back when it has it. Two that read hold both locks at once.
 #[test]
 fn of_two_calls_that_cross_one_gives_way_once(rt: HostRuntime) {

@@ -108,7 +108,7 @@ fn is_answered(desk: &Desk<Wide>, pass: &mut Pass<Wide>, call: &Call) -> bool
     }
 }
 
-// The number of the first call that answers otherwise, where the passes make them by turns, each the one with its number.
+// The number of the first call that answers otherwise, if the passes make them by turns, each the one with its number.
 fn first_wrong(
     desk: &Desk<Wide>,
     zero: &mut Pass<Wide>,

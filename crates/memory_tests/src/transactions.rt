@@ -128,7 +128,7 @@ fn run_steps<R: Wait>(
     Ok((ended, words))
 }
 
-// What a call is to tell: its number, its answer, and the locks that it used, where they are few.
+// What a call is to tell: its number, its answer, and the locks that it used, if they are few.
 #[derive(Clone, Copy)]
 struct Told<'a> {
     call: u32,
@@ -136,7 +136,7 @@ struct Told<'a> {
     uses: Option<&'a [LockUse]>,
 }
 
-// Whether a call told this, without a restart; or found no memory, where it is to tell nothing.
+// Whether a call told this, without a restart; or found no memory, if it is to tell nothing.
 fn is_told(ended: &Option<Receipt<u64>>, wanted: &Option<Told<'_>>) -> bool {
     match (ended, wanted) {
         (None, None) => true,
@@ -212,7 +212,7 @@ fn two_words_of_one_lock_in_one_transaction(rt: HostRuntime) {
     assert!(rt; matches!(ended, Ok(true)));
 }
 
-// Where the call finds no memory, it has no entry and left no word.
+// If the call finds no memory, it has no entry and left no word.
 fn is_written_or_not<R: Wait>(rt: &R, alloc: Global) -> Result<bool, OutOfMemory> {
     let (ended, words) = run_steps(rt, alloc, &[Step::Write])?;
     let written = are_told(ended.as_slice(), TWO) && are_left(words.as_slice(), TWO_LEFT);

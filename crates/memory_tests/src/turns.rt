@@ -95,7 +95,7 @@ fn release(desk: &Desk<Pair>, pass: &mut Pass<Pair>) -> bool
     pass.next_bit().is_none()
 }
 
-// Releases both claims and ends the call, where no lock is left.
+// Releases both claims and ends the call, if no lock is left.
 fn end(desk: &Desk<Pair>, pass: &mut Pass<Pair>) -> bool
     requires desk { pass.old.table ≡ desk.now.table }
     requires ended { (pass.old.view.phase ≡ Phase.Releasing) × (pass.old.view.undo ≡ []) }

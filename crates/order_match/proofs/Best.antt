@@ -14,7 +14,7 @@ use Rattle.order_text.specs.Orders.{is_on, prices_on}
 use Rattle.order_text.proofs.Members.{Has, has_mapped, mapped_has}
 use Rattle.order_text.proofs.Serving.{none_tie, serving_total}
 use Rattle.order_text.proofs.Sorting.{has_in_order, in_order_has, in_order_sorted}
-use Rattle.order_match.specs.Layout.{key_of, price_in, side_at}
+use Rattle.order_match.specs.Layout.{resting_key, price_in, side_at}
 use Rattle.order_match.specs.Standing.{quantities_on}
 use Rattle.order_match.specs.Access.{best_on, first_in, first_of}
 use Rattle.order_match.proofs.Books.{price_told}
@@ -91,7 +91,7 @@ module _ (instrument : ℕ) (buys : Bool) (orders : List Resting) (are : AreOrde
       cmp = serving_cmp buys
 
       at : (rs : List Resting) → in_order (serving_cmp buys) on ≡ rs
-          → price_first buys (first_of (map (λ (r : Resting). (key_of r, r.quantity)) rs)) ≡ best_on instrument buys orders
+          → price_first buys (first_of (map (λ (r : Resting). (resting_key r, r.quantity)) rs)) ≡ best_on instrument buys orders
       at [] is = sym (best_none buys refl (nothing on (λ r h. subst (Has r) is (has_in_order (serving_cmp buys) (serving_total buys) on r h))))
         where
           nothing : (rs : List Resting) → ((r : Resting) → Has r rs → ⊥) → rs ≡ []
@@ -101,7 +101,7 @@ module _ (instrument : ℕ) (buys : Bool) (orders : List Resting) (are : AreOrde
           let mine : Has p on = in_order_has (serving_cmp buys) (serving_total buys) on p (subst (Has p) (sym is) (inl refl)) in
           let fit = (on_orders instrument buys orders are).fit p mine in
           let same = side_is instrument buys orders are p mine in
-          ap (λ b. price_in b (key_of p)) (sym same) ∙ price_told p fit
+          ap (λ b. price_in b (resting_key p)) (sym same) ∙ price_told p fit
           ∙ sym (best_at buys refl p mine (λ r h. ⊎_elim (λ (e : r ≡ p). inl e)
           (λ t. inr (sorted_first (serving_cmp buys) p rs (subst (IsStrictlySortedBy (serving_cmp buys)) is
           (in_order_sorted (serving_cmp buys) (serving_total buys) on (none_tie buys on (on_orders instrument buys orders are).rising))) r t))

@@ -13,17 +13,17 @@ use Rattle.order_text.proofs.Entering.{unique_numbers}
 use Rattle.order_text.proofs.Members.{Has, has_filtered, filtered_has}
 use Rattle.txn_alloc.specs.EntryMaps.{Entries}
 use Rattle.order_match.specs.declared.layout.TheConstants.{HALF}
-use Rattle.order_match.specs.Layout.{key_at, key_of, number_in, place_of, price_in, side_of}
+use Rattle.order_match.specs.Layout.{key_at, resting_key, number_in, place_of, price_in, side_of}
 use Rattle.order_match.specs.Standing.{Held, held_of, places_of, quantities_on}
 use Rattle.order_match.specs.Access.{with_places, with_side}
 use Rattle.order_match.proofs.Keyed.{first_has, first_is, get_map, map_of, map_with, map_without}
 use Rattle.order_match.proofs.Served.{AreOrders, Fits, filter_alike, filter_twice}
 
 -- what a key and a place tell
-pub number_told : (r : Resting) → Fits r → number_in (key_of r) ≡ r.number
+pub number_told : (r : Resting) → Fits r → number_in (resting_key r) ≡ r.number
 number_told r fit = let low = fit.number in omega arith
 
-pub price_told : (r : Resting) → Fits r → price_in r.buys (key_of r) ≡ r.price
+pub price_told : (r : Resting) → Fits r → price_in r.buys (resting_key r) ≡ r.price
 price_told r fit = at r.buys
   where
     at : (b : Bool) → price_in b (key_at b r.price r.number) ≡ r.price
@@ -36,7 +36,7 @@ side_told r fit = let p = fit.price in omega arith
 pub price_there : (r : Resting) → Fits r → place_of r % HALF ≡ r.price
 price_there r fit = let p = fit.price in omega arith
 
-pub keys_number : (x y : Resting) → Fits x → Fits y → key_of x ≡ key_of y → x.number ≡ y.number
+pub keys_number : (x y : Resting) → Fits x → Fits y → resting_key x ≡ resting_key y → x.number ≡ y.number
 keys_number x y p q e = sym (number_told x p) ∙ (ap number_in e ∙ number_told y q)
 
 -- tests in either order
@@ -88,10 +88,10 @@ module _ (orders : List Resting) (are : AreOrders orders) where
   pub on_has : (side : ℕ) (x : Resting) → Has x (filter (on_side_of side) orders) → Has x orders × (side_of x ≡ side)
   on_has side x h = let t = has_filtered (on_side_of side) orders x h in (t.0, eqb-true (side_of x) side t.1)
 
-  pub quantity_found : (r : Resting) → Has r orders → finite.get (quantities_on (side_of r) orders) (key_of r) ≡ Some r.quantity
-  quantity_found r h = get_map key_of (λ (x : Resting). x.quantity) (key_of r) (filter (on_side_of (side_of r)) orders)
+  pub quantity_found : (r : Resting) → Has r orders → finite.get (quantities_on (side_of r) orders) (resting_key r) ≡ Some r.quantity
+  quantity_found r h = get_map resting_key (λ (x : Resting). x.quantity) (resting_key r) (filter (on_side_of (side_of r)) orders)
       ∙ ap (option_map (λ (x : Resting). x.quantity))
-      (first_is key_of (λ (x : Resting). x.quantity) (key_of r) r (filter (on_side_of (side_of r)) orders)
+      (first_is resting_key (λ (x : Resting). x.quantity) (resting_key r) r (filter (on_side_of (side_of r)) orders)
       (filtered_has (on_side_of (side_of r)) orders r h (eq-eqb (side_of r) (side_of r) refl)) refl
       (λ x k e. let t = on_has (side_of r) x k in unique x r t.0 h (keys_number x r (are.fit x t.0) (are.fit r h) e)))
 
@@ -100,17 +100,17 @@ module _ (orders : List Resting) (are : AreOrders orders) where
     pub places_without : places_of (all_but r.number orders) ≡ finite.remove (places_of orders) r.number
     places_without = map_without (λ (x : Resting). x.number) place_of r.number orders
 
-    pub side_without : quantities_on (side_of r) (all_but r.number orders) ≡ finite.remove (quantities_on (side_of r) orders) (key_of r)
-    side_without = ap (λ (rs : List Resting). map_of key_of (λ (x : Resting). x.quantity) rs)
+    pub side_without : quantities_on (side_of r) (all_but r.number orders) ≡ finite.remove (quantities_on (side_of r) orders) (resting_key r)
+    side_without = ap (λ (rs : List Resting). map_of resting_key (λ (x : Resting). x.quantity) rs)
         (filter_swap (on_side_of (side_of r)) (λ x. not (x.number == r.number)) orders
-        ∙ filter_alike (λ x. not (x.number == r.number)) (λ x. not (key_of x == key_of r)) (filter (on_side_of (side_of r)) orders)
-        (λ x k. let t = on_has (side_of r) x k in ap not (both_ways (x.number == r.number) (key_of x == key_of r)
-        (λ e. eq-eqb (key_of x) (key_of r) (ap key_of (unique x r t.0 h (eqb-true x.number r.number e))))
-        (λ e. eq-eqb x.number r.number (keys_number x r (are.fit x t.0) (are.fit r h) (eqb-true (key_of x) (key_of r) e))))))
-        ∙ map_without key_of (λ (x : Resting). x.quantity) (key_of r) (filter (on_side_of (side_of r)) orders)
+        ∙ filter_alike (λ x. not (x.number == r.number)) (λ x. not (resting_key x == resting_key r)) (filter (on_side_of (side_of r)) orders)
+        (λ x k. let t = on_has (side_of r) x k in ap not (both_ways (x.number == r.number) (resting_key x == resting_key r)
+        (λ e. eq-eqb (resting_key x) (resting_key r) (ap resting_key (unique x r t.0 h (eqb-true x.number r.number e))))
+        (λ e. eq-eqb x.number r.number (keys_number x r (are.fit x t.0) (are.fit r h) (eqb-true (resting_key x) (resting_key r) e))))))
+        ∙ map_without resting_key (λ (x : Resting). x.quantity) (resting_key r) (filter (on_side_of (side_of r)) orders)
 
     pub sides_without : (side : ℕ) → side ≢ side_of r → quantities_on side (all_but r.number orders) ≡ quantities_on side orders
-    sides_without side ne = ap (λ (rs : List Resting). map_of key_of (λ (x : Resting). x.quantity) rs)
+    sides_without side ne = ap (λ (rs : List Resting). map_of resting_key (λ (x : Resting). x.quantity) rs)
         (filter_swap (on_side_of side) (λ x. not (x.number == r.number)) orders
         ∙ filter_all (λ x. not (x.number == r.number)) (filter (on_side_of side) orders)
         (λ x k. let t = on_has side x k in ap not (ne_eqb x.number r.number (λ e. ne (sym t.1 ∙ ap side_of (unique x r t.0 h e))))))
@@ -120,15 +120,15 @@ module _ (orders : List Resting) (are : AreOrders orders) where
     pub places_with : places_of (orders ++ r ∷ []) ≡ finite.insert (places_of orders) r.number (place_of r)
     places_with = map_with (λ (x : Resting). x.number) place_of r orders new
 
-    pub side_with : quantities_on (side_of r) (orders ++ r ∷ []) ≡ finite.insert (quantities_on (side_of r) orders) (key_of r) r.quantity
-    side_with = ap (λ (rs : List Resting). map_of key_of (λ (x : Resting). x.quantity) rs)
+    pub side_with : quantities_on (side_of r) (orders ++ r ∷ []) ≡ finite.insert (quantities_on (side_of r) orders) (resting_key r) r.quantity
+    side_with = ap (λ (rs : List Resting). map_of resting_key (λ (x : Resting). x.quantity) rs)
         (filter-append (on_side_of (side_of r)) orders (r ∷ [])
         ∙ ap (λ b. filter (on_side_of (side_of r)) orders ++ cond b (r ∷ []) []) (eq-eqb (side_of r) (side_of r) refl))
-        ∙ map_with key_of (λ (x : Resting). x.quantity) r (filter (on_side_of (side_of r)) orders)
+        ∙ map_with resting_key (λ (x : Resting). x.quantity) r (filter (on_side_of (side_of r)) orders)
         (λ x k e. let t = on_has (side_of r) x k in new x t.0 (keys_number x r (are.fit x t.0) fit e))
 
     pub sides_with : (side : ℕ) → side ≢ side_of r → quantities_on side (orders ++ r ∷ []) ≡ quantities_on side orders
-    sides_with side ne = ap (λ (rs : List Resting). map_of key_of (λ (x : Resting). x.quantity) rs)
+    sides_with side ne = ap (λ (rs : List Resting). map_of resting_key (λ (x : Resting). x.quantity) rs)
         (filter-append (on_side_of side) orders (r ∷ [])
         ∙ (ap (λ b. filter (on_side_of side) orders ++ cond b (r ∷ []) []) (ne_eqb (side_of r) side (λ e. ne (sym e)))
         ∙ append-nil (filter (on_side_of side) orders)))
@@ -145,18 +145,18 @@ one_side side entries held sides here there t = dite (ℕ_discrete t side)
 
 -- what is held after an order was taken out
 pub held_without : (book : OrderBook) → AreOrders book.orders → (r : Resting) → Has r book.orders
-    → with_side (side_of r) (finite.remove (quantities_on (side_of r) book.orders) (key_of r))
+    → with_side (side_of r) (finite.remove (quantities_on (side_of r) book.orders) (resting_key r))
     (with_places (finite.remove (places_of book.orders) r.number) (held_of book))
     ≡ held_of (record book { orders = all_but r.number book.orders })
 held_without book are r h = held_by refl (sym (places_without book.orders are r h))
-    (one_side (side_of r) (finite.remove (quantities_on (side_of r) book.orders) (key_of r)) (held_of book)
+    (one_side (side_of r) (finite.remove (quantities_on (side_of r) book.orders) (resting_key r)) (held_of book)
     (λ t. quantities_on t (all_but r.number book.orders)) (side_without book.orders are r h) (sides_without book.orders are r h))
 
 -- and after one was put in
 pub held_with : (book : OrderBook) → AreOrders book.orders → (r : Resting) → ((x : Resting) → Has x book.orders → x.number ≢ r.number) → Fits r
     → with_places (finite.insert (places_of book.orders) r.number (place_of r))
-    (with_side (side_of r) (finite.insert (quantities_on (side_of r) book.orders) (key_of r) r.quantity) (held_of book))
+    (with_side (side_of r) (finite.insert (quantities_on (side_of r) book.orders) (resting_key r) r.quantity) (held_of book))
     ≡ held_of (record book { orders = book.orders ++ r ∷ [] })
 held_with book are r new fit = held_by refl (sym (places_with book.orders are r new fit))
-    (one_side (side_of r) (finite.insert (quantities_on (side_of r) book.orders) (key_of r) r.quantity) (held_of book)
+    (one_side (side_of r) (finite.insert (quantities_on (side_of r) book.orders) (resting_key r) r.quantity) (held_of book)
     (λ t. quantities_on t (book.orders ++ r ∷ [])) (side_with book.orders are r new fit) (sides_with book.orders are r new fit))

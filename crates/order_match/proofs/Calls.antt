@@ -19,7 +19,7 @@ use Rattle.txn_stores.proofs.Maps.{remove_absent}
 use Rattle.txn_stores.proofs.Turning.{Saw, Turns}
 use Rattle.order_match.specs.declared.shape.OrderShape.{OrderShape}
 use Rattle.order_match.specs.declared.layout.TheConstants.{HALF}
-use Rattle.order_match.specs.Layout.{key_at, key_of, place_of, side_at, side_of}
+use Rattle.order_match.specs.Layout.{key_at, resting_key, place_of, side_at, side_of}
 use Rattle.order_match.specs.Standing.{Held, HasParts, HasSomeParts, IsGoodFor, Stands, held_of, places_of, quantities_on}
 use Rattle.order_match.specs.Access.{best_on, first_in, quantity_at, with_places, with_side, without_order}
 use Rattle.order_match.proofs.Best.{best_first, price_first}
@@ -47,7 +47,7 @@ module _ (shape : OrderShape) where
       books_kept shape.instruments (op.Cancel number) book (without_order number book) (value.Cancelled r.quantity) is range
       (ap (λ o. with_order o (λ order. Gives (value.Cancelled order.quantity) (without_order number book))) there)
 
-  -- no order is told where there is no place
+  -- no order is told if there is no place
   no_order : (number : ℕ) (book : OrderBook) → IsBookOf shape.instruments book → None ≡ finite.get (places_of book.orders) number
       → order_at number book.orders ≡ None
   no_order number book is none = none_of (order_at number book.orders) (none ∙ place_found book.orders (orders_of shape.instruments book is) number)
@@ -120,7 +120,7 @@ module _ (shape : OrderShape) where
       ap (λ p. p % HALF) (sym told.place_is) ∙ price_there r ((orders_of shape.instruments book is).fit r told.there)
 
   key_there : (number place instrument : ℕ) (buys : Bool) → side_at instrument buys ≡ place / HALF → 1 ≤ instrument → (book : OrderBook) (r : Resting)
-      → IsBookOf shape.instruments book → IsTold number place book r → key_at buys (place % HALF) number ≡ key_of r
+      → IsBookOf shape.instruments book → IsTold number place book r → key_at buys (place % HALF) number ≡ resting_key r
   key_there number place instrument buys side low book r is told =
       let same = place_side number place instrument buys book r is told side low in
       let price = place_price number place book r is told in
@@ -221,7 +221,7 @@ module _ (shape : OrderShape) where
           side_is book stand = let k = told_of book stand in let same = place_side number place instrument buys book k.0 stand.book_is k.1 side low in
               λ i. side_at (same.0 i) (same.1 i)
 
-          key_is : (book : OrderBook) (stand : Stands shape x book) → key_at buys (place % HALF) number ≡ key_of (told_of book stand).0
+          key_is : (book : OrderBook) (stand : Stands shape x book) → key_at buys (place % HALF) number ≡ resting_key (told_of book stand).0
           key_is book stand =
               let k = told_of book stand in key_there number place instrument buys side low book k.0 stand.book_is k.1
 

@@ -92,7 +92,7 @@ module _ (shape : OrderShape) (buys : Bool) (instrument price quantity : ℕ) (l
     some_number : (book.last == GREATEST_ORDER) ≡ false
     some_number = not_greatest book.last (next_is book.last number told).1
 
-    -- the step, where it is known whether there is room
+    -- the step, if it is known whether there is room
     step_by : (b : Bool) → (nat_lt 0 left && nat_lt book.blocks (blocks_of matched.orders + 2)) ≡ b
         → enter_next book (incoming book buys instrument price quantity)
         ≡ (if b then step.Full else Gives (value.Entered number trades) (entered order matched book))
@@ -152,7 +152,8 @@ module _ (shape : OrderShape) (buys : Bool) (instrument price quantity : ℕ) (l
         let trades_are = m.trades_are book stand in
         let left_is = m.left_is book stand in
         let others = subst (λ (l : List ℕ). Stands shape l (traded book)) (sym t.same) (m.others_are book stand) in
-        let room = turned (nat_lt 0 left && nat_lt book.blocks (blocks_of (match_of (order_with number) book.orders).orders + 2)) (r.answer (traded book) others) in (
+        let room = turned (nat_lt 0 left && nat_lt book.blocks (blocks_of (match_of (order_with number) book.orders).orders + 2))
+        (r.answer (traded book) others) in (
           entered (order_with number) (match_of (order_with number) book.orders) book,
           gives number left trades book stand.book_is told trades_are left_is room,
           stands_entered number left trades book stand.book_is told trades_are left_is w stand.blocks_are room

@@ -22,7 +22,7 @@ use Rattle.txn_stores.proofs.Turning.{Turns}
 use Rattle.order_match.specs.declared.shape.OrderShape.{OrderShape}
 use Rattle.order_match.specs.declared.layout.Side.{Side}
 use Rattle.order_match.specs.declared.layout.TheConstants.{HALF}
-use Rattle.order_match.specs.Layout.{key_of, number_in, place_of, price_in, side_at, side_of, sides_of}
+use Rattle.order_match.specs.Layout.{resting_key, number_in, place_of, price_in, side_at, side_of, sides_of}
 use Rattle.order_match.specs.Standing.{Held, HasParts, IsGoodFor, Stands, held_of, places_of, quantities_on}
 use Rattle.order_match.specs.Access.{entries_in, first_in, first_of, is_used_up, put_answer, put_by, with_places, with_side}
 use Rattle.order_match.specs.Trading.{MatchesOrder, PutsOrder, RestsOrder, after_trade, next_number}
@@ -37,7 +37,7 @@ use Rattle.order_match.proofs.Served.{AreOrders, Fits, orders_of}
 use Rattle.order_match.proofs.Sums.{sum_changed}
 use Rattle.order_match.proofs.Whole.{entries_counted, side_in_range}
 
--- the next number, where one is left
+-- the next number, if one is left
 pub next_some : (last : ℕ) → last < GREATEST_ORDER → Some (last + 1) ≡ next_number last
 next_some last lt = let test : nat_lt last GREATEST_ORDER ≡ true = grind (arith, nat_tests) in sym (ap (λ b. cond b (Some (last + 1)) None) test)
 
@@ -125,7 +125,8 @@ module _ (shape : OrderShape) where
 
     -- and is filled
     pub filled_all : p.quantity ≤ left → (a b : Option ℕ) → Turns (HasParts shape) (λ held last. (mid : Held)
-        × ((a ≡ finite.get (held.sides (side_of p)) (key_of p)) × (mid ≡ with_side (side_of p) (finite.remove (held.sides (side_of p)) (key_of p)) held))
+        × ((a ≡ finite.get (held.sides (side_of p)) (resting_key p)) ×
+        (mid ≡ with_side (side_of p) (finite.remove (held.sides (side_of p)) (resting_key p)) held))
         × (b ≡ finite.get mid.places p.number)
         × (last ≡ with_places (finite.remove mid.places p.number) mid)) x y
         → Changes (Stands shape) (after_trade (trade_with left p)) x y
@@ -145,16 +146,16 @@ module _ (shape : OrderShape) where
 
     -- or has less
     pub filled_partly : left < p.quantity → (put : Put)
-        → TellsAndChanges (HasParts shape) (λ held. put_answer (finite.get (held.sides (side_of p)) (key_of p)) (is_used_up shape held))
-        (λ held. with_side (side_of p) (put_by put (key_of p) (p.quantity - left) (held.sides (side_of p))) held) put x y
+        → TellsAndChanges (HasParts shape) (λ held. put_answer (finite.get (held.sides (side_of p)) (resting_key p)) (is_used_up shape held))
+        (λ held. with_side (side_of p) (put_by put (resting_key p) (p.quantity - left) (held.sides (side_of p))) held) put x y
         → Changes (Stands shape) (after_trade (trade_with left p)) x y
     filled_partly lt put t book stand =
         let are = are_of book stand.book_is in
         let old : put ≡ Old p.quantity = t.told (held_of book) stand.parts
         ∙ ap (λ o. put_answer o (is_used_up shape (held_of book))) (quantity_found book.orders are p (here book stand)) in
-        let last_is : with_side (side_of p) (put_by put (key_of p) (p.quantity - left) (quantities_on (side_of p) book.orders)) (held_of book)
+        let last_is : with_side (side_of p) (put_by put (resting_key p) (p.quantity - left) (quantities_on (side_of p) book.orders)) (held_of book)
         ≡ held_of (partly (trade_with left p ∷ []) book) =
-        ap (λ u. with_side (side_of p) (put_by u (key_of p) (p.quantity - left) (quantities_on (side_of p) book.orders)) (held_of book)) old
+        ap (λ u. with_side (side_of p) (put_by u (resting_key p) (p.quantity - left) (quantities_on (side_of p) book.orders)) (held_of book)) old
         ∙ held_partly shape.instruments book stand.book_is p (here book stand) left lt in
         stands_as y book (orders_after (trade_with left p ∷ []) book.orders) (map (after_trades (trade_with left p ∷ [])) book.orders)
         (partly_next p book.orders are (have_quantity shape.instruments book stand.book_is) p (here book stand) left lt)
@@ -266,10 +267,10 @@ module _ (shape : OrderShape) (order : Resting) (instrument : IsWithin 1 shape.i
   side_below : side_of order < sides_of shape
   side_below = side_in_range shape.instruments order instrument
 
-  absent : (book : OrderBook) → Stands shape x book → finite.get (quantities_on (side_of order) book.orders) (key_of order) ≡ None
-  absent book stand = get_map key_of (λ (r : Resting). r.quantity) (key_of order) (filter (λ (r : Resting). side_of r == side_of order) book.orders)
+  absent : (book : OrderBook) → Stands shape x book → finite.get (quantities_on (side_of order) book.orders) (resting_key order) ≡ None
+  absent book stand = get_map resting_key (λ (r : Resting). r.quantity) (resting_key order) (filter (λ (r : Resting). side_of r == side_of order) book.orders)
       ∙ ap (option_map (λ (r : Resting). r.quantity))
-      (first_none key_of (λ (r : Resting). r.quantity) (key_of order) (filter (λ (r : Resting). side_of r == side_of order) book.orders)
+      (first_none resting_key (λ (r : Resting). r.quantity) (resting_key order) (filter (λ (r : Resting). side_of r == side_of order) book.orders)
       (λ r h e. let t = (has_filtered (λ (z : Resting). side_of z == side_of order) book.orders r h).0 in
       fresh book stand r t (keys_number r order ((orders_of shape.instruments book stand.book_is).fit r t) fit e)))
 
@@ -284,8 +285,8 @@ module _ (shape : OrderShape) (order : Resting) (instrument : IsWithin 1 shape.i
   used_most book stand = omega (arith, counted shape x (held_of book) stand.parts)
 
   -- its first key found no block
-  pub rests_not : TellsAndChanges (HasParts shape) (λ held. put_answer (finite.get (held.sides (side_of order)) (key_of order)) (is_used_up shape held))
-      (λ held. with_side (side_of order) (put_by Full (key_of order) order.quantity (held.sides (side_of order))) held) Full x y
+  pub rests_not : TellsAndChanges (HasParts shape) (λ held. put_answer (finite.get (held.sides (side_of order)) (resting_key order)) (is_used_up shape held))
+      (λ held. with_side (side_of order) (put_by Full (resting_key order) order.quantity (held.sides (side_of order))) held) Full x y
       → PutsOrder shape order false x y
   rests_not t = record {
     answer = λ book stand.
@@ -299,12 +300,12 @@ module _ (shape : OrderShape) (order : Resting) (instrument : IsWithin 1 shape.i
 
   -- its second key was put too, or found none
   module _ (first second : Put) (had : first ≢ Full) (t : Turns (HasParts shape) (λ held last. (mid : Held)
-      × ((first ≡ put_answer (finite.get (held.sides (side_of order)) (key_of order)) (is_used_up shape held))
-      × (mid ≡ with_side (side_of order) (put_by first (key_of order) order.quantity (held.sides (side_of order))) held))
+      × ((first ≡ put_answer (finite.get (held.sides (side_of order)) (resting_key order)) (is_used_up shape held))
+      × (mid ≡ with_side (side_of order) (put_by first (resting_key order) order.quantity (held.sides (side_of order))) held))
       × (second ≡ put_answer (finite.get mid.places order.number) (is_used_up shape mid))
       × (last ≡ with_places (put_by second order.number (place_of order) mid.places) mid)) x y) where
     abbrev with_key : OrderBook → Held
-    with_key book = with_side (side_of order) (finite.insert (quantities_on (side_of order) book.orders) (key_of order) order.quantity) (held_of book)
+    with_key book = with_side (side_of order) (finite.insert (quantities_on (side_of order) book.orders) (resting_key order) order.quantity) (held_of book)
 
     first_was : (book : OrderBook) (stand : Stands shape x book) → (first ≡ New) × (is_used_up shape (held_of book) ≡ false)
     first_was book stand = new_answer first (is_used_up shape (held_of book)) had
@@ -312,18 +313,18 @@ module _ (shape : OrderShape) (order : Resting) (instrument : IsWithin 1 shape.i
 
     mid_is : (book : OrderBook) (stand : Stands shape x book) → (t.at (held_of book) stand.parts).2.0 ≡ with_key book
     mid_is book stand = (t.at (held_of book) stand.parts).2.1.1
-        ∙ ap (λ u. with_side (side_of order) (put_by u (key_of order) order.quantity (quantities_on (side_of order) book.orders)) (held_of book))
+        ∙ ap (λ u. with_side (side_of order) (put_by u (resting_key order) order.quantity (quantities_on (side_of order) book.orders)) (held_of book))
         (first_was book stand).0
 
     more_used : (book : OrderBook) → Stands shape x book → entries_in shape (with_key book) ≡ entries_in shape (held_of book) + 1
     more_used book stand =
         let m = quantities_on (side_of order) book.orders in
-        let longer = len_after_insert nat_cmp_total m (key_of order) order.quantity (absent book stand) in
-        let here : finite.len ((with_key book).sides (side_of order)) ≡ finite.len (finite.insert m (key_of order) order.quantity) =
-        ap (λ b. finite.len (cond b (finite.insert m (key_of order) order.quantity) m)) (eq-eqb (side_of order) (side_of order) refl) in
+        let longer = len_after_insert nat_cmp_total m (resting_key order) order.quantity (absent book stand) in
+        let here : finite.len ((with_key book).sides (side_of order)) ≡ finite.len (finite.insert m (resting_key order) order.quantity) =
+        ap (λ b. finite.len (cond b (finite.insert m (resting_key order) order.quantity) m)) (eq-eqb (side_of order) (side_of order) refl) in
         let sums = sum_changed 0 (sides_of shape) (side_of order) (λ side. finite.len ((with_key book).sides side))
         (λ side. finite.len (quantities_on side book.orders))
-        (λ side ne. ap (λ b. finite.len (cond b (finite.insert m (key_of order) order.quantity) (quantities_on side book.orders)))
+        (λ side ne. ap (λ b. finite.len (cond b (finite.insert m (resting_key order) order.quantity) (quantities_on side book.orders)))
         (ne_eqb side (side_of order) ne))
         (omega arith) (omega (arith, side_below)) in
         omega (arith, longer, here, sums)

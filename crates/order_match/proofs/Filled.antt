@@ -20,7 +20,7 @@ use Rattle.order_text.specs.Orders.{OrderBook, by_number}
 use Rattle.order_text.specs.Ranges.{IsBookOf, IsRestingOrder}
 use Rattle.order_text.proofs.Members.{Has, filtered_has, has_mapped, of_all, of_each, of_every, of_one}
 use Rattle.txn_stores.proofs.Maps.{inserted_here, inserted_there}
-use Rattle.order_match.specs.Layout.{key_of, place_of, side_of}
+use Rattle.order_match.specs.Layout.{resting_key, place_of, side_of}
 use Rattle.order_match.specs.Standing.{held_of, quantities_on}
 use Rattle.order_match.specs.Access.{with_side}
 use Rattle.order_match.proofs.Books.{held_by, keys_number, on_has, one_side, unique}
@@ -120,58 +120,58 @@ module _ (instruments : ℕ) (book : OrderBook) (is : IsBookOf instruments book)
   abbrev left_of : Resting → ℕ
   left_of r = (after_trades trades r).quantity
 
-  entries_map : (rs : List Resting) → map {B = ℕ × ℕ} (λ (r : Resting). (key_of r, r.quantity)) (map (after_trades trades) rs)
-      ≡ map (λ (r : Resting). (key_of r, left_of r)) rs
+  entries_map : (rs : List Resting) → map {B = ℕ × ℕ} (λ (r : Resting). (resting_key r, r.quantity)) (map (after_trades trades) rs)
+      ≡ map (λ (r : Resting). (resting_key r, left_of r)) rs
   entries_map [] = refl
-  entries_map (r ∷ rs) = ap (λ (es : List (ℕ × ℕ)). (key_of r, left_of r) ∷ es) (entries_map rs)
+  entries_map (r ∷ rs) = ap (λ (es : List (ℕ × ℕ)). (resting_key r, left_of r) ∷ es) (entries_map rs)
 
   abbrev on : ℕ → List Resting
   on side = filter (λ (r : Resting). side_of r == side) book.orders
 
-  quantities_map : (side : ℕ) → quantities_on side (map (after_trades trades) book.orders) ≡ map_of key_of left_of (on side)
+  quantities_map : (side : ℕ) → quantities_on side (map (after_trades trades) book.orders) ≡ map_of resting_key left_of (on side)
   quantities_map side = ap (λ (es : List (ℕ × ℕ)). finite.from_entries {R = nat_cmp} es)
-      (ap (map {B = ℕ × ℕ} (λ (r : Resting). (key_of r, r.quantity))) (filter_map side book.orders) ∙ entries_map (on side))
+      (ap (map {B = ℕ × ℕ} (λ (r : Resting). (resting_key r, r.quantity))) (filter_map side book.orders) ∙ entries_map (on side))
 
   -- an entry of another key has what it had
-  same_found : (q : ℕ) (rs : List Resting) → ((r : Resting) → Has r rs → key_of r ≡ q → left_of r ≡ r.quantity)
-      → option_map left_of (first (λ r. key_of r == q) rs) ≡ option_map (λ (r : Resting). r.quantity) (first (λ r. key_of r == q) rs)
+  same_found : (q : ℕ) (rs : List Resting) → ((r : Resting) → Has r rs → resting_key r ≡ q → left_of r ≡ r.quantity)
+      → option_map left_of (first (λ r. resting_key r == q) rs) ≡ option_map (λ (r : Resting). r.quantity) (first (λ r. resting_key r == q) rs)
   same_found q [] same = refl
-  same_found q (r ∷ rs) same = at (key_of r == q) refl (same_found q rs (λ x h. same x (inr h)))
+  same_found q (r ∷ rs) same = at (resting_key r == q) refl (same_found q rs (λ x h. same x (inr h)))
     where
-      at : (b : Bool) → (key_of r == q) ≡ b
-          → option_map left_of (first (λ x. key_of x == q) rs) ≡ option_map (λ (x : Resting). x.quantity) (first (λ x. key_of x == q) rs)
-          → option_map left_of (cond b (Some r) (first (λ x. key_of x == q) rs))
-          ≡ option_map (λ (x : Resting). x.quantity) (cond b (Some r) (first (λ x. key_of x == q) rs))
-      at true e rest = ap Some (same r (inl refl) (eqb-true (key_of r) q e))
+      at : (b : Bool) → (resting_key r == q) ≡ b
+          → option_map left_of (first (λ x. resting_key x == q) rs) ≡ option_map (λ (x : Resting). x.quantity) (first (λ x. resting_key x == q) rs)
+          → option_map left_of (cond b (Some r) (first (λ x. resting_key x == q) rs))
+          ≡ option_map (λ (x : Resting). x.quantity) (cond b (Some r) (first (λ x. resting_key x == q) rs))
+      at true e rest = ap Some (same r (inl refl) (eqb-true (resting_key r) q e))
       at false e rest = rest
 
   side_partly : quantities_on (side_of p) (map (after_trades trades) book.orders)
-      ≡ finite.insert (quantities_on (side_of p) book.orders) (key_of p) (p.quantity - left)
+      ≡ finite.insert (quantities_on (side_of p) book.orders) (resting_key p) (p.quantity - left)
   side_partly = quantities_map (side_of p)
-      ∙ finite.same_map nat_cmp_total nat_cmp-IsAntisymmetric (map_of key_of left_of (on (side_of p)))
-      (finite.insert (quantities_on (side_of p) book.orders) (key_of p) (p.quantity - left))
-      (λ q. get_map key_of left_of q (on (side_of p)) ∙ dite (ℕ_discrete q (key_of p))
-      (λ e. subst (λ z. option_map left_of (first (λ r. key_of r == z) (on (side_of p)))
-      ≡ finite.get (finite.insert (quantities_on (side_of p) book.orders) (key_of p) (p.quantity - left)) z) (sym e)
-      (ap (option_map left_of) (first_is key_of left_of (key_of p) p (on (side_of p))
+      ∙ finite.same_map nat_cmp_total nat_cmp-IsAntisymmetric (map_of resting_key left_of (on (side_of p)))
+      (finite.insert (quantities_on (side_of p) book.orders) (resting_key p) (p.quantity - left))
+      (λ q. get_map resting_key left_of q (on (side_of p)) ∙ dite (ℕ_discrete q (resting_key p))
+      (λ e. subst (λ z. option_map left_of (first (λ r. resting_key r == z) (on (side_of p)))
+      ≡ finite.get (finite.insert (quantities_on (side_of p) book.orders) (resting_key p) (p.quantity - left)) z) (sym e)
+      (ap (option_map left_of) (first_is resting_key left_of (resting_key p) p (on (side_of p))
       (filtered_has (λ (r : Resting). side_of r == side_of p) book.orders p here (eq-eqb (side_of p) (side_of p) refl)) refl
       (λ r h same. let t = on_has book.orders are (side_of p) r h in one_is r t.0 (keys_number r p (are.fit r t.0) (are.fit p here) same)))
-      ∙ (ap Some less ∙ sym (inserted_here (quantities_on (side_of p) book.orders) (key_of p) (p.quantity - left)))))
+      ∙ (ap Some less ∙ sym (inserted_here (quantities_on (side_of p) book.orders) (resting_key p) (p.quantity - left)))))
       (λ ne. same_found q (on (side_of p)) (λ r h same. let t = on_has book.orders are (side_of p) r h in
-      ap (λ (x : Resting). x.quantity) (others r (λ e. ne (sym same ∙ ap key_of (one_is r t.0 e)))))
-      ∙ sym (inserted_there (quantities_on (side_of p) book.orders) (key_of p) (p.quantity - left) q ne
-      ∙ get_map key_of (λ (r : Resting). r.quantity) q (on (side_of p)))))
+      ap (λ (x : Resting). x.quantity) (others r (λ e. ne (sym same ∙ ap resting_key (one_is r t.0 e)))))
+      ∙ sym (inserted_there (quantities_on (side_of p) book.orders) (resting_key p) (p.quantity - left) q ne
+      ∙ get_map resting_key (λ (r : Resting). r.quantity) q (on (side_of p)))))
 
   sides_partly : (side : ℕ) → side ≢ side_of p → quantities_on side (map (after_trades trades) book.orders) ≡ quantities_on side book.orders
   sides_partly side ne = quantities_map side
-      ∙ finite.same_map nat_cmp_total nat_cmp-IsAntisymmetric (map_of key_of left_of (on side)) (quantities_on side book.orders)
-      (λ q. get_map key_of left_of q (on side)
+      ∙ finite.same_map nat_cmp_total nat_cmp-IsAntisymmetric (map_of resting_key left_of (on side)) (quantities_on side book.orders)
+      (λ q. get_map resting_key left_of q (on side)
       ∙ (same_found q (on side) (λ r h same. let t = on_has book.orders are side r h in
       ap (λ (x : Resting). x.quantity) (others r (λ e. ne (sym t.1 ∙ ap side_of (one_is r t.0 e)))))
-      ∙ sym (get_map key_of (λ (r : Resting). r.quantity) q (on side))))
+      ∙ sym (get_map resting_key (λ (r : Resting). r.quantity) q (on side))))
 
-  pub held_partly : with_side (side_of p) (finite.insert (quantities_on (side_of p) book.orders) (key_of p) (p.quantity - left)) (held_of book)
+  pub held_partly : with_side (side_of p) (finite.insert (quantities_on (side_of p) book.orders) (resting_key p) (p.quantity - left)) (held_of book)
       ≡ held_of (partly trades book)
   held_partly = held_by refl (sym (ap (λ (es : List (ℕ × ℕ)). finite.from_entries {R = nat_cmp} es) (places_stay book.orders)))
-      (one_side (side_of p) (finite.insert (quantities_on (side_of p) book.orders) (key_of p) (p.quantity - left)) (held_of book)
+      (one_side (side_of p) (finite.insert (quantities_on (side_of p) book.orders) (resting_key p) (p.quantity - left)) (held_of book)
       (λ t. quantities_on t (map (after_trades trades) book.orders)) side_partly sides_partly)

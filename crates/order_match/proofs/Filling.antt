@@ -130,7 +130,7 @@ module _ (order : Resting) (now : List Resting) (are : AreOrders now) (all : Hav
   unique : (x y : Resting) → Has x now → Has y now → x.number ≡ y.number → x ≡ y
   unique = unique_numbers now are.rising
 
-  -- where nobody is left to trade with, or nothing to trade, it is done
+  -- if nobody is left to trade with, or nothing to trade, it is done
   pub match_ends : (left : ℕ) → (left ≡ 0) ⊎ (partners order now ≡ []) → match_of (with_left left order) now ≡ record { trades = []; left = left; orders = now }
   match_ends left ends =
       let none : trades_down left (partners order now) ≡ [] = elim ends [

@@ -104,7 +104,7 @@ module _ {X : Type 0} (key value : X → ℕ) where
       ∙ finite.from_entries_push nat_cmp_total nat_cmp-IsAntisymmetric (map (λ y. (key y, value y)) xs) (key x) (value x)
       (found_by (key x) xs ∙ ap (option_map value) (first_none (key x) xs new))
 
-  -- as many entries as items, where no two have one key
+  -- as many entries as items, if no two have one key
   abbrev pub HaveKeys : List X → Type 0
   HaveKeys [] = Unit {0}
   HaveKeys (x ∷ xs) = ((y : X) → Has y xs → key y ≢ key x) × HaveKeys xs

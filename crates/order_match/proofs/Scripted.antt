@@ -15,7 +15,7 @@ use Rattle.txn_stores.proofs.Turning.{Saw}
 use Rattle.order_match.specs.declared.shape.OrderShape.{OrderShape}
 use Rattle.order_match.specs.Standing.{Stands}
 use Rattle.order_match.specs.Access.{best_on, quantity_at, without_order}
-use Rattle.order_match.specs.Operating.{Steps}
+use Rattle.order_match.specs.Operating.{MeetsStep}
 use Rattle.order_match.proofs.Books.{none_taken}
 
 module _ (shape : OrderShape) (x y : List ℕ) where
@@ -32,7 +32,7 @@ module _ (shape : OrderShape) (x y : List ℕ) where
 
   pub cancelled_steps : (number quantity : ℕ)
       → TellsAndChanges (Stands shape) (λ book. quantity_at number book.orders) (without_order number) (Some quantity) x y
-      → Steps shape (op.Cancel number) (outcome.Gives (value.Cancelled quantity)) x y
+      → MeetsStep shape (op.Cancel number) (outcome.Gives (value.Cancelled quantity)) x y
   cancelled_steps number quantity t = record {
     comes = λ book stand. (
       without_order number book,
@@ -42,7 +42,7 @@ module _ (shape : OrderShape) (x y : List ℕ) where
   }
 
   pub absent_steps : (number : ℕ) → TellsAndChanges (Stands shape) (λ book. quantity_at number book.orders) (without_order number) None x y
-      → Steps shape (op.Cancel number) outcome.Absent x y
+      → MeetsStep shape (op.Cancel number) outcome.Absent x y
   absent_steps number t = record {
     comes = λ book stand. (
       book,
@@ -60,7 +60,7 @@ module _ (shape : OrderShape) (x y : List ℕ) where
 
   pub best_steps : (instrument buy sell : ℕ)
       → Saw (Stands shape) (λ book. (buy ≡ best_on instrument true book.orders) × (sell ≡ best_on instrument false book.orders)) x y
-      → Steps shape (op.Best instrument) (outcome.Gives (value.Prices buy sell)) x y
+      → MeetsStep shape (op.Best instrument) (outcome.Gives (value.Prices buy sell)) x y
   best_steps instrument buy sell saw = record {
     comes = λ book stand. let k = saw.saw book stand in (
       book,

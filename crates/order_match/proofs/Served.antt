@@ -23,7 +23,7 @@ use Rattle.order_text.proofs.Prices.{on_is, is_on_true}
 use Rattle.order_text.proofs.Serving.{none_tie, serving_total}
 use Rattle.order_text.proofs.Sorting.{in_order_has, has_in_order, in_order_sorted, one_sorted}
 use Rattle.order_match.specs.declared.layout.TheConstants.{HALF, PRICE_CEILING}
-use Rattle.order_match.specs.Layout.{side_at, side_of, key_of, key_at}
+use Rattle.order_match.specs.Layout.{side_at, side_of, resting_key, key_at}
 use Rattle.order_match.specs.Standing.{quantities_on}
 
 -- the order of numbers
@@ -83,8 +83,8 @@ keys_of_side true x y p q = by_halves (PRICE_CEILING - x.price) (PRICE_CEILING -
     ∙ ap (λ (r : Ordering). ordering_then r (nat_cmp x.number y.number)) (taken x.price y.price p.price q.price)
 keys_of_side false x y p q = by_halves x.price y.price x.number y.number p.number q.number
 
-pub keys_served : (x y : Resting) → Fits x → Fits y → x.buys ≡ y.buys → nat_cmp (key_of x) (key_of y) ≡ serving_cmp x.buys x y
-keys_served x y p q same = ap (λ (b : Bool). nat_cmp (key_of x) (key_at b y.price y.number)) (sym same) ∙ keys_of_side x.buys x y p q
+pub keys_served : (x y : Resting) → Fits x → Fits y → x.buys ≡ y.buys → nat_cmp (resting_key x) (resting_key y) ≡ serving_cmp x.buys x y
+keys_served x y p q same = ap (λ (b : Bool). nat_cmp (resting_key x) (key_at b y.price y.number)) (sym same) ∙ keys_of_side x.buys x y p q
 
 -- items under their keys, in the order of these
 module _ {X : Type 0} (cmp : X → X → Ordering) (key value : X → ℕ) where
@@ -180,12 +180,12 @@ module _ (instrument : ℕ) (buys : Bool) (orders : List Resting) (are : AreOrde
   side_is r h = (on_is instrument buys r (has_filtered (is_on instrument buys) orders r h).1).1
 
   pub trees_served : 1 ≤ instrument → finite.entries (quantities_on (side_at instrument buys) orders)
-      ≡ map (λ r. (key_of r, r.quantity)) (in_order (serving_cmp buys) (filter (is_on instrument buys) orders))
+      ≡ map (λ r. (resting_key r, r.quantity)) (in_order (serving_cmp buys) (filter (is_on instrument buys) orders))
   trees_served low =
-      ap (λ (rs : List Resting). finite.entries (finite.from_entries {R = nat_cmp} (map (λ (r : Resting). (key_of r, r.quantity)) rs)))
+      ap (λ (rs : List Resting). finite.entries (finite.from_entries {R = nat_cmp} (map (λ (r : Resting). (resting_key r, r.quantity)) rs)))
       (filter_alike (λ r. side_of r == side_at instrument buys) (is_on instrument buys) orders
       (λ r h. on_side instrument buys r low (are.numbered r h)))
-      ∙ entries_in_order (serving_cmp buys) key_of (λ r. r.quantity) (serving_total buys) (filter (is_on instrument buys) orders)
+      ∙ entries_in_order (serving_cmp buys) resting_key (λ r. r.quantity) (serving_total buys) (filter (is_on instrument buys) orders)
       (λ x y h k. keys_served x y (on_orders.fit x h) (on_orders.fit y k) (side_is x h ∙ sym (side_is y k))
       ∙ ap (λ b. serving_cmp b x y) (side_is x h))
       (none_tie buys (filter (is_on instrument buys) orders) on_orders.rising)
@@ -209,7 +209,7 @@ pub sorted_first : {X : Type 0} (cmp : X → X → Ordering) (p : X) (rs : List 
 unfolding IsStrictlySortedBy
 sorted_first cmp p rs sorted r h = of_one (λ w. cmp p w ≡ Less) rs r sorted.0 h
 
--- where a test that one passes is passed by all before it, those that pass are the front
+-- if a test that one passes is passed by all before it, those that pass are the front
 module _ {X : Type 0} (cmp : X → X → Ordering) (q : X → Bool) where
   pub none_pass : (x : X) (xs : List X) → q x ≡ false → ((y : X) → Has y xs → q y ≡ true → q x ≡ true) → filter q xs ≡ []
   none_pass x [] fails before = refl

@@ -8,7 +8,7 @@ use Rattle.std.proofs.lemmas.List.Sums.{sum_by-cons}
 use Rattle.txn_alloc.specs.EntryMaps.{Blocks}
 use Rattle.txn_alloc.proofs.Maps.Counting.{times_of}
 
--- numbers from one on: where two functions agree, and where they differ at one
+-- numbers from one on: if two functions agree, and if they differ at one
 pub sum_alike : (a n : ℕ) (f g : ℕ → ℕ) → ((u : ℕ) → a ≤ u → f u ≡ g u) → sum_by f (range_with_len a n) ≡ sum_by g (range_with_len a n)
 sum_alike a zero f g same = refl
 sum_alike a (suc n) f g same =

@@ -20,7 +20,7 @@ use Rattle.txn_hash_map.proofs.OneMap as chains
 use Rattle.txn_tree_map.proofs.Maps as trees
 use Rattle.order_match.specs.declared.shape.OrderShape.{OrderShape}
 use Rattle.order_match.specs.declared.layout.TheConstants.{HALF}
-use Rattle.order_match.specs.Layout.{chains_of, key_at, key_of, place_of, side_of, sides_of, tree_of}
+use Rattle.order_match.specs.Layout.{chains_of, key_at, resting_key, place_of, side_of, sides_of, tree_of}
 use Rattle.order_match.specs.Standing.{held_of, places_of, quantities_on}
 use Rattle.order_match.specs.Access.{entries_in}
 use Rattle.order_match.specs.Statements.{FreeBlocksCounted, FullWithoutTwo, OneBook}
@@ -62,11 +62,11 @@ module _ (orders others : List Resting) (are : AreOrders orders) (also : AreOrde
           let side : side_of x ≡ side_of r = sym (side_told x fx) ∙ (ap (λ p. p / HALF) place ∙ side_told r fr) in
           let price : x.price ≡ r.price = sym (price_there x fx) ∙ (ap (λ p. p % HALF) place ∙ price_there r fr) in
           let on = sides_differ x.instrument r.instrument x.buys r.buys (also.numbered x there.0) (are.numbered r h) side in
-          let key : key_of x ≡ key_of r = λ i. key_at (on.1 i) (price i) (there.1 i) in
-          let mine : finite.get (quantities_on (side_of r) others) (key_of r) ≡ Some r.quantity =
-          ap (λ m. finite.get m (key_of r)) (sym (sides r h)) ∙ quantity_found orders are r h in
-          let theirs : finite.get (quantities_on (side_of r) others) (key_of r) ≡ Some x.quantity =
-          ap (λ k. finite.get (quantities_on (side_of r) others) k) (sym key) ∙ (ap (λ s. finite.get (quantities_on s others) (key_of x)) (sym side)
+          let key : resting_key x ≡ resting_key r = λ i. key_at (on.1 i) (price i) (there.1 i) in
+          let mine : finite.get (quantities_on (side_of r) others) (resting_key r) ≡ Some r.quantity =
+          ap (λ m. finite.get m (resting_key r)) (sym (sides r h)) ∙ quantity_found orders are r h in
+          let theirs : finite.get (quantities_on (side_of r) others) (resting_key r) ≡ Some x.quantity =
+          ap (λ k. finite.get (quantities_on (side_of r) others) k) (sym key) ∙ (ap (λ s. finite.get (quantities_on s others) (resting_key x)) (sym side)
           ∙ quantity_found others also x there.0) in
           let quantity : x.quantity ≡ r.quantity = same_Some x.quantity r.quantity (sym theirs ∙ mine) in
           let all : x ≡ r = λ i. record { number = there.1 i; instrument = on.0 i; buys = on.1 i; price = price i; quantity = quantity i } in
@@ -92,7 +92,7 @@ one_book shape words book other h k =
     one_side r lt = (trees.one_map (tree_of shape (side_of r)) words (quantities_on (side_of r) book.orders) (quantities_on (side_of r) other.orders)
         (h.parts.side_used (side_of r)) (k.parts.side_used (side_of r)) (h.parts.trees (side_of r) lt) (k.parts.trees (side_of r) lt)).0
 
--- orders whose numbers rise have different keys, where keys tell numbers
+-- orders whose numbers rise have different keys, if keys tell numbers
 keys_apart : (key value : Resting → ℕ) (rs : List Resting) → IsStrictlySortedBy by_number rs
     → ((x y : Resting) → Has x rs → Has y rs → key x ≡ key y → x.number ≡ y.number) → HaveKeys key value rs
 unfolding IsStrictlySortedBy
@@ -111,8 +111,8 @@ side_many : (side : ℕ) (orders : List Resting) → AreOrders orders
     → finite.len (quantities_on side orders) ≡ length (filter (λ (r : Resting). side_of r == side) orders)
 side_many side orders are =
     let on = fewer_orders (λ (r : Resting). side_of r == side) orders are in
-    len_map key_of (λ (r : Resting). r.quantity) (filter (λ (r : Resting). side_of r == side) orders)
-    (keys_apart key_of (λ (r : Resting). r.quantity) (filter (λ (r : Resting). side_of r == side) orders) on.rising
+    len_map resting_key (λ (r : Resting). r.quantity) (filter (λ (r : Resting). side_of r == side) orders)
+    (keys_apart resting_key (λ (r : Resting). r.quantity) (filter (λ (r : Resting). side_of r == side) orders) on.rising
     (λ x y h k e. keys_number x y (on.fit x h) (on.fit y k) e))
 
 -- each order is on one side

@@ -32,7 +32,7 @@ entries_in shape held =
 abbrev pub is_used_up : OrderShape → Held → Bool
 is_used_up shape held = entries_in shape held == shape.blocks
 
--- what is answered where a key is put: what it had, or whether there was room for a new one
+-- what is answered if a key is put: what it had, or whether there was room for a new one
 abbrev pub put_answer : Option ℕ → Bool → Put
 put_answer (Some was) lacks_room = Old was
 put_answer None false = New
@@ -53,7 +53,7 @@ first_of (x ∷ xs) = Some x
 abbrev pub first_in : Entries → Option (ℕ × ℕ)
 first_in entries = first_of (finite.entries entries)
 
--- the best price of a side, or 0 where no order rests
+-- the best price of a side, or 0 if no order rests
 abbrev pub best_on : ℕ → Bool → List Resting → ℕ
 best_on instrument buys orders = if buys then best_buy instrument orders else best_sell instrument orders
 

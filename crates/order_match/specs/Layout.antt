@@ -54,8 +54,8 @@ price_part buys price = if buys then PRICE_CEILING - price else price
 abbrev pub key_at : Bool → ℕ → ℕ → ℕ
 key_at buys price number = price_part buys price * HALF + number
 
-abbrev pub key_of : Resting → ℕ
-key_of r = key_at r.buys r.price r.number
+abbrev pub resting_key : Resting → ℕ
+resting_key r = key_at r.buys r.price r.number
 
 -- the price and the number in such a key
 abbrev pub price_in : Bool → ℕ → ℕ

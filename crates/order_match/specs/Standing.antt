@@ -12,7 +12,7 @@ use Rattle.txn_tree_map.specs.Trees.{TreeHolds}
 use Rattle.txn_alloc.specs.Blocks.{times_among}
 use Rattle.order_match.specs.declared.shape.OrderShape.{OrderShape}
 use Rattle.order_match.specs.declared.layout.TheConstants.{LAST_AT}
-use Rattle.order_match.specs.Layout.{arena_of, chains_of, tree_of, sides_of, side_of, place_of, key_of}
+use Rattle.order_match.specs.Layout.{arena_of, chains_of, tree_of, sides_of, side_of, place_of, resting_key}
 
 -- what the parts hold: the last order number; of the chains the places by number; of each side's tree quantities by key
 pub record Held : Type 0 where
@@ -47,7 +47,7 @@ places_of orders = finite.from_entries (map (λ r. (r.number, place_of r)) order
 -- the quantity of each order of a side by its key
 abbrev pub quantities_on : ℕ → List Resting → Entries
 quantities_on side orders =
-    finite.from_entries (map (λ r. (key_of r, r.quantity)) (filter (λ r. side_of r == side) orders))
+    finite.from_entries (map (λ r. (resting_key r, r.quantity)) (filter (λ r. side_of r == side) orders))
 
 -- what the parts hold for a book
 abbrev pub held_of : OrderBook → Held

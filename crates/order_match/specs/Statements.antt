@@ -17,21 +17,21 @@ use Rattle.txn_tree_map.specs.Trees.{TreeHolds, tree_part}
 use Rattle.txn_alloc.specs.Blocks.{times_among}
 use Rattle.order_match.specs.declared.shape.OrderShape.{OrderShape}
 use Rattle.order_match.specs.declared.layout.TheConstants.{LAST_AT}
-use Rattle.order_match.specs.Layout.{arena_of, chains_of, tree_of, sides_of, side_at, key_of}
+use Rattle.order_match.specs.Layout.{arena_of, chains_of, tree_of, sides_of, side_at, resting_key}
 use Rattle.order_match.specs.Standing.{Held, HasParts, Stands, quantities_on}
 use Rattle.order_match.specs.Access.{with_last, with_places, with_side}
 
 -- of two orders of one side, each in its ranges, the one that is served first has the lower key
 abbrev pub KeysAreServed : Type 0
 KeysAreServed = (instruments : ℕ) (x y : Resting) → IsRestingOrder instruments x → IsRestingOrder instruments y
-    → x.buys ≡ y.buys → nat_cmp (key_of x) (key_of y) ≡ serving_cmp x.buys x y
+    → x.buys ≡ y.buys → nat_cmp (resting_key x) (resting_key y) ≡ serving_cmp x.buys x y
 
 -- so going up the keys of a side's tree from 0 is going down its orders as they are served
 abbrev pub TreesAreServed : Type 0
 TreesAreServed = (instruments instrument : ℕ) (buys : Bool) (book : OrderBook) → IsBookOf instruments book
     → IsWithin 1 instruments instrument
     → finite.entries (quantities_on (side_at instrument buys) book.orders)
-    ≡ map (λ r. (key_of r, r.quantity)) (in_order (serving_cmp buys) (filter (is_on instrument buys) book.orders))
+    ≡ map (λ r. (resting_key r, r.quantity)) (in_order (serving_cmp buys) (filter (is_on instrument buys) book.orders))
 
 -- and the partners of an incoming order are the front of these, up to the first price that it does not allow
 abbrev pub PartnersAreFront : Type 0
@@ -54,7 +54,7 @@ abbrev pub FreeBlocksCounted : Type 0
 FreeBlocksCounted = (shape : OrderShape) (words : List ℕ) (book : OrderBook) (stand : Stands shape words book)
     → set.len stand.parts.free + blocks_of book.orders ≡ shape.blocks
 
--- no two blocks are free exactly where there are not enough for an order more
+-- no two blocks are free exactly if there are not enough for an order more
 abbrev pub FullWithoutTwo : Type 0
 FullWithoutTwo = (shape : OrderShape) (words : List ℕ) (book : OrderBook) (stand : Stands shape words book)
     → (set.len stand.parts.free < 2) ↔ (nat_lt book.blocks (blocks_of book.orders + 2) ≡ true)

@@ -19,7 +19,7 @@ use std::alloc::Global;
 use txn_stores::ReadOnly;
 use txn_words::{Stop, Words};
 
-/// The last order number that was given. It is 0 where none was.
+/// The last order number that was given. It is 0 if none was.
 pub fn last_given<W: Words>(w: &mut W, shape: &OrderShape) -> Result<u32, Stop>
     requires ready { IsReady W.Words w.old }
     requires stands { InEachState W.Words W.Shape.Shape w.old (IsGoodFor shape.now) }
@@ -33,7 +33,7 @@ pub fn last_given<W: Words>(w: &mut W, shape: &OrderShape) -> Result<u32, Stop>
 }
 
 /// The resting order with a number, if there is one.
-pub fn order_of<W: Words>(
+pub fn resting_order<W: Words>(
     w: &mut W,
     shape: &OrderShape,
     number: u32,
@@ -87,7 +87,7 @@ pub fn all_orders<W: Words>(
     let mut all = Vec::new(alloc);
     let last = last_given(w, shape)?;
     for before in 0..last {
-        let found = order_of(w, shape, before + 1)?;
+        let found = resting_order(w, shape, before + 1)?;
         add_found(&mut all, found)?;
     }
     Ok(all)

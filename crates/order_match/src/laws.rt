@@ -1,4 +1,4 @@
-//! What follows where words stand for a limit order book, each law the contract of a function that does nothing.
+//! What follows if words stand for a limit order book, each law the contract of a function that does nothing.
 
 ghost use Rattle.std.specs.Prelude.{◌≡◌};
 ghost use Rattle.order_match.specs.Statements.{ChainChangeStands, FreeBlocksCounted, FullWithoutTwo, KeysAreServed, LastChangeStands, OneBook, PartnersAreFront, SidesDiffer, TreeChangeStands, TreesAreServed};
@@ -29,22 +29,22 @@ pub fn free_blocks_counted()
     ensures { FreeBlocksCounted }
 {}
 
-/// There are no two free blocks exactly where there are not enough for an order more.
+/// There are no two free blocks exactly if there are not enough for an order more.
 pub fn full_without_two()
     ensures { FullWithoutTwo }
 {}
 
-/// The other parts stand where a call on the tree of one side wrote what it may write: said once for each of the trees.
+/// The other parts stand if a call on the tree of one side wrote what it may write: said once for each of the trees.
 pub fn tree_change_stands()
     ensures { TreeChangeStands }
 {}
 
-/// The other parts stand where a call on the chains wrote what it may write.
+/// The other parts stand if a call on the chains wrote what it may write.
 pub fn chain_change_stands()
     ensures { ChainChangeStands }
 {}
 
-/// The other parts stand where the last order number alone was written.
+/// The other parts stand if the last order number alone was written.
 pub fn last_change_stands()
     ensures { LastChangeStands }
 {}

@@ -21,7 +21,7 @@ pub mod shape;
 pub mod store;
 pub mod trading;
 
-pub use closing::{all_orders, order_of, orders_of_words};
+pub use closing::{all_orders, orders_of_words, resting_order};
 pub use lay::empty_words;
 pub use layout::Side;
 pub use orders::{best_price, cancel_order};

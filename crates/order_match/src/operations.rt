@@ -9,7 +9,7 @@ ghost use Rattle.order_text.specs.declared.script.OrderOp.{OrderOp};
 ghost use Rattle.order_text.specs.Ranges.{IsLimitOrder};
 ghost use Rattle.txn_words.specs.Calls.{IsReady, GoesOn, InEachState, LeadsTo};
 ghost use Rattle.order_match.specs.Standing.{IsGoodFor};
-ghost use Rattle.order_match.specs.Operating.{EntersOrder, Steps};
+ghost use Rattle.order_match.specs.Operating.{EntersOrder, MeetsStep};
 ghost use Rattle.txn_stores.specs.Standing.{HandsOn, UnlessFull};
 
 use crate::layout::Side;
@@ -76,7 +76,7 @@ pub(crate) fn cancel<W: Words>(
     requires ready { IsReady W.Words w.old }
     requires stands { InEachState W.Words W.Shape.Shape w.old (IsGoodFor shape.now) }
     ensures step { IfOk result (λ outcome. LeadsTo W.Words W.Shape.Shape w.old w.new
-        (Steps shape.now (OrderOp.Cancel number) outcome)) }
+        (MeetsStep shape.now (OrderOp.Cancel number) outcome)) }
     ensures stands { IfOk result (λ outcome. UnlessFull outcome
         (InEachState W.Words W.Shape.Shape w.new (IsGoodFor shape.now))) }
     ensures hands_on { HandsOn W.Words w.old w.new result }
@@ -97,7 +97,7 @@ pub(crate) fn best<W: Words>(
     requires stands { InEachState W.Words W.Shape.Shape w.old (IsGoodFor shape.now) }
     requires instrument { IsWithin 1 shape.now.instruments instrument }
     ensures step { IfOk result (λ outcome. LeadsTo W.Words W.Shape.Shape w.old w.new
-        (Steps shape.now (OrderOp.Best instrument) outcome)) }
+        (MeetsStep shape.now (OrderOp.Best instrument) outcome)) }
     ensures stands { IfOk result (λ outcome. UnlessFull outcome
         (InEachState W.Words W.Shape.Shape w.new (IsGoodFor shape.now))) }
     ensures hands_on { HandsOn W.Words w.old w.new result }

@@ -13,7 +13,7 @@ use crate::parts::{cut_on, cut_place, first_on};
 use crate::shape::OrderShape;
 use txn_words::{Stop, Words};
 
-/// The best price of a side: of buys the highest, and of sells the lowest. It is 0 where no order rests.
+/// The best price of a side: of buys the highest, and of sells the lowest. It is 0 if no order rests.
 pub fn best_price<W: Words>(w: &mut W, shape: &OrderShape, side: &Side) -> Result<u64, Stop>
     requires ready { IsReady W.Words w.old }
     requires stands { InEachState W.Words W.Shape.Shape w.old (IsGoodFor shape.now) }

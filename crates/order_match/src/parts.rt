@@ -9,7 +9,7 @@ ghost use Rattle.order_match.specs.Layout.{side_at};
 ghost use Rattle.order_match.specs.declared.layout.TheConstants.{LAST_AT};
 ghost use Rattle.order_match.specs.Standing.{HasParts, HasSomeParts};
 ghost use Rattle.order_match.specs.Access.{first_in, is_used_up, put_answer, put_by, with_last, with_places, with_side};
-ghost use Rattle.order_match.specs.Holding.{Writes};
+ghost use Rattle.order_match.specs.Holding.{WritesFirst};
 
 use crate::layout::{LAST_AT, Side};
 use crate::shape::OrderShape;
@@ -47,7 +47,7 @@ pub fn hold_last_number<W: Words>(w: &mut W, shape: &OrderShape) -> Result<(), S
     requires parts { InEachState W.Words W.Shape.Shape w.old (HasSomeParts shape.now) }
     ensures same { OnOk result
         (LeadsTo W.Words W.Shape.Shape w.old w.new (λ before now. now ≡ before)) }
-    ensures writes { OnOk result (Writes W.Words LAST_AT w.old w.new) }
+    ensures writes { OnOk result (WritesFirst W.Words LAST_AT w.old w.new) }
     ensures goes_on { GoesOn W.Words w.old w.new result }
 {
     let before = w.mark();

@@ -12,7 +12,7 @@ use txn_stores::{Outcome, Store};
 use txn_words::{Stop, Words};
 
 impl Store for OrderShape {
-    ghost use Rattle.order_text.specs.Interpreter.{step_of};
+    ghost use Rattle.order_text.specs.Interpreter.{order_step_of};
     ghost use Rattle.order_text.specs.Orders.{OrderBook};
     ghost use Rattle.order_text.specs.Output.{order_store};
     ghost use Rattle.order_text.specs.Ranges.{IsOrderOp, IsOrderScript};
@@ -29,7 +29,7 @@ impl Store for OrderShape {
 
     ghost stands = { Stands };
 
-    ghost step = { λ _. step_of };
+    ghost step = { λ _. order_step_of };
 
     ghost is_operation = { λ shape. IsOrderOp shape.instruments };
 

@@ -10,7 +10,7 @@ ghost use Rattle.txn_words.specs.Calls.{IsReady, GoesOn, InEachState, LeadsTo};
 ghost use Rattle.order_match.specs.Standing.{HasSomeParts, IsGoodFor, Stands};
 ghost use Rattle.order_match.specs.declared.layout.TheConstants.{LAST_AT};
 ghost use Rattle.order_match.specs.Access.{first_of};
-ghost use Rattle.order_match.specs.Holding.{Writes};
+ghost use Rattle.order_match.specs.Holding.{WritesFirst};
 ghost use Rattle.order_match.specs.Trading.{MatchesOrder, PutsOrder, RestsOrder, after_trade, next_number};
 ghost use Rattle.txn_stores.specs.Standing.{HandsOn};
 
@@ -40,7 +40,7 @@ pub fn next_number<W: Words>(w: &mut W, shape: &OrderShape) -> Result<Option<u32
     requires stands { InEachState W.Words W.Shape.Shape w.old (IsGoodFor shape.now) }
     ensures told { IfOk result (λ answer. LeadsTo W.Words W.Shape.Shape w.old w.new
         (Tells (Stands shape.now) (λ book. next_number book.last) answer)) }
-    ensures writes { OnOk result (Writes W.Words LAST_AT w.old w.new) }
+    ensures writes { OnOk result (WritesFirst W.Words LAST_AT w.old w.new) }
     ensures stands { OnOk result (InEachState W.Words W.Shape.Shape w.new (IsGoodFor shape.now)) }
     ensures goes_on { GoesOn W.Words w.old w.new result }
 {

@@ -10,9 +10,11 @@ use Rattle.history_model.specs.Items.{UsedBefore}
 use Rattle.history_model.specs.Sets.{flag}
 use Rattle.history_model.specs.declared.item.LockUse.{LockUse}
 use Rattle.history_model.specs.declared.placed.Spot.{Spot}
-use Rattle.order_rebuild.specs.Turns.{key_of, IsRising}
-use Rattle.order_rebuild.specs.Counts.{is_of, is_at, count_uses, count_all}
-use Rattle.order_rebuild.specs.Tallied.{is_reader, placed_of, IsWritten, IsOnce, MayUse, AreTallied, IsTallied, IsStep}
+use Rattle.order_rebuild.specs.Turns.{use_key, IsRising}
+use Rattle.order_rebuild.proofs.UseCounts.{count_uses, count_all}
+use Rattle.order_rebuild.specs.Counts.{is_of, is_at}
+use Rattle.order_rebuild.proofs.TalliedItems.{is_reader, placed_of, IsWritten, IsOnce, AreTallied, IsTallied}
+use Rattle.order_rebuild.specs.Tallied.{MayUse, IsStep}
 use Rattle.order_rebuild.proofs.Codes.{same_there, used_from}
 use Rattle.order_rebuild.proofs.Counts.{uses_none, uses_some, of_is, is_at_is, and_both, all_cons, uses_cons}
 use Rattle.order_rebuild.proofs.Due.{one_use}
@@ -32,8 +34,8 @@ reader_from k w u l e f = is_at_is k (w * 2) u l (let z = flag_off u.wrote f in 
 
 pub reader_is : (k w : ℕ) (u : LockUse) → is_reader k w u ≡ true → (u.lock ≡ k) × (u.version ≡ w) × (u.wrote ≡ false)
 reader_is k w u t =
-    let b = and_both (is_of k u) (key_of u == w * 2) t in
-    let key : key_of u ≡ w * 2 = eqb-true (key_of u) (w * 2) b.1 in
+    let b = and_both (is_of k u) (use_key u == w * 2) t in
+    let key : use_key u ≡ w * 2 = eqb-true (use_key u) (w * 2) b.1 in
     ⊎_elim (λ e. absurd (let z = flag_on u.wrote e in omega arith))
     (λ e. let z = flag_off u.wrote e in (of_is k u b.0, omega arith, e)) (cases_Bool u.wrote)
 
@@ -188,7 +190,7 @@ module _ (list : List Spot) (left : List Bool) (rows : ℕ → ℕ → ℕ) (ver
   -- if a use may come, no item that is left comes before it
   pub tally_first : IsTallied list rows → (p j : ℕ) (s : Spot) (u : LockUse) → slice_get list p ≡ Some s → slice_get s.uses j ≡ Some u
       → MayUse version readers u → (r i : ℕ) (y : Spot) (v : LockUse) → slice_get list r ≡ Some y → slice_get y.uses i ≡ Some v
-      → v.lock ≡ u.lock → key_of v < key_of u → slice_get left r ≡ Some true → ⊥
+      → v.lock ≡ u.lock → use_key v < use_key u → slice_get left r ≡ Some true → ⊥
   tally_first is p j s u e f due r i y v ey ev l key m =
       let at = due.0 in
       dite (dec_lt v.version u.version)
@@ -214,10 +216,10 @@ module _ (list : List Spot) (left : List Bool) (rows : ℕ → ℕ → ℕ) (ver
     where
       -- another use of the lock by an item that is left does not come before it
       other : (r i : ℕ) (y : Spot) (v : LockUse) → slice_get list r ≡ Some y → slice_get y.uses i ≡ Some v → slice_get left r ≡ Some true
-          → v.lock ≡ u.lock → key_of v < key_of u → ⊥
+          → v.lock ≡ u.lock → use_key v < use_key u → ⊥
       other r i y v ey ev mr l key = dite (ℕ_discrete r p)
           (λ z. let same : y ≡ s = same_there list p y s (ap (λ (a : ℕ). slice_get list a) (sym z) ∙ ey) e in
-          let one = ap key_of (one_use s.uses (is.rising p s e) i j v u (subst (λ (x : Spot). slice_get x.uses i ≡ Some v) same ev) f l) in
+          let one = ap use_key (one_use s.uses (is.rising p s e) i j v u (subst (λ (x : Spot). slice_get x.uses i ≡ Some v) same ev) f l) in
           omega (arith, one, key))
           (λ ne. first r y ey mr ne (used_from y.uses s.uses i j u.lock v u ev f l refl key))
 
@@ -256,9 +258,9 @@ module _ (list : List Spot) (left : List Bool) (rows : ℕ → ℕ → ℕ) (ver
           (let a = r.1 in let b = flag_off h.u.wrote r.2 in let c = flag_on u.wrote t in omega arith)))
 
 -- of uses that rise one at most is of a lock
-none_of : (k key : ℕ) (us : List LockUse) → ((j : ℕ) (u : LockUse) → slice_get us j ≡ Some u → u.lock ≡ k → key_of u ≢ key) → count_uses (is_at k key) us ≡ 0
+none_of : (k key : ℕ) (us : List LockUse) → ((j : ℕ) (u : LockUse) → slice_get us j ≡ Some u → u.lock ≡ k → use_key u ≢ key) → count_uses (is_at k key) us ≡ 0
 none_of k key us h = uses_none (is_at k key) us (λ j u e t.
-    let b = and_both (is_of k u) (key_of u == key) t in h j u e (of_is k u b.0) (eqb-true (key_of u) key b.1))
+    let b = and_both (is_of k u) (use_key u == key) t in h j u e (of_is k u b.0) (eqb-true (use_key u) key b.1))
 
 rising_on : (u : LockUse) (us : List LockUse) → IsRising (u ∷ us) → IsRising us
 rising_on u us r i j v w e f l = r (suc i) (suc j) v w e f (omega arith)
@@ -269,15 +271,15 @@ one_at k key [] r j u e t = absurd (cc)
 one_at k key (w ∷ us) r zero u e t =
     let same : w ≡ u = cc in
     let here : flag (is_at k key w) ≡ 1 = flag_on (is_at k key w) (subst (λ (x : LockUse). is_at k key x ≡ true) (sym same) t) in
-    let l = of_is k u (and_both (is_of k u) (key_of u == key) t).0 in
+    let l = of_is k u (and_both (is_of k u) (use_key u == key) t).0 in
     let rest = none_of k key us (λ i v f lv. absurd (let h = r 0 (suc i) w v refl f (omega arith) in
     let a = ap (λ (x : LockUse). x.lock) same in omega arith)) in
     omega (arith, here, rest, uses_cons (is_at k key) w us)
 one_at k key (w ∷ us) r (suc j) u e t =
     let rest = one_at k key us (rising_on w us r) j u e t in
-    let l = of_is k u (and_both (is_of k u) (key_of u == key) t).0 in
+    let l = of_is k u (and_both (is_of k u) (use_key u == key) t).0 in
     let here : flag (is_at k key w) ≡ 0 = ⊎_elim
-    (λ b. absurd (let lw = of_is k w (and_both (is_of k w) (key_of w == key) b).0 in let h = r 0 (suc j) w u refl e (omega arith) in omega arith))
+    (λ b. absurd (let lw = of_is k w (and_both (is_of k w) (use_key w == key) b).0 in let h = r 0 (suc j) w u refl e (omega arith) in omega arith))
     (flag_off (is_at k key w)) (cases_Bool (is_at k key w)) in
     omega (arith, here, rest, uses_cons (is_at k key) w us)
 

@@ -12,7 +12,7 @@ use Rattle.std.proofs.lemmas.List.{length-replicate}
 use Rattle.order_rebuild.proofs.Codes.{same_there}
 use Rattle.order_rebuild.proofs.Begin.{all_marked}
 
--- of the items from `start` on one caller is all along, and the index rises, where it does from each to the next
+-- of the items from `start` on one caller is all along, and the index rises, if it does from each to the next
 module _ (list : List Spot) (start end : ℕ) (low : start < end) (inside : end ≤ length list)
     (steps : (p : ℕ) (x y : Spot) → start < p → p < end → slice_get list (p - 1) ≡ Some x → slice_get list p ≡ Some y
     → (x.caller ≡ y.caller) × (x.index < y.index)) where

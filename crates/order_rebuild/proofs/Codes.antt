@@ -11,7 +11,7 @@ use Rattle.history_model.specs.Sets.{flag}
 use Rattle.order_rebuild.specs.declared.turn.TheConstants.{LINE}
 use Rattle.history_model.specs.declared.placed.Spot.{Spot}
 use Rattle.order_rebuild.specs.Order.{Precedes, Orderable}
-use Rattle.order_rebuild.specs.Turns.{key_of, IsRising, HasAbove, IsLockCode, caller_code, IsTurnOf}
+use Rattle.order_rebuild.specs.Turns.{use_key, IsRising, HasAbove, IsLockCode, line_place, IsTurnOf}
 
 -- what stands at a place is one alone
 pub same_there : {A : Type 0} (xs : List A) (i : ℕ) (x y : A) → slice_get xs i ≡ Some x → slice_get xs i ≡ Some y → x ≡ y
@@ -37,7 +37,7 @@ use_of : (u : LockUse) (k : ℕ) → u.lock ≡ k → Some u ≡ Some (record { 
 use_of u k e = rw (← e) refl
 
 pub used_from : (us vs : List LockUse) (i j k : ℕ) (u v : LockUse) → slice_get us i ≡ Some u → slice_get vs j ≡ Some v
-    → u.lock ≡ k → v.lock ≡ k → key_of u < key_of v → UsedBefore us vs
+    → u.lock ≡ k → v.lock ≡ k → use_key u < use_key v → UsedBefore us vs
 used_from us vs i j k u v e f a b l = record {
   lock = k;
   found = u.version;
@@ -96,7 +96,7 @@ codes_before us vs k c d x y l = dite (dec_lt x.low y.low)
     same n = let a = x.is in let b = y.is in let f = flag_up x.wide in let g = flag_up y.wide in omega arith
 
 pub before_codes : (us vs : List LockUse) (k c d i j : ℕ) (u v : LockUse) → IsLockCode us k c → IsLockCode vs k d → (UsedBefore vs us → ⊥)
-    → slice_get us i ≡ Some u → slice_get vs j ≡ Some v → u.lock ≡ k → v.lock ≡ k → key_of u < key_of v → c < d
+    → slice_get us i ≡ Some u → slice_get vs j ≡ Some v → u.lock ≡ k → v.lock ≡ k → use_key u < use_key v → c < d
 before_codes us vs k c d i j u v x y never eu ev lu lv l =
     let a = x.is in let b = y.is in
     let lx = x.least.least i u eu lu in
@@ -119,7 +119,7 @@ line_is k r l = omega arith
 pub lock_line : (us : List LockUse) (k c : ℕ) → IsLockCode us k c → c / LINE ≡ 2 * k
 lock_line us k c x = let l = line_is (2 * k) (2 * x.low + flag x.wide) x.fits in ap (λ (n : ℕ). n / LINE) x.is ∙ l
 
-pub caller_line : (caller index : ℕ) → index < LINE → caller_code caller index / LINE ≡ 2 * caller + 1
+pub caller_line : (caller index : ℕ) → index < LINE → line_place caller index / LINE ≡ 2 * caller + 1
 caller_line caller index l = line_is (2 * caller + 1) index l
 
 -- two places of items in one line
@@ -155,7 +155,7 @@ turns_same list p c d s t line =
     t.2)
     (λ a. ⊎_elim
     (λ b. absurd (let f = lock_line t.0.uses b.0 d b.1 in let g = caller_line s.0.caller s.0.index a.1 in let h = ap (λ (n : ℕ). n / LINE) a.0 in omega arith))
-    (λ b. a.0 ∙ sym (b.0 ∙ ap (λ (w : Spot). caller_code w.caller w.index) z))
+    (λ b. a.0 ∙ sym (b.0 ∙ ap (λ (w : Spot). line_place w.caller w.index) z))
     t.2)
     s.2
 
@@ -168,14 +168,14 @@ one_way list o p q x y ex ey n a b = dite (dec_lt (o.number p) (o.number q))
     (λ l. o.in_order q p y x ey ex l a)
     (λ k. n (o.own p q (slice_get_within list p x ex) (slice_get_within list q y ey) (omega arith))))
 
--- where locks rise there is one use of each
+-- if locks rise there is one use of each
 pub rising_code : (us : List LockUse) (i c : ℕ) (u : LockUse) → IsRising us → slice_get us i ≡ Some u
-    → c ≡ (2 * u.lock) * LINE + (2 * key_of u + flag false) → 2 * key_of u + flag false < LINE → IsLockCode us u.lock c
+    → c ≡ (2 * u.lock) * LINE + (2 * use_key u + flag false) → 2 * use_key u + flag false < LINE → IsLockCode us u.lock c
 rising_code us i c u rising at is fits = record {
-  low = key_of u;
+  low = use_key u;
   wide = false;
-  least = record { has = (i, u, at, refl, refl); least = λ j v e l. let s = ap key_of (one j v e l) in omega arith };
-  above = (λ t. absurd (no t), λ h. absurd (let s = ap key_of (one h.0 h.1 h.2 h.3) in let l = h.4 in omega arith));
+  least = record { has = (i, u, at, refl, refl); least = λ j v e l. let s = ap use_key (one j v e l) in omega arith };
+  above = (λ t. absurd (no t), λ h. absurd (let s = ap use_key (one h.0 h.1 h.2 h.3) in let l = h.4 in omega arith));
   is = is;
   fits = fits;
 }

@@ -14,7 +14,7 @@ use Rattle.std.proofs.lemmas.Option.{slice_get_within}
 use Rattle.history_model.proofs.ListPlaces.{below_get}
 use Rattle.order_rebuild.specs.declared.lines.Lines.{Lines}
 use Rattle.history_model.specs.declared.placed.Spot.{Spot}
-use Rattle.order_rebuild.specs.Order.{OpenAt, NoneOpen, LeastOpen}
+use Rattle.order_rebuild.proofs.Open.{OpenAt, NoneOpen, LeastOpen}
 use Rattle.order_rebuild.specs.Lines.{places, items, item_at, base_at, first_at, caller_of, AreLines}
 use Rattle.order_rebuild.specs.Going.{AreGone, AreStopped, AreWaits, AreClosed, Comer, comer_cmp, IsKnown, count_of, AreReady}
 use Rattle.order_rebuild.proofs.Marks.{set_same, set_other}

@@ -5,8 +5,9 @@ use Rattle.std.proofs.lemmas.List.Sums.{sum_by-cons}
 use Rattle.history_model.specs.Sets.{flag}
 use Rattle.history_model.specs.declared.item.LockUse.{LockUse}
 use Rattle.history_model.specs.declared.placed.Spot.{Spot}
-use Rattle.order_rebuild.specs.Turns.{key_of}
-use Rattle.order_rebuild.specs.Counts.{is_of, is_at, count_uses, count_all}
+use Rattle.order_rebuild.specs.Turns.{use_key}
+use Rattle.order_rebuild.proofs.UseCounts.{count_uses, count_all}
+use Rattle.order_rebuild.specs.Counts.{is_of, is_at}
 
 -- one use more in front
 pub uses_cons : (f : LockUse → Bool) (u : LockUse) (us : List LockUse) → count_uses f (u ∷ us) ≡ flag (f u) + count_uses f us
@@ -48,5 +49,5 @@ and_both false b e = absurd (cc)
 both_and : (a b : Bool) → a ≡ true → b ≡ true → (a && b) ≡ true
 both_and a b e f = rw (e, f) refl
 
-pub is_at_is : (k key : ℕ) (u : LockUse) → u.lock ≡ k → key_of u ≡ key → is_at k key u ≡ true
-is_at_is k key u e l = both_and (is_of k u) (key_of u == key) (is_of_is k u e) (eq-eqb (key_of u) key l)
+pub is_at_is : (k key : ℕ) (u : LockUse) → u.lock ≡ k → use_key u ≡ key → is_at k key u ≡ true
+is_at_is k key u e l = both_and (is_of k u) (use_key u == key) (is_of_is k u e) (eq-eqb (use_key u) key l)

@@ -4,7 +4,7 @@ use mathlib.Core.Logic.{dite}
 use native.Mathlib.Decide.{dec_lt}
 use Rattle.history_model.specs.Items.{UsedBefore}
 use Rattle.history_model.specs.declared.item.LockUse.{LockUse}
-use Rattle.order_rebuild.specs.Turns.{key_of, IsRising}
+use Rattle.order_rebuild.specs.Turns.{use_key, IsRising}
 use Rattle.order_rebuild.proofs.Codes.{same_there, lower}
 
 -- a use before another: of one lock, with the lower key
@@ -16,7 +16,7 @@ pub record IsUseBefore (us vs : List LockUse) : Type 0 where
   pub u_at : slice_get us i ≡ Some u
   pub v_at : slice_get vs j ≡ Some v
   pub lock : u.lock ≡ v.lock
-  pub key : key_of u < key_of v
+  pub key : use_key u < use_key v
 
 pub use_before : (us vs : List LockUse) → UsedBefore us vs → IsUseBefore us vs
 use_before us vs b = record {

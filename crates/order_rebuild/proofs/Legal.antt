@@ -64,7 +64,7 @@ module _ (list : List Spot) (items entries : List Item) (out : List ℕ) (d : It
         order_keeps list out order i j a.0 b.0 a.1 b.1 a.2 b.2 a.3 b.3 l (inl (before_same y.uses x.uses b.1.uses a.1.uses uy ux u));
   }
 
--- a number that is given where A holds
+-- a number that is given if A holds
 pick : {A : Type 0} → Dec A → (A → ℕ) → ℕ
 pick (yes a) f = f a
 pick (no n) f = 0

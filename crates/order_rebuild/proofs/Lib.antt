@@ -1,3 +1,11 @@
+-- who stands before a place of a line
+pub mod Befores
+-- the items that may come, by the marks of what is left
+pub mod Open
+-- what is placed, by the versions of locks and their readers
+pub mod TalliedItems
+-- how many uses are such
+pub mod UseCounts
 -- on an orderable list some item may always come, and the order is one alone
 pub mod Stuck
 -- the marks of what is left

@@ -4,7 +4,7 @@ use mathlib.Core.Logic.{dite}
 use native.Mathlib.Decide.{ℕ_discrete}
 use Rattle.std.proofs.lemmas.Option.{slice_get_within, slice_get-get_or}
 use Rattle.history_model.specs.declared.item.LockUse.{LockUse}
-use Rattle.order_rebuild.specs.Turns.{key_of, HasKey, IsLeastKey, HasAbove}
+use Rattle.order_rebuild.specs.Turns.{use_key, HasKey, IsLeastKey, HasAbove}
 use Rattle.order_rebuild.proofs.Codes.{same_there}
 
 -- f rises along the first n of the list
@@ -32,26 +32,26 @@ pub rising_first : {A : Type 0} (f : A → ℕ) (xs : List A) → IsRisingBelow 
 rising_first f xs i j x y ex ey a b = absurd (omega arith)
 
 abbrev pub IsLeastBelow : List LockUse → ℕ → ℕ → ℕ → Type 0
-IsLeastBelow us k low n = (i : ℕ) (u : LockUse) → i < n → slice_get us i ≡ Some u → u.lock ≡ k → low ≤ key_of u
+IsLeastBelow us k low n = (i : ℕ) (u : LockUse) → i < n → slice_get us i ≡ Some u → u.lock ≡ k → low ≤ use_key u
 
 pub least_more : (us : List LockUse) (k old low n : ℕ) (w : LockUse) → IsLeastBelow us k old n → low ≤ old
-    → slice_get us n ≡ Some w → (w.lock ≡ k → low ≤ key_of w) → IsLeastBelow us k low (n + 1)
+    → slice_get us n ≡ Some w → (w.lock ≡ k → low ≤ use_key w) → IsLeastBelow us k low (n + 1)
 least_more us k old low n w below le at here i u lt e l = dite (ℕ_discrete i n)
     (λ s. let same : w ≡ u = same_there us n w u at (ap (λ (j : ℕ). slice_get us j) (sym s) ∙ e) in let h =
-    here (ap (λ (z : LockUse). z.lock) same ∙ l) in let q = ap key_of same in omega arith)
+    here (ap (λ (z : LockUse). z.lock) same ∙ l) in let q = ap use_key same in omega arith)
     (λ m. let h = below i u (omega arith) e l in omega arith)
 
 pub least_all : (us : List LockUse) (k low n : ℕ) → length us ≤ n → HasKey us k low → IsLeastBelow us k low n → IsLeastKey us k low
 least_all us k low n le has below = record { has = has; least = λ i u e l. below i u (let w = slice_get_within us i u e in omega arith) e l }
 
 abbrev pub NoneAboveBelow : List LockUse → ℕ → ℕ → ℕ → Type 0
-NoneAboveBelow us k low n = (i : ℕ) (u : LockUse) → i < n → slice_get us i ≡ Some u → u.lock ≡ k → low < key_of u → ⊥
+NoneAboveBelow us k low n = (i : ℕ) (u : LockUse) → i < n → slice_get us i ≡ Some u → u.lock ≡ k → low < use_key u → ⊥
 
 pub none_more : (us : List LockUse) (k low n : ℕ) (w : LockUse) → NoneAboveBelow us k low n → slice_get us n ≡ Some w
-    → (w.lock ≡ k → low < key_of w → ⊥) → NoneAboveBelow us k low (n + 1)
+    → (w.lock ≡ k → low < use_key w → ⊥) → NoneAboveBelow us k low (n + 1)
 none_more us k low n w below at here i u lt e l high = dite (ℕ_discrete i n)
     (λ s. let same : w ≡ u = same_there us n w u at (ap (λ (j : ℕ). slice_get us j) (sym s) ∙ e) in
-    here (ap (λ (z : LockUse). z.lock) same ∙ l) (let q = ap key_of same in omega arith))
+    here (ap (λ (z : LockUse). z.lock) same ∙ l) (let q = ap use_key same in omega arith))
     (λ m. below i u (omega arith) e l high)
 
 pub none_all : (us : List LockUse) (k low n : ℕ) → length us ≤ n → NoneAboveBelow us k low n → HasAbove us k low → ⊥

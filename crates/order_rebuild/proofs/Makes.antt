@@ -11,7 +11,7 @@ use Rattle.history_model.proofs.ListPlaces.{get_first, get_last, get_cases}
 use Rattle.order_rebuild.specs.declared.turn.TheConstants.{LINE}
 use Rattle.history_model.specs.declared.placed.Spot.{Spot}
 use Rattle.order_rebuild.specs.declared.turn.Turn.{Turn}
-use Rattle.order_rebuild.specs.Turns.{IsLockCode, caller_code, IsTurnOf, HasTurn, AreTurns, GainTurns}
+use Rattle.order_rebuild.specs.Turns.{IsLockCode, line_place, IsTurnOf, HasTurn, AreTurns, GainTurns}
 use Rattle.order_rebuild.specs.Lines.{AreStarts, AreChains}
 
 pub index_left : (xs : List ℕ) (y k : ℕ) → k < length xs → slice_index (xs ++ y ∷ []) k ≡ slice_index xs k
@@ -155,7 +155,7 @@ gain_more us p n c u old new g e code = record {
 
 -- the turn of an item in its caller's line
 abbrev turn_of_caller : Spot → ℕ → Turn
-turn_of_caller s p = record { code = caller_code s.caller s.index; item = p }
+turn_of_caller s p = record { code = line_place s.caller s.index; item = p }
 
 abbrev with_caller : List Turn → Spot → ℕ → List Turn
 with_caller turns s p = turns ++ turn_of_caller s p ∷ []
@@ -165,7 +165,7 @@ turns_first list = record { sound = λ i t e. absurd (cc); of_uses = λ p s j u 
 
 pub turns_more : (list : List Spot) (p : ℕ) (s : Spot) (old new : List Turn) → AreTurns list p old
     → slice_get list p ≡ Some s → GainTurns s.uses p (length s.uses) old new → s.index < LINE
-    → AreTurns list (p + 1) (new ++ record { code = caller_code s.caller s.index; item = p } ∷ [])
+    → AreTurns list (p + 1) (new ++ record { code = line_place s.caller s.index; item = p } ∷ [])
 turns_more list p s old new are at g fits = record {
   sound = λ i t e. ⊎_elim
       (λ h. ⊎_elim
@@ -173,7 +173,7 @@ turns_more list p s old new are at g fits = record {
       (λ o. (let z = o.0 in omega arith, subst (λ (q : ℕ). IsTurnOf list q t.code) (sym o.0) (s, at, inl o.1)))
       (g.sound i t h.1))
       (λ h. subst (λ (w : Turn). (w.item < p + 1) × IsTurnOf list w.item w.code) h.1 (omega arith, (s, at, inr (refl, fits))))
-      (get_cases new (record { code = caller_code s.caller s.index; item = p }) t i e);
+      (get_cases new (record { code = line_place s.caller s.index; item = p }) t i e);
   of_uses = λ q x j u l e f. dite (ℕ_discrete q p)
       (λ z. let same : s ≡ x = one (sym at ∙ (ap (λ (k : ℕ). slice_get list k) (sym z) ∙ e)) in
       let h : slice_get s.uses j ≡ Some u = subst (λ (w : Spot). slice_get w.uses j ≡ Some u) (sym same) f in
@@ -185,9 +185,9 @@ turns_more list p s old new are at g fits = record {
       (λ n. let w = are.of_uses q x j u (omega arith) e f in (w.0, w.1, old_kept q w.0 w.2));
   of_caller = λ q x l e. dite (ℕ_discrete q p)
       (λ z. let same : s ≡ x = one (sym at ∙ (ap (λ (k : ℕ). slice_get list k) (sym z) ∙ e)) in
-      subst (λ (v : Spot). (v.index < LINE) × HasTurn (with_caller new s p) q (caller_code v.caller v.index)) same
-      (fits, subst (λ (k : ℕ). HasTurn (with_caller new s p) k (caller_code s.caller s.index)) (sym z) (length new, get_last new (turn_of_caller s p))))
-      (λ n. let w = are.of_caller q x (omega arith) e in (w.0, old_kept q (caller_code x.caller x.index) w.1));
+      subst (λ (v : Spot). (v.index < LINE) × HasTurn (with_caller new s p) q (line_place v.caller v.index)) same
+      (fits, subst (λ (k : ℕ). HasTurn (with_caller new s p) k (line_place s.caller s.index)) (sym z) (length new, get_last new (turn_of_caller s p))))
+      (λ n. let w = are.of_caller q x (omega arith) e in (w.0, old_kept q (line_place x.caller x.index) w.1));
 }
   where
     old_kept : (q c : ℕ) → HasTurn old q c → HasTurn (with_caller new s p) q c
@@ -207,5 +207,5 @@ pub turns_moved : (list : List Spot) (n : ℕ) (xs ys : List Turn) → IsPermuta
 turns_moved list n xs ys moved are = record {
   sound = λ i t e. let b = moved_in ys xs (IsPermutation-sym xs ys moved) t (i, e) in are.sound b.0 t b.1;
   of_uses = λ p s j u l e f. let w = are.of_uses p s j u l e f in (w.0, w.1, moved_in xs ys moved (record { code = w.0; item = p }) w.2);
-  of_caller = λ p s l e. let w = are.of_caller p s l e in (w.0, moved_in xs ys moved (record { code = caller_code s.caller s.index; item = p }) w.1);
+  of_caller = λ p s l e. let w = are.of_caller p s l e in (w.0, moved_in xs ys moved (record { code = line_place s.caller s.index; item = p }) w.1);
 }

@@ -9,7 +9,8 @@ use Rattle.history_model.specs.Legal.{IsIn}
 use Rattle.std.proofs.lemmas.Option.{slice_get_within}
 use Rattle.history_model.proofs.ListPlaces.{below_get, get_first, get_last, get_cases}
 use Rattle.history_model.specs.declared.placed.Spot.{Spot}
-use Rattle.order_rebuild.specs.Order.{MayCome, IsNext, IsOrder, Orderable, IsRest, OpenAt, NoneOpen, LeastOpen}
+use Rattle.order_rebuild.proofs.Open.{IsRest, OpenAt, NoneOpen, LeastOpen}
+use Rattle.order_rebuild.specs.Order.{MayCome, IsNext, IsOrder, Orderable}
 use Rattle.order_rebuild.proofs.Stuck.{is_in, not_stuck}
 
 pub set_same : {A : Type 0} (s : List A) (i : ℕ) (w v : A) → slice_get s i ≡ Some w → slice_get (slice_set s i v) i ≡ Some v

@@ -9,9 +9,11 @@ use Rattle.history_model.proofs.ListPlaces.{below_get}
 use Rattle.history_model.specs.Items.{UsedBefore}
 use Rattle.history_model.specs.Legal.{IsIn}
 use Rattle.history_model.specs.declared.placed.Spot.{Spot}
-use Rattle.order_rebuild.specs.Order.{IsNext, IsOrder, IsRest, OpenAt, LeastOpen}
-use Rattle.order_rebuild.specs.Lanes.{IsWithin, AreLanes, shorter}
-use Rattle.order_rebuild.specs.Tallied.{IsStep, AreTallied, IsTallied}
+use Rattle.order_rebuild.proofs.Open.{IsRest, OpenAt, LeastOpen}
+use Rattle.order_rebuild.specs.Order.{IsNext, IsOrder}
+use Rattle.order_rebuild.specs.Lanes.{IsInLane, AreLanes, shorter}
+use Rattle.order_rebuild.proofs.TalliedItems.{AreTallied, IsTallied}
+use Rattle.order_rebuild.specs.Tallied.{IsStep}
 use Rattle.order_rebuild.specs.Tallies.{row_at, version_at, left_at, AreFresh, AreKnownUses, MayStart}
 use Rattle.order_rebuild.specs.declared.lanes.Lane.{Lane}
 use Rattle.order_rebuild.specs.declared.tallied.Tally.{Tally}
@@ -111,7 +113,7 @@ module _ (list : List Spot) (rows : List (Vec ℕ Global)) (left : List Bool) (t
 
     -- an open item may start its lane
     open_starts : IsTallied list (row_at rows) → (q : ℕ) (other : Spot) → OpenAt list left q other → (i : ℕ) (x : Lane)
-        → slice_get lanes i ≡ Some x → IsWithin q x → MayStart list tallies x
+        → slice_get lanes i ≡ Some x → IsInLane q x → MayStart list tallies x
     open_starts is q other o i x e w =
         let high = w.1 in
         let first = open_first list left lanes state.lanes_are q other o i x e w in (

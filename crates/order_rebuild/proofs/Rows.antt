@@ -12,7 +12,7 @@ use Rattle.order_rebuild.specs.declared.lines.Lines.{Lines}
 use Rattle.history_model.specs.declared.placed.Spot.{Spot}
 use Rattle.order_rebuild.specs.declared.turn.Turn.{Turn}
 use Rattle.order_rebuild.specs.Order.{Precedes, Orderable}
-use Rattle.order_rebuild.specs.Turns.{caller_code, IsTurnOf, HasTurn, AreTurns}
+use Rattle.order_rebuild.specs.Turns.{line_place, IsTurnOf, HasTurn, AreTurns}
 use Rattle.order_rebuild.specs.Lines.{AreStarts, AreChains, AreRows, AreLines, AreLinesOf, places, items, item_at, base_at, first_at, last_of, caller_of}
 use Rattle.order_rebuild.proofs.Codes.{before_codes, lock_line, caller_line, lower, turns_before, turns_same, one_way}
 
@@ -121,13 +121,13 @@ module _ (list : List Spot) (turns : List Turn) (are : AreTurns list (length lis
       s : (s : Spot) × (slice_get list p ≡ Some s)
       s = below_get p list (omega (arith, count))
 
-      has : HasTurn turns p (caller_code s.0.caller s.0.index)
+      has : HasTurn turns p (line_place s.0.caller s.0.index)
       has = (are.of_caller p s.0 (omega (arith, count)) s.1).1
 
       cases : (n : ℕ) → last_of l p ≡ n → 0 < last_of l p
       cases (suc n) e = omega arith
-      cases zero e = absurd (let t = turn_of has.0 (record { code = caller_code s.0.caller s.0.index; item = p }) has.1 in
-          let w = slice_get_within turns has.0 (record { code = caller_code s.0.caller s.0.index; item = p }) has.1 in
+      cases zero e = absurd (let t = turn_of has.0 (record { code = line_place s.0.caller s.0.index; item = p }) has.1 in
+          let w = slice_get_within turns has.0 (record { code = line_place s.0.caller s.0.index; item = p }) has.1 in
           chains.last_none p has.0 lt (omega arith) (omega (arith, m_items, item_len)) t.item_is_)
 
   pub rows_are : AreRows l
@@ -185,7 +185,7 @@ module _ (list : List Spot) (turns : List Turn) (are : AreTurns list (length lis
       let a = are.of_caller p x (slice_get_within list p x ex) ex in
       let c = are.of_caller q y (slice_get_within list q y ey) ey in
       let s = ap (λ (n : ℕ). 2 * n + 1) b.0 in let r = ap (λ (n : ℕ). (2 * n + 1) * LINE) b.0 in let low = b.1 in
-      stands p q (caller_code x.caller x.index) (caller_code y.caller y.index) a.1 c.1 (caller_line x.caller x.index a.0
+      stands p q (line_place x.caller x.index) (line_place y.caller y.index) a.1 c.1 (caller_line x.caller x.index a.0
       ∙ (s ∙ sym (caller_line y.caller y.index c.0))) (omega arith))
       before
 

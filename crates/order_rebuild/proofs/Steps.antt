@@ -5,8 +5,8 @@ use mathlib.Core.Logic.{dite}
 use native.Mathlib.Decide.{ℕ_discrete, dec_lt}
 use Rattle.history_model.proofs.ListPlaces.{below_get}
 use Rattle.history_model.specs.declared.placed.Spot.{Spot}
-use Rattle.order_rebuild.specs.Order.{OpenAt}
-use Rattle.order_rebuild.specs.Lanes.{IsWithin, IsLane, AreLanes, shorter}
+use Rattle.order_rebuild.proofs.Open.{OpenAt}
+use Rattle.order_rebuild.specs.Lanes.{IsInLane, IsLane, AreLanes, shorter}
 use Rattle.order_rebuild.specs.declared.lanes.Lane.{Lane}
 use Rattle.order_rebuild.proofs.Codes.{same_there}
 use Rattle.order_rebuild.proofs.Come.{marks}
@@ -19,7 +19,7 @@ module _ (list : List Spot) (left : List Bool) (lanes : List Lane) (are : AreLan
       (λ n. dite (dec_lt j i) (λ l. absurd (let h = are.rising j i b a f e l in omega (arith, h, same))) (λ m. omega arith))
 
   -- an open item is the first of its lane
-  pub open_first : (q : ℕ) (other : Spot) → OpenAt list left q other → (i : ℕ) (x : Lane) → slice_get lanes i ≡ Some x → IsWithin q x → x.next ≡ q
+  pub open_first : (q : ℕ) (other : Spot) → OpenAt list left q other → (i : ℕ) (x : Lane) → slice_get lanes i ≡ Some x → IsInLane q x → x.next ≡ q
   open_first q other o i x e w =
       let l = are.each i x e in
       let low = w.0 in let high = w.1 in
@@ -55,14 +55,14 @@ module _ (list : List Spot) (left : List Bool) (lanes : List Lane) (are : AreLan
         let of = (are.each w.0 w.1 w.2).caller q other w.3 e in
         let one : w.0 ≡ at = one_lane w.0 at w.1 lane w.2 here (sym of ∙ (same ∙ caller_is)) in
         let is : w.1 ≡ lane = same_there lanes at w.1 lane (subst (λ (k : ℕ). slice_get lanes k ≡ Some w.1) one w.2) here in
-        let within : IsWithin q lane = subst (IsWithin q) is w.3 in
+        let within : IsInLane q lane = subst (IsInLane q) is w.3 in
         let low = within.0 in let high = within.1 in
         let rises = is_lane.rises p q spot.0 other (omega arith, some) (omega arith) high spot.1 e in omega (arith, rises, less)
 
     -- the first item of another lane is another one
-    pub other_item : (i : ℕ) (x : Lane) → slice_get lanes i ≡ Some x → i ≢ at → (q : ℕ) → IsWithin q x → q ≢ p
+    pub other_item : (i : ℕ) (x : Lane) → slice_get lanes i ≡ Some x → i ≢ at → (q : ℕ) → IsInLane q x → q ≢ p
     other_item i x e ne q w z = ne (one_lane i at x lane e here
-        (sym ((are.each i x e).caller p spot.0 (subst (λ (k : ℕ). IsWithin k x) z w) spot.1) ∙ caller_is))
+        (sym ((are.each i x e).caller p spot.0 (subst (λ (k : ℕ). IsInLane k x) z w) spot.1) ∙ caller_is))
 
     abbrev pub marked : List Bool
     marked = slice_set left p false
@@ -107,7 +107,7 @@ module _ (list : List Spot) (left : List Bool) (lanes : List Lane) (are : AreLan
     lanes_after = record {
       each = λ i x e. ⊎_elim (λ o. subst (IsLane list) (sym o.1) short_lane) (λ o. are.each i x o.1) (lane_cases i x e);
       within = λ i q x e w. ⊎_elim
-          (λ o. let v : IsWithin q (shorter lane) = subst (IsWithin q) o.1 w in let a = v.0 in
+          (λ o. let v : IsInLane q (shorter lane) = subst (IsInLane q) o.1 w in let a = v.0 in
           stays q (λ z. absurd (omega arith)) ∙ are.within at q lane here (omega arith, v.1))
           (λ o. stays q (other_item i x o.1 o.0 q w) ∙ are.within i q x o.1 w)
           (lane_cases i x e);
@@ -115,7 +115,7 @@ module _ (list : List Spot) (left : List Bool) (lanes : List Lane) (are : AreLan
           let k = still q m in let w = are.all q k.1 in
           dite (ℕ_discrete w.0 at)
           (λ z. let is : w.1 ≡ lane = same_there lanes at w.1 lane (subst (λ (k : ℕ). slice_get lanes k ≡ Some w.1) z w.2) here in
-          let v : IsWithin q lane = subst (IsWithin q) is w.3 in let a = v.0 in let ne = k.0 in
+          let v : IsInLane q lane = subst (IsInLane q) is w.3 in let a = v.0 in let ne = k.0 in
           (at, shorter lane, set_same lanes at lane (shorter lane) here, (dite (ℕ_discrete q p) (λ y. absurd (ne y)) (λ y. omega arith), v.1)))
           (λ n. (w.0, w.1, set_other lanes at w.0 (shorter lane) n ∙ w.2, w.3));
       rising = λ i j a b e f l. let x = old_lane i a e in let y = old_lane j b f in

@@ -11,7 +11,8 @@ use Rattle.std.proofs.lemmas.List.Elements.{All-cons}
 use Rattle.std.proofs.lemmas.Option.{slice_get_read, get_or_from_slice_get}
 use Rattle.history_model.specs.Sets.{flag}
 use Rattle.order_rebuild.specs.declared.lines.Lines.{Lines}
-use Rattle.order_rebuild.specs.Lines.{places, items, item_at, base_at, first_at, before_at, last_of, caller_of, AreRows}
+use Rattle.order_rebuild.proofs.Befores.{before_at}
+use Rattle.order_rebuild.specs.Lines.{places, items, item_at, base_at, first_at, last_of, caller_of, AreRows}
 use Rattle.order_rebuild.specs.Going.{IsOpen, AreGone, IsStopped, AreStopped, AreWaits, AreClosed, Comer, comer_cmp, IsKnown, count_of, KeepsReady}
 
 -- a number of a list after a write

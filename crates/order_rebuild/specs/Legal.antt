@@ -32,7 +32,7 @@ OrderIsLegal good =
     → LegalOrder good base (entries_at d entries out)
     × IsNewest base next items (replay_items base (entries_at d entries out))
 
--- calls whose entries have an arrangement can be put in order, where each call's pass had seen its caller's earlier calls
+-- calls whose entries have an arrangement can be put in order, if each call's pass had seen its caller's earlier calls
 abbrev pub ArrangedIsOrderable : Type 0
 ArrangedIsOrderable =
     (items entries order : List Item) (list : List Spot) → IsArrangement items order → AreEntries list items entries

@@ -4,14 +4,14 @@ use Rattle.order_rebuild.specs.declared.lines.Lines.{Lines}
 use Rattle.history_model.specs.declared.placed.Spot.{Spot}
 use Rattle.order_rebuild.specs.Order.{Precedes, Orderable}
 
--- at each place the first of those that have the same f, where f never falls
+-- at each place the first of those that have the same f, if f never falls
 pub record AreStarts (f : ℕ → ℕ) (m : ℕ) (starts : List ℕ) : Type 0 where
   pub count : length starts ≡ m
   pub low : (i : ℕ) → i < m → slice_index starts i ≤ i
   pub same : (i j : ℕ) → i < m → slice_index starts i ≤ j → j ≤ i → f j ≡ f i
   pub less : (i j : ℕ) → i < m → j < slice_index starts i → f j < f i
 
--- the places of each item from its last one down: `before` and `last` name a place by one more, and 0 where there is none
+-- the places of each item from its last one down: `before` and `last` name a place by one more, and 0 if there is none
 pub record AreChains (item : List ℕ) (m n : ℕ) (before last : List ℕ) : Type 0 where
   pub count : length before ≡ m
   pub below : (i : ℕ) → i < m → slice_index before i ≤ i
@@ -36,9 +36,6 @@ base_at l i = slice_index l.base.items i
 abbrev pub first_at : Lines → ℕ → ℕ
 first_at l i = slice_index l.first.items i
 
-abbrev pub before_at : Lines → ℕ → ℕ
-before_at l i = slice_index l.before.items i
-
 abbrev pub last_of : Lines → ℕ → ℕ
 last_of l p = slice_index l.last.items p
 
@@ -59,7 +56,7 @@ pub record AreRows (l : Lines) : Type 0 where
   pub chains : AreChains l.item.items (places l) (items l) l.before.items l.last.items
   pub somewhere : (p : ℕ) → p < items l → 0 < last_of l p
 
--- and an item has to come before another exactly where it stands before it in some line
+-- and an item has to come before another exactly if it stands before it in some line
 pub record AreLines (list : List Spot) (l : Lines) : Type 0 where
   pub rows : AreRows l
   pub count : items l ≡ length list
@@ -71,7 +68,7 @@ pub record AreLines (list : List Spot) (l : Lines) : Type 0 where
       → slice_get list (item_at l i) ≡ Some x → slice_get list (item_at l j) ≡ Some y → Precedes x y
   pub apart : (i j : ℕ) → j < places l → base_at l j ≤ i → i < first_at l j → item_at l i ≢ item_at l j
 
--- the lines are those of the list, at least where it can be put in order
+-- the lines are those of the list, at least if it can be put in order
 pub record AreLinesOf (list : List Spot) (l : Lines) : Type 0 where
   pub rows : AreRows l
   pub count : items l ≡ length list

@@ -1,5 +1,5 @@
 -- The order: again and again, among the items that may come, the one of the least caller.
-use Rattle.std.specs.Prelude.{◌≡◌, ◌≢◌, ℕ, ◌<◌, ◌≤◌, ◌⊎◌, Bool, true, false, List, slice_get, length, take, Some}
+use Rattle.std.specs.Prelude.{◌≡◌, ◌≢◌, ℕ, ◌<◌, ◌≤◌, ◌⊎◌, List, slice_get, length, take, Some}
 use Rattle.history_model.specs.Items.{UsedBefore}
 use Rattle.history_model.specs.Legal.{IsIn}
 use Rattle.history_model.specs.declared.placed.Spot.{Spot}
@@ -36,29 +36,6 @@ pub record Orderable (list : List Spot) : Type 0 where
   pub in_order : (p q : ℕ) (x y : Spot) → slice_get list p ≡ Some x → slice_get list q ≡ Some y → number p < number q
       → Precedes y x → ⊥
 
--- the marks of those that are not placed
-pub record IsRest (list : List Spot) (placed : List ℕ) (left : List Bool) : Type 0 where
-  pub count : length left ≡ length list
-  pub open_ : (p : ℕ) → slice_get left p ≡ Some true → IsIn p placed → ⊥
-  pub shut : (p : ℕ) → slice_get left p ≡ Some false → IsIn p placed
-
 -- two orders of a list are one, with each place once, and none that has to come before one that stands earlier
 abbrev pub OneOrder : Type 0
 OneOrder = (list : List Spot) (one two : List ℕ) → Orderable list → IsOrder list one → IsOrder list two → one ≡ two
-
--- by the marks: the item at p is left, and none that is left has to come before it
-pub record OpenAt (list : List Spot) (left : List Bool) (p : ℕ) (spot : Spot) : Type 0 where
-  pub at : slice_get list p ≡ Some spot
-  pub mark : slice_get left p ≡ Some true
-  pub first : (q : ℕ) (other : Spot) → slice_get list q ≡ Some other → slice_get left q ≡ Some true → q ≢ p
-      → Precedes other spot → ⊥
-
--- no item is open
-abbrev pub NoneOpen : List Spot → List Bool → Type 0
-NoneOpen list left = (p : ℕ) (spot : Spot) → OpenAt list left p spot → ⊥
-
--- the item at p is open, and of the least caller
-pub record LeastOpen (list : List Spot) (left : List Bool) (p : ℕ) : Type 0 where
-  pub spot : Spot
-  pub is_open : OpenAt list left p spot
-  pub least : (q : ℕ) (other : Spot) → OpenAt list left q other → spot.caller ≤ other.caller

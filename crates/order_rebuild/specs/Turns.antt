@@ -7,8 +7,8 @@ use Rattle.history_model.specs.declared.placed.Spot.{Spot}
 use Rattle.order_rebuild.specs.declared.turn.Turn.{Turn}
 
 -- of two uses of one lock that which has the lower key comes before the other
-abbrev pub key_of : LockUse → ℕ
-key_of u = u.version * 2 + flag u.wrote
+abbrev pub use_key : LockUse → ℕ
+use_key u = u.version * 2 + flag u.wrote
 
 -- each use is of a greater lock than those before it
 abbrev pub IsRising : List LockUse → Type 0
@@ -16,16 +16,16 @@ IsRising us = (i j : ℕ) (u v : LockUse) → slice_get us i ≡ Some u → slic
 
 -- some use of lock k has this key
 abbrev pub HasKey : List LockUse → ℕ → ℕ → Type 0
-HasKey us k key = (i : ℕ) × (u : LockUse) × (slice_get us i ≡ Some u) × (u.lock ≡ k) × (key_of u ≡ key)
+HasKey us k key = (i : ℕ) × (u : LockUse) × (slice_get us i ≡ Some u) × (u.lock ≡ k) × (use_key u ≡ key)
 
 -- and none has a lower one
 pub record IsLeastKey (us : List LockUse) (k low : ℕ) : Type 0 where
   pub has : HasKey us k low
-  pub least : (i : ℕ) (u : LockUse) → slice_get us i ≡ Some u → u.lock ≡ k → low ≤ key_of u
+  pub least : (i : ℕ) (u : LockUse) → slice_get us i ≡ Some u → u.lock ≡ k → low ≤ use_key u
 
 -- some use of lock k has a greater key
 abbrev pub HasAbove : List LockUse → ℕ → ℕ → Type 0
-HasAbove us k low = (i : ℕ) × (u : LockUse) × (slice_get us i ≡ Some u) × (u.lock ≡ k) × (low < key_of u)
+HasAbove us k low = (i : ℕ) × (u : LockUse) × (slice_get us i ≡ Some u) × (u.lock ≡ k) × (low < use_key u)
 
 -- where an item with these uses stands in the line of lock k
 pub record IsLockCode (us : List LockUse) (k code : ℕ) : Type 0 where
@@ -37,13 +37,13 @@ pub record IsLockCode (us : List LockUse) (k code : ℕ) : Type 0 where
   pub fits : 2 * low + flag wide < LINE
 
 -- where a caller's item stands in the caller's line
-abbrev pub caller_code : ℕ → ℕ → ℕ
-caller_code caller index = (2 * caller + 1) * LINE + index
+abbrev pub line_place : ℕ → ℕ → ℕ
+line_place caller index = (2 * caller + 1) * LINE + index
 
 -- the item at p stands there in one of its lines
 abbrev pub IsTurnOf : List Spot → ℕ → ℕ → Type 0
 IsTurnOf list p code = (s : Spot) × (slice_get list p ≡ Some s)
-    × (((k : ℕ) × IsLockCode s.uses k code) ⊎ ((code ≡ caller_code s.caller s.index) × (s.index < LINE)))
+    × (((k : ℕ) × IsLockCode s.uses k code) ⊎ ((code ≡ line_place s.caller s.index) × (s.index < LINE)))
 
 -- the item p stands there, by the turns
 abbrev pub HasTurn : List Turn → ℕ → ℕ → Type 0
@@ -55,7 +55,7 @@ pub record AreTurns (list : List Spot) (n : ℕ) (turns : List Turn) : Type 0 wh
   pub of_uses : (p : ℕ) (s : Spot) (j : ℕ) (u : LockUse) → p < n → slice_get list p ≡ Some s
       → slice_get s.uses j ≡ Some u → (code : ℕ) × IsLockCode s.uses u.lock code × HasTurn turns p code
   pub of_caller : (p : ℕ) (s : Spot) → p < n → slice_get list p ≡ Some s
-      → (s.index < LINE) × HasTurn turns p (caller_code s.caller s.index)
+      → (s.index < LINE) × HasTurn turns p (line_place s.caller s.index)
 
 -- the turns gain those of the first n uses of the item p
 pub record GainTurns (us : List LockUse) (p n : ℕ) (old new : List Turn) : Type 0 where

@@ -63,7 +63,7 @@ fn are_rising(lanes: &[Lane]) -> bool
     true
 }
 
-/// The lanes by rising caller; None where the items of a caller do not stand side by side by rising index.
+/// The lanes by rising caller; None if the items of a caller do not stand side by side by rising index.
 pub(crate) fn lanes_of<P: Placed>(alloc: Global, done: &[P]) -> Option<Vec<Lane>>
     ensures { IfSome result (λ lanes.
         AreLanes (map P.spot done.now) (replicate (length done.now) true) lanes.items) }

@@ -1,14 +1,14 @@
 //! The order in which calls are printed, rebuilt from the versions of the locks that they used.
 //!
-//! A call comes before another where both used a lock and it found the lower version, or the same one where it only read
-//! and the other wrote, and where the same caller made it earlier.
+//! A call comes before another if both used a lock and it found the lower version, or the same one if it only read
+//! and the other wrote, and if the same caller made it earlier.
 //!
 //! A list that stands in its order already, as one worker leaves it, is seen in one look at each use (`standing`).
 //!
 //! Other lists as a table gives them, in which each lock is written from version 0 on without a gap and a caller's items
 //! stand side by side, are put in order by how many read each version (`readers`, `tallied`, `lanes`): of each lock it is
 //! known which version it has by what is placed, and how many readers of it are left; so a caller's next item may come if
-//! each of its uses found the version that its lock has, and no reader is left where it wrote. That takes time in
+//! each of its uses found the version that its lock has, and no reader is left if it wrote. That takes time in
 //! proportion to the uses, and to the items times the callers. The rest go a longer way: each item stands in a line for
 //! each lock that it used and in one of its caller (`turn`); the lines are sorted once (`lines`), and the items are placed
 //! while the lines go on (`ready`, `placing`), in the time of that sort.
@@ -69,7 +69,7 @@ pub fn order_counted<P: Placed>(
     order_of(alloc, done)
 }
 
-/// A list has one order alone, where no two items have the same caller and index.
+/// A list has one order alone, if no two items have the same caller and index.
 pub fn one_order()
     ensures { OneOrder }
 {}

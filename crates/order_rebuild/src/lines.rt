@@ -11,7 +11,7 @@ use history_model::{LockUse, Placed};
 use io_ends::OutOfMemory;
 use std::alloc::Global;
 
-/// The lines, one behind the other, each in its order. Where items stand level in a line, none of them has to come
+/// The lines, one behind the other, each in its order. If items stand level in a line, none of them has to come
 /// before another.
 #[derive(Drop)]
 pub(crate) struct Lines {

@@ -7,7 +7,7 @@ ghost use Rattle.order_rebuild.specs.Order.{IsOrder, Orderable};
 ghost use Rattle.order_rebuild.specs.Lines.{places, items, AreRows, AreLines};
 
 use crate::lines::Lines;
-use crate::ready::{Ready, let_go, settle_all};
+use crate::ready::{Ready, let_go, queue_all};
 use history_model::Placed;
 use io_ends::OutOfMemory;
 use std::alloc::Global;
@@ -33,7 +33,7 @@ pub(crate) fn place_all(
     ensures { (list : List Spot) → AreLines list lines.now → Orderable list
         → OnOk result (IsOrder list out.new.items) }
 {
-    settle_all(lines, next, wait, &mut ready)?;
+    queue_all(lines, next, wait, &mut ready)?;
     'all: while let Some(comer) = ready.pop() {
         let p = comer.0.1;
         left[p] = false;

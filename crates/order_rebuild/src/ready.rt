@@ -50,8 +50,8 @@ fn first_closed(lines: &Lines, next: &[usize], q: usize, from: usize) -> usize
     at
 }
 
-/// Lets the item wait at a place that is not open, or puts it among those that may come.
-fn settle(
+/// Queues the item: it waits at a place that is not open, or comes among those that may come.
+fn queue_item(
     lines: &Lines,
     next: &[usize],
     wait: &mut [usize],
@@ -82,8 +82,8 @@ fn settle(
     Ok(())
 }
 
-/// Settles the items that stand level from this place on.
-fn settle_level(
+/// Queues the items that stand level from this place on.
+fn queue_level(
     lines: &Lines,
     next: &[usize],
     wait: &mut [usize],
@@ -103,13 +103,13 @@ fn settle_level(
         if lines.first[i] != start {
             return Ok(());
         }
-        settle(lines, next, wait, ready, lines.item[i])?;
+        queue_item(lines, next, wait, ready, lines.item[i])?;
     }
     Ok(())
 }
 
-/// Settles every item.
-pub(crate) fn settle_all(
+/// Queues every item.
+pub(crate) fn queue_all(
     lines: &Lines,
     next: &[usize],
     wait: &mut [usize],
@@ -124,7 +124,7 @@ pub(crate) fn settle_all(
         (KeepsReady lines.now wait.old (heap_items ready.old) wait.new (heap_items ready.new)) }
 {
     for i in 0..lines.item.len() {
-        settle(lines, next, wait, ready, lines.item[i])?;
+        queue_item(lines, next, wait, ready, lines.item[i])?;
     }
     Ok(())
 }
@@ -168,7 +168,7 @@ fn advance(
     'on: while is_passed(lines, left, line, next[line]) {
         let start = next[line] + 1;
         next[line] = start;
-        settle_level(lines, next, wait, ready, start)?;
+        queue_level(lines, next, wait, ready, start)?;
     }
     Ok(())
 }

@@ -6,9 +6,9 @@
 //! at once more, and once all are placed what was counted is what the list has.
 
 ghost use Rattle.std.specs.Prelude.{◌≡◌, ◌↔◌, ℕ, ◌+◌, ◌<◌, ◌≤◌, IsTrue, IfSome, OnSome, map, length, slice_get, slice_index, slice_index_or, take, Some, replicate, true, false, []};
-ghost use Rattle.order_rebuild.specs.Order.{IsOrder, IsNext, IsRest};
+ghost use Rattle.order_rebuild.specs.Order.{IsOrder, IsNext};
 ghost use Rattle.order_rebuild.specs.Lanes.{AreLanes};
-ghost use Rattle.order_rebuild.specs.Tallied.{IsStep, MayUse, AreTallied, IsTallied};
+ghost use Rattle.order_rebuild.specs.Tallied.{IsStep, MayUse};
 ghost use Rattle.order_rebuild.specs.Tallies.{no_tally, row_at, version_at, left_at, MayUseBelow, MayUseAll, AreKnownOf, AreKnownUses, MayStart, AreFresh};
 
 use crate::lanes::{Lane, first_with_items, lanes_of, take_first};

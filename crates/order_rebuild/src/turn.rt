@@ -7,7 +7,7 @@
 
 ghost use Rattle.std.specs.Prelude.{◌≡◌, ◌≢◌, ℕ, ◌+◌, ◌*◌, ◌^◌, ◌<◌, ◌≤◌, IsTrue, ◌↔◌, length, slice_get, Some, true};
 ghost use Rattle.history_model.specs.Sets.{flag};
-ghost use Rattle.order_rebuild.specs.Turns.{key_of, IsRising, HasKey, IsLeastKey, HasAbove, IsLockCode, caller_code};
+ghost use Rattle.order_rebuild.specs.Turns.{use_key, IsRising, HasKey, IsLeastKey, HasAbove, IsLockCode, line_place};
 
 use history_model::LockUse;
 
@@ -23,7 +23,7 @@ pub(crate) struct Turn {
 
 /// The version, and behind it whether the use wrote.
 pub(crate) fn key(lock_use: &LockUse) -> u128
-    ensures is { result ≡ key_of lock_use.now }
+    ensures is { result ≡ use_key lock_use.now }
     ensures fits { result < 2 ^ 65 }
 {
     lock_use.version as u128 * 2 + lock_use.wrote as u128
@@ -98,7 +98,7 @@ pub(crate) fn lock_code(uses: &[LockUse], i: usize, rising: bool) -> u128
 
 /// The place in the line of a caller.
 pub(crate) fn code_of_caller(caller: u32, index: u32) -> u128
-    ensures is { result ≡ caller_code caller index }
+    ensures is { result ≡ line_place caller index }
     ensures fits { index < LINE }
 {
     (2 * caller as u128 + 1) * LINE + index as u128

@@ -14,7 +14,7 @@ use Rattle.order_text.specs.declared.reply.Trade.{Trade}
 use Rattle.books_report.specs.Stores.Interpreter.{Step}
 use Rattle.books_report.specs.Stores.Interpreter.Step.{Gives, Absent, Full}
 use Rattle.books_report.proofs.AnyStore.Kept as kept
-use Rattle.order_text.specs.Interpreter.{enter_next, entered, has_no_room, incoming, order_outcome_of, step_of, with_order}
+use Rattle.order_text.specs.Interpreter.{enter_next, entered, has_no_room, incoming, order_outcome_of, order_step_of, with_order}
 use Rattle.order_text.specs.Laws.{BestPricesApart}
 use Rattle.order_text.specs.Matching.{allows, after_trades, has_quantity, match_of, may_trade, orders_after, partners, rest_of, trades_down, volume}
 use Rattle.order_text.specs.Orders.{OrderBook, all_but, blocks_of, empty_book, order_at}
@@ -176,7 +176,7 @@ cancel_keeps instruments number book (Some order) is = (
 )
 
 step_keeps : (instruments : ℕ) (o : OrderOp) (book : OrderBook) → IsBookOf instruments book → IsOrderOp instruments o
-    → StepKeeps instruments book (step_of o book)
+    → StepKeeps instruments book (order_step_of o book)
 step_keeps instruments (op.Buy instrument price quantity) book is range =
     enter_keeps instruments book (incoming book true instrument price quantity) is refl range
 step_keeps instruments (op.Sell instrument price quantity) book is range =
@@ -188,11 +188,11 @@ priced : (instruments : ℕ) (book : OrderBook) → IsBookOf instruments book �
 priced instruments book is r h = (of_every (IsRestingOrder instruments) book.orders r is.each h).limits_are.price_is.0
 
 pub books_kept : (instruments : ℕ) (o : OrderOp) (book next : OrderBook) (v : OrderValue) → IsBookOf instruments book → IsOrderOp instruments o
-    → step_of o book ≡ Gives v next → IsBookOf instruments next
+    → order_step_of o book ≡ Gives v next → IsBookOf instruments next
 books_kept instruments o book next v is range e = (subst (StepKeeps instruments book) e (step_keeps instruments o book is range)).0
 
 pub apart_kept : (instruments : ℕ) (o : OrderOp) (book next : OrderBook) (v : OrderValue) → IsBookOf instruments book → IsOrderOp instruments o
-    → step_of o book ≡ Gives v next → BestPricesApart book.orders → BestPricesApart next.orders
+    → order_step_of o book ≡ Gives v next → BestPricesApart book.orders → BestPricesApart next.orders
 apart_kept instruments o book next v is range e apart =
     best_apart next.orders ((subst (StepKeeps instruments book) e (step_keeps instruments o book is range)).1
     (all_apart book.orders (priced instruments book is) apart))
@@ -207,7 +207,7 @@ apart_step instruments book Full apart step = tt
 pub scripts_keep : (instruments : ℕ) (script : List OrderOp) (book : OrderBook) → IsBookOf instruments book → IsOrderScript instruments script
     → BestPricesApart book.orders → IsBookOf instruments (order_outcome_of script book).1 × BestPricesApart (order_outcome_of script book).1.orders
 scripts_keep instruments script book is ranges apart =
-    let after = kept.script_keeps (IsApartBook instruments) step_of (IsOrderOp instruments)
-    (λ o b range is. apart_step instruments b (step_of o b) is.apart (step_keeps instruments o b is.book_is range)) script book ranges.each
+    let after = kept.script_keeps (IsApartBook instruments) order_step_of (IsOrderOp instruments)
+    (λ o b range is. apart_step instruments b (order_step_of o b) is.apart (step_keeps instruments o b is.book_is range)) script book ranges.each
     (record { book_is = is; apart = all_apart book.orders (priced instruments book is) apart }) in
     (after.book_is, best_apart (order_outcome_of script book).1.orders after.apart)

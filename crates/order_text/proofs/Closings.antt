@@ -6,8 +6,10 @@ use Rattle.std.specs.declared.cmp.Ordering.TheVariants.{Less}
 use Rattle.std.proofs.lemmas.Cmp.{ranked}
 use Rattle.std.proofs.lemmas.List.Elements.{All-tail}
 use Rattle.std.proofs.lemmas.List.Kept.{AllPairs-cons}
+use Rattle.script_reader.specs.Gathered.{script_at}
 use Rattle.script_reader.specs.Journal.{Place}
-use Rattle.books_report.specs.Stores.Output.{outcome_at, places_run, script_at}
+use Rattle.books_report.specs.Journals.{places_run}
+use Rattle.books_report.specs.Stores.Output.{outcome_at}
 use Rattle.order_text.specs.declared.order.Resting.{Resting}
 use Rattle.order_text.specs.Input.{BookInput, IsBookInput}
 use Rattle.order_text.specs.Journal.{IsOrderPlace}
@@ -27,14 +29,14 @@ pairs_rise (r ∷ rs) rising = AllPairs-cons IsBefore r rs
 
 module _ (input : BookInput) (is : IsBookInput input) where
   -- the script at a place is one for the book
-  script_is : (place : Place) → IsOrderPlace input place → IsOrderScript input.instruments (script_at (order_store input) place.caller place.index)
+  script_is : (place : Place) → IsOrderPlace input place → IsOrderScript input.instruments (script_at (order_store input).callers place.caller place.index)
   script_is place there = is.callers.scripts place.caller (record { name = []; scripts = [] }) there.0 place.index [] there.1
 
   kept_after : (places : List Place) (book : OrderBook) → All (IsOrderPlace input) places → IsBookOf input.instruments book → BestPricesApart book.orders
       → IsBookOf input.instruments (book_after input book places) × BestPricesApart (book_after input book places).orders
   kept_after [] book there kept apart = (kept, apart)
   kept_after (place ∷ places) book there kept apart =
-      let next = scripts_keep input.instruments (script_at (order_store input) place.caller place.index) book kept
+      let next = scripts_keep input.instruments (script_at (order_store input).callers place.caller place.index) book kept
       (script_is place (there 0 place (omega arith))) apart in
       kept_after places (outcome_at (order_store input) book place).1 (All-tail (IsOrderPlace input) place places there) next.0 next.1
 

@@ -1,4 +1,4 @@
--- What rests after an order has entered: where something is left of it, all its partners are filled.
+-- What rests after an order has entered: if something is left of it, all its partners are filled.
 use Rattle.std.proofs.Common.{◌≡◌, ◌≢◌, ℕ, ◌+◌, ◌-◌, ◌<◌, Bool, true, false, cond, not, ◌==◌, nat_lt, min, ◌⊎◌, inl, inr, ⊎_elim, List}
 use Rattle.std.proofs.Common.{[], ◌∷◌, ◌++◌, map, filter, find, Some, refl, sym, ap, ◌∙◌, subst, arith, eq-eqb, ne_eqb, if◌then◌else◌}
 use Rattle.std.specs.List.Sorted.{IsStrictlySortedBy}
@@ -36,7 +36,7 @@ unique_numbers (r ∷ rs) rising x y hx hy e =
     absurd (not_itself r x (of_one (λ w. by_number r w ≡ Less) rs x rising.0 tx) (ap (λ (w : Resting). w.number) (sym ey) ∙ sym e)))
     (λ ty. unique_numbers rs rising.1 x y tx ty e) hy) hx
 
--- where something is left of an order, each partner traded all that it had
+-- if something is left of an order, each partner traded all that it had
 found_first : (n : ℕ) (t : Trade) (ts : List Trade) → t.order ≡ n → find (λ x. x.order == n) (t ∷ ts) ≡ Some t
 found_first n t ts e = ap (λ (b : Bool). cond b (Some t) (find (λ x. x.order == n) ts)) (eq-eqb t.order n e)
 

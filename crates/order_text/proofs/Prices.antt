@@ -99,7 +99,7 @@ order_of_price : (orders : List Resting) (instrument : ℕ) (buys : Bool) (price
 order_of_price orders instrument buys price h = let m = has_mapped (λ (x : Resting). x.price) _ price h in
     let f = has_filtered (is_on instrument buys) orders m.0 m.1.0 in (m.0, (f.0, on_is instrument buys m.0 f.1, m.1.1))
 
--- so the best prices are apart exactly where all are, if no price is 0
+-- so the best prices are apart exactly if all are, if no price is 0
 pub best_apart : (orders : List Resting) → AreApart orders → BestPricesApart orders
 best_apart orders apart instrument bought sold =
     let b = order_of_price orders instrument true (best_buy instrument orders) (highest_at (prices_on instrument true orders) bought) in

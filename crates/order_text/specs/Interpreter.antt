@@ -22,7 +22,7 @@ incoming book buys instrument price quantity = record {
   quantity = quantity;
 }
 
--- there is no room where no number is left, or where something is left of the order and no blocks are, after its trades
+-- there is no room if no number is left, or if something is left of the order and no blocks are, after its trades
 abbrev pub has_no_room : OrderBook → Matched → Bool
 has_no_room book matched =
     (book.last == GREATEST_ORDER) || (nat_lt 0 matched.left && nat_lt book.blocks (blocks_of matched.orders + 2))
@@ -46,15 +46,15 @@ with_order None next = Absent
 with_order (Some order) next = next order
 
 -- one case for each operation
-abbrev pub step_of : OrderOp → OrderBook → Step OrderValue OrderBook
-step_of (op.Buy instrument price quantity) book = enter_next book (incoming book true instrument price quantity)
-step_of (op.Sell instrument price quantity) book = enter_next book (incoming book false instrument price quantity)
-step_of (op.Cancel number) book =
+abbrev pub order_step_of : OrderOp → OrderBook → Step OrderValue OrderBook
+order_step_of (op.Buy instrument price quantity) book = enter_next book (incoming book true instrument price quantity)
+order_step_of (op.Sell instrument price quantity) book = enter_next book (incoming book false instrument price quantity)
+order_step_of (op.Cancel number) book =
     with_order (order_at number book.orders)
     (λ order. Gives (value.Cancelled order.quantity) (record book { orders = all_but number book.orders }))
-step_of (op.Best instrument) book =
+order_step_of (op.Best instrument) book =
     Gives (value.Prices (best_buy instrument book.orders) (best_sell instrument book.orders)) book
 
 -- what a script replies, and the book that it leaves
 abbrev pub order_outcome_of : List OrderOp → OrderBook → OrderReply × OrderBook
-order_outcome_of script book = outcome_of step_of script book
+order_outcome_of script book = outcome_of order_step_of script book

@@ -9,7 +9,7 @@ use Rattle.order_text.specs.declared.script.OrderOp.{OrderOp}
 use Rattle.order_text.specs.declared.script.OrderOp.TheVariants as op
 use Rattle.script_reader.specs.Forms.{Form, form}
 use Rattle.script_reader.specs.ListLanguage.{ListLanguage, AreSizes, IsFormOfOperations, IsListLanguage, size, is_word}
-use Rattle.script_reader.proofs.Listed.Numbers.{one_number, three_numbers}
+use Rattle.script_reader.proofs.language.Listed.Numbers.{one_number, three_numbers}
 
 -- the ranges of the numbers of an order: its instrument, of so many, its price and its quantity
 abbrev pub limit_ranges : ℕ → List (ℕ × ℕ)

@@ -5,9 +5,9 @@ use Rattle.order_text.specs.declared.script.OrderOp.{OrderOp}
 use Rattle.order_text.specs.declared.reply.OrderValue.{OrderValue}
 use Rattle.books_report.specs.declared.stores.reply.StoreReply.TheVariants as reply
 use Rattle.order_text.specs.Orders.{OrderBook, best_buy, best_sell, empty_book}
-use Rattle.order_text.specs.Interpreter.{order_outcome_of, step_of}
+use Rattle.order_text.specs.Interpreter.{order_outcome_of, order_step_of}
 use Rattle.books_report.specs.Stores.Interpreter.Step.{Gives}
-use Rattle.books_report.specs.Stores.Output.{places_run}
+use Rattle.books_report.specs.Journals.{places_run}
 use Rattle.order_text.specs.Language.{order_language}
 use Rattle.order_text.specs.Input.{BookInput, IsBookInput}
 use Rattle.order_text.specs.Journal.{IsOrderPlace}
@@ -18,12 +18,12 @@ use Rattle.script_reader.specs.ListLanguage.{IsOperationIn}
 use Rattle.order_text.specs.Ranges.{IsBlockCount, IsBookOf, IsInstrumentCount, IsOrderOp, IsOrderScript}
 
 -- a script that is not done leaves the book
-abbrev pub RefusedChangesNothing : Type 0
-RefusedChangesNothing = (script : List OrderOp) (book : OrderBook)
+abbrev pub RefusedChangesNoOrder : Type 0
+RefusedChangesNoOrder = (script : List OrderOp) (book : OrderBook)
     → ((values : List OrderValue) → (order_outcome_of script book).0 ≢ reply.Done values)
     → (order_outcome_of script book).1 ≡ book
 
--- each instrument's best buy price is below its best sell price, where both are there
+-- each instrument's best buy price is below its best sell price, if both are there
 abbrev pub BestPricesApart : List Resting → Type 0
 BestPricesApart orders = (instrument : ℕ) → best_buy instrument orders ≢ 0 → best_sell instrument orders ≢ 0
     → best_buy instrument orders < best_sell instrument orders
@@ -36,13 +36,13 @@ EmptyIsApart = (blocks instruments : ℕ) → IsBlockCount blocks → IsInstrume
 -- after each operation it still is a book
 abbrev pub OperationsKeepBooks : Type 0
 OperationsKeepBooks = (instruments : ℕ) (op : OrderOp) (book next : OrderBook) (value : OrderValue)
-    → IsBookOf instruments book → IsOrderOp instruments op → step_of op book ≡ Gives value next
+    → IsBookOf instruments book → IsOrderOp instruments op → order_step_of op book ≡ Gives value next
     → IsBookOf instruments next
 
 -- and they still are so
 abbrev pub OperationsKeepApart : Type 0
 OperationsKeepApart = (instruments : ℕ) (op : OrderOp) (book next : OrderBook) (value : OrderValue)
-    → IsBookOf instruments book → IsOrderOp instruments op → step_of op book ≡ Gives value next
+    → IsBookOf instruments book → IsOrderOp instruments op → order_step_of op book ≡ Gives value next
     → BestPricesApart book.orders → BestPricesApart next.orders
 
 -- and both after every script

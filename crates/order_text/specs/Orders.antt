@@ -39,7 +39,7 @@ is_on instrument buys r = (r.instrument == instrument) && (if buys then r.buys e
 abbrev pub prices_on : ℕ → Bool → List Resting → List ℕ
 prices_on instrument buys orders = map (λ r. r.price) (filter (is_on instrument buys) orders)
 
--- the highest price of the resting buys of an instrument, and the lowest of its resting sells, or 0 where there is none
+-- the highest price of the resting buys of an instrument, and the lowest of its resting sells, or 0 if there is none
 abbrev pub best_buy : ℕ → List Resting → ℕ
 best_buy instrument orders = unwrap_or (reduce max (prices_on instrument true orders)) 0
 

@@ -6,7 +6,7 @@ use Rattle.order_text.specs.declared.script.OrderOp.{OrderOp}
 use Rattle.order_text.specs.declared.reply.OrderValue.{OrderValue}
 use Rattle.order_text.specs.Replies.{OrderReply}
 use Rattle.order_text.specs.Orders.{OrderBook, empty_book}
-use Rattle.order_text.specs.Interpreter.{step_of}
+use Rattle.order_text.specs.Interpreter.{order_step_of}
 use Rattle.order_text.specs.Language.{order_language}
 use Rattle.order_text.specs.Input.{BookInput}
 use Rattle.order_text.specs.Words.{value_word}
@@ -14,15 +14,16 @@ use Rattle.script_reader.specs.Text.{number, line}
 use Rattle.script_reader.specs.Journal.{Place}
 use Rattle.script_reader.specs.ListLanguage.{head_words}
 use Rattle.books_report.specs.Stores.Output as stores
-use Rattle.books_report.specs.Stores.Output.{IsOutputOf, RanOf, StoreOf, state_after, state_left}
+use Rattle.books_report.specs.Journals.{RanOf}
+use Rattle.books_report.specs.Stores.Output.{IsOutputOf, StoreOf, state_after, state_left}
 
 -- a script that was run: its place, how often it was restarted, and its reply
 abbrev pub OrderRan : Type 0
-OrderRan = RanOf OrderValue
+OrderRan = RanOf OrderReply
 
 -- the header of the input's text
-abbrev pub header_line : BookInput → List ℕ
-header_line input = line (head_words order_language (input.blocks ∷ input.instruments ∷ []))
+abbrev pub order_header_line : BookInput → List ℕ
+order_header_line input = line (head_words order_language (input.blocks ∷ input.instruments ∷ []))
 
 -- the word of a side
 abbrev pub side_word : Bool → List ℕ
@@ -45,9 +46,9 @@ abbrev pub order_store : BookInput → StoreOf OrderOp OrderValue OrderBook
 order_store input = record {
   callers = input.callers;
   begins = empty_book input.blocks;
-  step = step_of;
+  step = order_step_of;
   value_word = value_word;
-  header = header_line input;
+  header = order_header_line input;
   closing = λ book. flat_map order_line book.orders;
 }
 

@@ -18,7 +18,7 @@ IsInstrumentCount instruments = IsWithin 1 MOST_INSTRUMENTS instruments
 abbrev pub IsOrderNumber : ℕ → Type 0
 IsOrderNumber number = IsWithin 1 GREATEST_ORDER number
 
--- instrument, price and quantity of an order, where there are so many instruments
+-- instrument, price and quantity of an order, if there are so many instruments
 pub record IsLimitOrder (instruments instrument price quantity : ℕ) : Type 0 where
   pub instrument_is : IsWithin 1 instruments instrument
   pub price_is : IsWithin 1 GREATEST_PRICE price

@@ -3,7 +3,7 @@
 ghost use Rattle.std.specs.Prelude.{◌≡◌, ◌≤◌, ◌+◌, ◌*◌, ◌++◌, ◌&&◌, nat_lt, IfOk};
 ghost use Rattle.std.specs.Slice.Iter.{iter_rest};
 ghost use Rattle.books_report.specs.Stores.Steps.{step_with};
-ghost use Rattle.order_text.specs.Interpreter.{enter_next, incoming, step_of};
+ghost use Rattle.order_text.specs.Interpreter.{enter_next, incoming, order_step_of};
 ghost use Rattle.order_text.specs.Matching.{rest_of};
 ghost use Rattle.order_text.specs.Orders.{all_but, best_buy, best_sell, empty_book, order_at};
 ghost use Rattle.order_text.specs.Ranges.{IsBlockCount};
@@ -120,7 +120,7 @@ impl Book {
         })
     }
 
-    // The highest price of the resting buys of an instrument, 0 where there is none.
+    // The highest price of the resting buys of an instrument, 0 if there is none.
     fn best_buy(&self, instrument: u32) -> u64
         ensures { result ≡ best_buy instrument self.now.orders }
     {
@@ -133,7 +133,7 @@ impl Book {
         highest.unwrap_or(0)
     }
 
-    // The lowest price of the resting sells of an instrument, 0 where there is none.
+    // The lowest price of the resting sells of an instrument, 0 if there is none.
     fn best_sell(&self, instrument: u32) -> u64
         ensures { result ≡ best_sell instrument self.now.orders }
     {
@@ -146,7 +146,7 @@ impl Book {
         lowest.unwrap_or(0)
     }
 
-    // The next order trades, and what is left of it rests. Where there is no room, the book that is left is no matter.
+    // The next order trades, and what is left of it rests. If there is no room, the book that is left is no matter.
     fn enter(
         &mut self,
         buys: bool,
@@ -189,7 +189,7 @@ impl Book {
 
     // Takes a resting order out, if it is there.
     fn cancel(&mut self, number: u32) -> Outcome<OrderValue>
-        ensures step { step_of (OrderOp.Cancel number) self.old ≡ step_with result self.new }
+        ensures step { order_step_of (OrderOp.Cancel number) self.old ≡ step_with result self.new }
     {
         match self.order_at(number) {
             Some(order) => {
@@ -202,7 +202,7 @@ impl Book {
 }
 
 impl PlainStore for Book {
-    ghost use Rattle.order_text.specs.Interpreter.{step_of};
+    ghost use Rattle.order_text.specs.Interpreter.{order_step_of};
     ghost use Rattle.order_text.specs.Orders.{OrderBook};
 
     type Op = OrderOp;
@@ -217,7 +217,7 @@ impl PlainStore for Book {
 
     ghost state = { λ book. book };
 
-    ghost step = { λ _. step_of };
+    ghost step = { λ _. order_step_of };
 
     fn copy(&self) -> Result<Book, OutOfMemory> {
         Book::copy(self)

@@ -18,11 +18,11 @@ pub struct OrderInput {
 
 impl Model for OrderInput {
     ghost use Rattle.order_text.specs.Input.{BookInput, IsBookInput};
-    ghost use Rattle.order_text.specs.Inner.InputCode.{input_code};
+    ghost use Rattle.order_text.specs.Inner.InputCode.{book_input_code};
 
     ghost Value = { BookInput };
 
-    ghost coded = { input_code };
+    ghost coded = { book_input_code };
 
     ghost view = { λ i.
         record { blocks = i.blocks; instruments = i.instruments; callers = i.callers } };

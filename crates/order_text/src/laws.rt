@@ -1,7 +1,7 @@
 //! Laws of the language, each the contract of a function that does nothing.
 
 ghost use Rattle.std.specs.Prelude.{◌≡◌};
-ghost use Rattle.order_text.specs.Laws.{EmptyIsApart, FiveReasons, OperationsKeepApart, OperationsKeepBooks, PrintedByNumber, RangesAreThoseOfLines, RefusedChangesNothing, ScriptsKeepApart};
+ghost use Rattle.order_text.specs.Laws.{EmptyIsApart, FiveReasons, OperationsKeepApart, OperationsKeepBooks, PrintedByNumber, RangesAreThoseOfLines, RefusedChangesNoOrder, ScriptsKeepApart};
 
 use crate::limits::{GREATEST_ORDER, LEAST_BLOCKS, MOST_BLOCKS};
 use crate::words::COMMA;
@@ -22,10 +22,10 @@ pub fn limits_in_digits()
 
 /// A script that is declined or finds no room changes nothing.
 pub fn refused_changes_nothing()
-    ensures { RefusedChangesNothing }
+    ensures { RefusedChangesNoOrder }
 {}
 
-/// In every book that can be reached the best buy price of an instrument is below its best sell price, where both are
+/// In every book that can be reached the best buy price of an instrument is below its best sell price, if both are
 /// there: they are so in the empty book, and stay so after each operation and each script.
 pub fn best_prices_apart()
     ensures empty { EmptyIsApart }

@@ -88,7 +88,7 @@ pub enum OrderValue {
     Entered(u32, Trades),
     /// A resting order with this quantity is gone.
     Cancelled(u64),
-    /// The highest price of a resting buy and the lowest of a resting sell, each 0 where there is none.
+    /// The highest price of a resting buy and the lowest of a resting sell, each 0 if there is none.
     Prices(u64, u64),
 }
 

@@ -3,11 +3,10 @@
 ghost use Rattle.std.specs.Prelude.{◌≡◌, ℕ, ◌∷◌, ◌++◌, length, All, IfOk, OnOk};
 ghost use Rattle.std.specs.String.{string_bytes};
 ghost use Rattle.std.specs.List.{flat_map};
-ghost use Rattle.books_report.specs.Lines.{place_of_line};
-ghost use Rattle.books_report.specs.Stores.Lines.{lent, scripts_of};
-ghost use Rattle.script_reader.specs.declared.words.TheConstants.{SPACE};
+ghost use Rattle.books_report.specs.Lines.{place_of_line, lent, scripts_of};
+ghost use Rattle.script_reader.specs.declared.text.words.TheConstants.{SPACE};
 ghost use Rattle.order_text.specs.Journal.{IsOrderPlace};
-ghost use Rattle.order_text.specs.Output.{AreByNumber, AreRun, IsOrderOutput, closing_of, header_line, order_line, side_word, text_of};
+ghost use Rattle.order_text.specs.Output.{AreByNumber, AreRun, IsOrderOutput, closing_of, order_header_line, order_line, side_word, text_of};
 
 use crate::input::OrderInput;
 use crate::order::Resting;
@@ -15,12 +14,12 @@ use crate::reply::OrderReply;
 use books_report::Line;
 use books_report::stores::write_journal;
 use io_ends::OutOfMemory;
-use script_reader::decimal::{push_next, write_size};
+use script_reader::text::decimal::{push_next, write_size};
 use std::alloc::{AllocError, Global};
 
 fn write_header(text: &mut String, input: &OrderInput) -> Result<(), AllocError>
     ensures { OnOk result
-        (string_bytes text.new ≡ string_bytes text.old ++ header_line input.now) }
+        (string_bytes text.new ≡ string_bytes text.old ++ order_header_line input.now) }
 {
     text.push_str("orders 1")?;
     write_size(text, "blocks", input.blocks())?;

@@ -8,7 +8,7 @@ ghost use Rattle.order_text.specs.Words.{next_trade, trade_word};
 
 use crate::reply::{OrderValue, Trade, Trades};
 use books_report::stores::ToldValue;
-use script_reader::decimal::push_number;
+use script_reader::text::decimal::push_number;
 use std::alloc::AllocError;
 
 /// What stands in front of each trade of an order.

@@ -8,8 +8,8 @@ use Rattle.record_text.specs.declared.script.RecordOp.{RecordOp}
 use Rattle.record_text.specs.declared.script.RecordOp.TheVariants as op
 use Rattle.record_text.specs.declared.reply.RecordValue.{RecordValue}
 use Rattle.record_text.specs.declared.reply.RecordValue.TheVariants as value
-use Rattle.record_text.specs.Records.{Records, blocks_of, is_full}
-use Rattle.record_text.specs.Interpreter.{record_outcome_of, step_of, with_record}
+use Rattle.record_text.specs.Records.{Records, blocks_of, is_store_full}
+use Rattle.record_text.specs.Interpreter.{record_outcome_of, record_step_of, with_record}
 use Rattle.record_text.proofs.Puts.{put_fits}
 use Rattle.record_text.proofs.Removals.{no_more}
 
@@ -18,7 +18,7 @@ module _ (blocks : ℕ) where
   abbrev StepFits : Step RecordValue Records → Type 0
   StepFits = StepKeeps (λ records. blocks_of records ≤ blocks)
 
-  of_put : (b : Bool) (id rank content : ℕ) (records : Records) → (not (finite.contains_key records id) && is_full blocks records) ≡ b
+  of_put : (b : Bool) (id rank content : ℕ) (records : Records) → (not (finite.contains_key records id) && is_store_full blocks records) ≡ b
       → (v : RecordValue) → blocks_of records ≤ blocks
       → StepFits (if b then Full else Gives v (finite.insert records id (rank, content)))
   of_put true id rank content records is v enough = tt
@@ -34,9 +34,9 @@ module _ (blocks : ℕ) where
   of_look None records enough = tt
   of_look (Some stored) records enough = enough
 
-  step_fits : (o : RecordOp) (records : Records) → blocks_of records ≤ blocks → StepFits (step_of blocks o records)
+  step_fits : (o : RecordOp) (records : Records) → blocks_of records ≤ blocks → StepFits (record_step_of blocks o records)
   step_fits (op.Put id rank content) records enough =
-      of_put (not (finite.contains_key records id) && is_full blocks records) id rank content records refl
+      of_put (not (finite.contains_key records id) && is_store_full blocks records) id rank content records refl
       (if finite.contains_key records id then value.Old else value.New) enough
   step_fits (op.Remove id) records enough = of_removal (finite.get records id) id records enough
   step_fits (op.Find id) records enough = of_look (finite.get records id) records enough
@@ -45,5 +45,5 @@ module _ (blocks : ℕ) where
 pub room_after : (script : List RecordOp) (records : Records) (blocks : ℕ) → blocks_of records ≤ blocks
     → blocks_of (record_outcome_of script records blocks).1 ≤ blocks
 room_after script records blocks enough =
-    script_keeps (λ records. blocks_of records ≤ blocks) (step_of blocks) (λ _. Unit {0}) (λ o records fit. step_fits blocks o records) script records
+    script_keeps (λ records. blocks_of records ≤ blocks) (record_step_of blocks) (λ _. Unit {0}) (λ o records fit. step_fits blocks o records) script records
     (λ i d within. tt) enough

@@ -39,7 +39,7 @@ module _ (rank : ℕ) (xs : List Entry) (e : Entry) where
   left_out is = ap (map id_of) (filter-append (reaches rank) xs (e ∷ []) ∙ ap (λ b. filter (reaches rank) xs ++ cond b (e ∷ []) []) is
       ∙ append-nil (filter (reaches rank) xs))
 
--- one more where not enough were taken, and where there were
+-- one more if not enough were taken, and if there were
 take_room : (n : ℕ) (ys : List ℕ) (y : ℕ) → length (take n ys) < n → take n (ys ++ y ∷ []) ≡ take n ys ++ y ∷ []
 take_room n ys y few =
     let short : length ys < n = omega (arith, length-take n ys, few) in
@@ -63,7 +63,7 @@ module _ (rank most : ℕ) (all earlier rest : List Entry) (e : Entry) (left : L
         ∙ sym (ap (take most) (joins rank earlier e high));
   }
 
-  -- an entry is passed over, which does not reach the rank, or where there are enough
+  -- an entry is passed over, which does not reach the rank, or if there are enough
   pub passes_low : reaches rank e ≡ false → IsListed rank most all (earlier ++ e ∷ []) left ids
   passes_low low = record { whole = whole; so_far = i.so_far ∙ sym (ap (take most) (left_out rank earlier e low)) }
 

@@ -1,13 +1,13 @@
 -- The text of identifiers and of headers, one piece after another.
 use Rattle.std.proofs.Common.{◌≡◌, ◌++◌, [], ◌∷◌, ℕ, List, codes, sym, ap, ◌∙◌}
 use Rattle.std.specs.List.{flat_map}
-use Rattle.script_reader.specs.declared.words.TheConstants.{SPACE, LINE_FEED}
+use Rattle.script_reader.specs.declared.text.words.TheConstants.{SPACE, LINE_FEED}
 use Rattle.script_reader.specs.Text.{number}
 use Rattle.books_report.proofs.Outputs.Journals.{join-map, two_pieces}
 use Rattle.record_text.specs.declared.words.TheConstants.{COMMA}
 use Rattle.record_text.specs.Input.{StoreInput}
 use Rattle.record_text.specs.Words.{ids_word}
-use Rattle.record_text.specs.Output.{header_line}
+use Rattle.record_text.specs.Output.{record_header_line}
 
 -- a comma and an identifier
 abbrev pub joined_id : ℕ → List ℕ
@@ -22,7 +22,7 @@ ids_joined text before now id ids first rest =
 
 -- the words in front, the blocks behind their name, and the line feed are the header
 pub header_of : (text titled sized now : List ℕ) (input : StoreInput) → titled ≡ text ++ codes "records 1"
-    → sized ≡ titled ++ SPACE ∷ (codes "blocks" ++ SPACE ∷ number input.blocks) → now ≡ sized ++ LINE_FEED ∷ [] → now ≡ text ++ header_line input
+    → sized ≡ titled ++ SPACE ∷ (codes "blocks" ++ SPACE ∷ number input.blocks) → now ≡ sized ++ LINE_FEED ∷ [] → now ≡ text ++ record_header_line input
 header_of text titled sized now input title size feed =
     two_pieces text (codes "records 1" ++ SPACE ∷ (codes "blocks" ++ SPACE ∷ number input.blocks)) (LINE_FEED ∷ []) sized now
     (two_pieces text (codes "records 1") (SPACE ∷ (codes "blocks" ++ SPACE ∷ number input.blocks)) titled sized title size) feed

@@ -10,8 +10,8 @@ use Rattle.books_model.proofs.Maps.Trees.{get-lookup, len_after_change, len_afte
 use Rattle.record_text.specs.declared.script.RecordOp.TheVariants as op
 use Rattle.record_text.specs.declared.reply.RecordValue.{RecordValue}
 use Rattle.record_text.specs.declared.reply.RecordValue.TheVariants as value
-use Rattle.record_text.specs.Records.{RecordStore, blocks_of, is_full}
-use Rattle.record_text.specs.Interpreter.{step_of}
+use Rattle.record_text.specs.Records.{RecordStore, blocks_of, is_store_full}
+use Rattle.record_text.specs.Interpreter.{record_step_of}
 use Rattle.books_report.specs.Stores.Interpreter.Step.{Gives, Full}
 use Rattle.record_text.specs.Ranges.{HasRoom}
 
@@ -36,20 +36,20 @@ by_other false x y e = refl
 
 module _ (store : RecordStore) (id rank content : ℕ) where
   abbrev lacks : Bool
-  lacks = not (finite.contains_key store.records id) && is_full store.blocks store.records
+  lacks = not (finite.contains_key store.records id) && is_store_full store.blocks store.records
 
   abbrev there : Bool
   there = finite.contains_key store.records id
 
-  pub lacks_blocks : lacks ≡ true → step_of store.blocks (op.Put id rank content) store.records ≡ Full
+  pub lacks_blocks : lacks ≡ true → record_step_of store.blocks (op.Put id rank content) store.records ≡ Full
   lacks_blocks e = by_test lacks Full (Gives (put_value there) (finite.insert store.records id (rank, content))) e
 
-  pub is_put : lacks ≡ false → step_of store.blocks (op.Put id rank content) store.records
+  pub is_put : lacks ≡ false → record_step_of store.blocks (op.Put id rank content) store.records
       ≡ Gives (put_value there) (finite.insert store.records id (rank, content))
   is_put e = by_other lacks Full (Gives (put_value there) (finite.insert store.records id (rank, content))) e
 
   -- how many blocks the records take after it
-  longer : (found : Option (ℕ × ℕ)) → finite.get store.records id ≡ found → (not (is_some found) && is_full store.blocks store.records) ≡ false
+  longer : (found : Option (ℕ × ℕ)) → finite.get store.records id ≡ found → (not (is_some found) && is_store_full store.blocks store.records) ≡ false
       → blocks_of store.records ≤ store.blocks → blocks_of (finite.insert store.records id (rank, content)) ≤ store.blocks
   longer (Some was) e test enough = omega (
     arith,

@@ -11,7 +11,7 @@ use Rattle.books_model.proofs.Maps.Trees.{from_entries-removed}
 use Rattle.record_text.specs.declared.reply.RecordValue.TheVariants as value
 use Rattle.record_text.specs.declared.script.RecordOp.TheVariants as op
 use Rattle.record_text.specs.Records.{Records, RecordStore, blocks_of}
-use Rattle.record_text.specs.Interpreter.{with_record, step_of}
+use Rattle.record_text.specs.Interpreter.{with_record, record_step_of}
 use Rattle.books_report.specs.Stores.Interpreter.Step.{Gives, Absent}
 use Rattle.record_text.specs.Ranges.{HasRoom}
 
@@ -36,8 +36,8 @@ removed_from_tree tree now records id view changed =
 
 module _ (store : RecordStore) (id : ℕ) where
   pub is_gone : (was : ℕ × ℕ) → finite.get store.records id ≡ Some was
-      → step_of store.blocks (op.Remove id) store.records ≡ Gives value.Gone (finite.remove store.records id)
+      → record_step_of store.blocks (op.Remove id) store.records ≡ Gives value.Gone (finite.remove store.records id)
   is_gone was found = ap (λ r. with_record r (λ stored. Gives value.Gone (finite.remove store.records id))) found
 
-  pub is_absent : finite.get store.records id ≡ None → step_of store.blocks (op.Remove id) store.records ≡ Absent
+  pub is_absent : finite.get store.records id ≡ None → record_step_of store.blocks (op.Remove id) store.records ≡ Absent
   is_absent found = ap (λ r. with_record r (λ stored. Gives value.Gone (finite.remove store.records id))) found

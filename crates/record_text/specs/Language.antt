@@ -7,7 +7,7 @@ use Rattle.record_text.specs.declared.script.RecordOp.{RecordOp}
 use Rattle.record_text.specs.declared.script.RecordOp.TheVariants as op
 use Rattle.script_reader.specs.Forms.{Form, form}
 use Rattle.script_reader.specs.ListLanguage.{ListLanguage, IsListLanguage, size, is_word}
-use Rattle.script_reader.proofs.Listed.Numbers.{one_number, two_numbers, three_numbers}
+use Rattle.script_reader.proofs.language.Listed.Numbers.{one_number, two_numbers, three_numbers}
 
 -- the kinds of operation, with the ranges of their numbers
 abbrev pub record_forms : List Form

@@ -24,8 +24,8 @@ IndexHasEach = (records : Records) (rank id : ℕ)
     → finite.get (index_of records) (rank, id) ≡ data_at_rank rank (finite.get records id)
 
 -- a script that is not done leaves the records
-abbrev pub RefusedChangesNothing : Type 0
-RefusedChangesNothing = (script : List RecordOp) (records : Records) (blocks : ℕ)
+abbrev pub RefusedChangesNoRecord : Type 0
+RefusedChangesNoRecord = (script : List RecordOp) (records : Records) (blocks : ℕ)
     → ((values : List RecordValue) → (record_outcome_of script records blocks).0 ≢ reply.Done values)
     → (record_outcome_of script records blocks).1 ≡ records
 

@@ -7,7 +7,7 @@ use Rattle.record_text.specs.declared.script.RecordOp.{RecordOp}
 use Rattle.record_text.specs.declared.reply.RecordValue.{RecordValue}
 use Rattle.record_text.specs.Replies.{RecordReply}
 use Rattle.record_text.specs.Records.{Records, index_cmp, index_of}
-use Rattle.record_text.specs.Interpreter.{step_of}
+use Rattle.record_text.specs.Interpreter.{record_step_of}
 use Rattle.record_text.specs.Language.{record_language}
 use Rattle.record_text.specs.Input.{StoreInput}
 use Rattle.record_text.specs.Words.{value_word}
@@ -15,19 +15,20 @@ use Rattle.script_reader.specs.Text.{number, line}
 use Rattle.script_reader.specs.Journal.{Place}
 use Rattle.script_reader.specs.ListLanguage.{head_words}
 use Rattle.books_report.specs.Stores.Output as stores
-use Rattle.books_report.specs.Stores.Output.{IsOutputOf, RanOf, StoreOf, state_after, state_left}
+use Rattle.books_report.specs.Journals.{RanOf}
+use Rattle.books_report.specs.Stores.Output.{IsOutputOf, StoreOf, state_left}
 
 -- a script that was run: its place, how often it was restarted, and its reply
 abbrev pub RecordRan : Type 0
-RecordRan = RanOf RecordValue
+RecordRan = RanOf RecordReply
 
 -- a record as it is printed: its identifier, its rank and its data
 abbrev pub Printed : Type 0
 Printed = ℕ × ℕ × ℕ
 
 -- the header of the input's text
-abbrev pub header_line : StoreInput → List ℕ
-header_line input = line (head_words record_language (input.blocks ∷ []))
+abbrev pub record_header_line : StoreInput → List ℕ
+record_header_line input = line (head_words record_language (input.blocks ∷ []))
 
 -- the line of a record
 abbrev pub record_line : Printed → List ℕ
@@ -50,9 +51,9 @@ abbrev pub record_store : StoreInput → StoreOf RecordOp RecordValue Records
 record_store input = record {
   callers = input.callers;
   begins = finite.empty;
-  step = step_of input.blocks;
+  step = record_step_of input.blocks;
   value_word = value_word;
-  header = header_line input;
+  header = record_header_line input;
   closing = λ stored. flat_map record_line (printed_of stored);
 }
 
@@ -63,10 +64,6 @@ text_of input scripts closing = stores.text_of (record_store input) scripts (fla
 -- what the interpreter replies to the scripts at these places, run one after the other from these records
 abbrev pub replies_of : StoreInput → Records → List Place → List RecordReply
 replies_of input = stores.replies_of (record_store input)
-
--- the records that they leave
-abbrev pub records_after : StoreInput → Records → List Place → Records
-records_after input = state_after (record_store input)
 
 -- the scripts are those of the input, run one after the other in some order from an empty store
 abbrev pub AreRun : StoreInput → ℕ → List RecordRan → Type 0

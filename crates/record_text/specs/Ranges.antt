@@ -1,13 +1,10 @@
 -- The ranges of sizes, of the numbers in records, and of the numbers in scripts.
 use Rattle.std.specs.Prelude.{ℕ, ◌≤◌, List, length, All}
+use Rattle.books_model.specs.Ranges.{IsWithin}
 use Rattle.record_text.specs.declared.limits.TheConstants.{LEAST_BLOCKS, MOST_BLOCKS, GREATEST_ID, GREATEST_RANK, GREATEST_DATA, MOST_LISTED, MOST_OPERATIONS}
 use Rattle.record_text.specs.declared.script.RecordOp.{RecordOp}
 use Rattle.record_text.specs.declared.script.RecordOp.TheVariants as op
 use Rattle.record_text.specs.Records.{RecordStore, blocks_of}
-
--- from one number to another, both included
-abbrev pub IsWithin : ℕ → ℕ → ℕ → Type 0
-IsWithin low high n = (low ≤ n) × (n ≤ high)
 
 abbrev pub IsBlockCount : ℕ → Type 0
 IsBlockCount blocks = IsWithin LEAST_BLOCKS MOST_BLOCKS blocks

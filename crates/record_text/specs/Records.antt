@@ -29,8 +29,8 @@ abbrev pub blocks_of : Records → ℕ
 blocks_of records = 2 * finite.len records
 
 -- the blocks are not enough for a record more
-abbrev pub is_full : ℕ → Records → Bool
-is_full blocks records = nat_lt blocks (blocks_of records + 2)
+abbrev pub is_store_full : ℕ → Records → Bool
+is_store_full blocks records = nat_lt blocks (blocks_of records + 2)
 
 -- a store: its blocks and its records
 pub record RecordStore : Type 0 where

@@ -6,7 +6,7 @@ use Rattle.record_text.specs.declared.reply.RecordValue.{RecordValue}
 use Rattle.record_text.specs.declared.reply.RecordValue.TheVariants as value
 use Rattle.script_reader.specs.Text.{number}
 
--- identifiers joined by commas, or `none` where there is none
+-- identifiers joined by commas, or `none` if there is none
 abbrev pub ids_word : List ℕ → List ℕ
 ids_word [] = codes "none"
 ids_word (id ∷ ids) = join_with_byte COMMA (map number (id ∷ ids))

@@ -17,11 +17,11 @@ pub struct RecordInput {
 
 impl Model for RecordInput {
     ghost use Rattle.record_text.specs.Input.{StoreInput, IsStoreInput};
-    ghost use Rattle.record_text.specs.Inner.InputCode.{input_code};
+    ghost use Rattle.record_text.specs.Inner.InputCode.{store_input_code};
 
     ghost Value = { StoreInput };
 
-    ghost coded = { input_code };
+    ghost coded = { store_input_code };
 
     ghost view = { λ i. record { blocks = i.blocks; callers = i.callers } };
 

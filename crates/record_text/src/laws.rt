@@ -1,7 +1,7 @@
 //! Laws of the language, each the contract of a function that does nothing.
 
 ghost use Rattle.std.specs.Prelude.{◌≡◌};
-ghost use Rattle.record_text.specs.Laws.{FiveReasons, IndexHasEach, PrintedByRank, RangesAreThoseOfLines, RefusedChangesNothing, RoomIsKept};
+ghost use Rattle.record_text.specs.Laws.{FiveReasons, IndexHasEach, PrintedByRank, RangesAreThoseOfLines, RefusedChangesNoRecord, RoomIsKept};
 
 use crate::limits::{
     GREATEST_DATA, GREATEST_ID, GREATEST_RANK, LEAST_BLOCKS, MOST_BLOCKS, MOST_LISTED,
@@ -22,14 +22,14 @@ pub fn limits_in_digits()
     ensures comma { COMMA ≡ 44 }
 {}
 
-/// The index has a record's place exactly where the record has that rank.
+/// The index has a record's place exactly if the record has that rank.
 pub fn index_has_each()
     ensures { IndexHasEach }
 {}
 
 /// A script that is declined or finds no blocks changes nothing.
 pub fn refused_changes_nothing()
-    ensures { RefusedChangesNothing }
+    ensures { RefusedChangesNoRecord }
 {}
 
 /// Records that have their blocks have them after every script.

@@ -3,22 +3,21 @@
 ghost use Rattle.std.specs.Prelude.{◌≡◌, ℕ, ◌++◌, length, All, IfOk, OnOk};
 ghost use Rattle.std.specs.String.{string_bytes};
 ghost use Rattle.std.specs.List.{flat_map};
-ghost use Rattle.books_report.specs.Lines.{place_of_line};
-ghost use Rattle.books_report.specs.Stores.Lines.{lent, scripts_of};
+ghost use Rattle.books_report.specs.Lines.{place_of_line, lent, scripts_of};
 ghost use Rattle.record_text.specs.Journal.{IsRecordPlace};
-ghost use Rattle.record_text.specs.Output.{AreByRank, AreRun, IsRecordOutput, closing_of, header_line, record_line, text_of};
+ghost use Rattle.record_text.specs.Output.{AreByRank, AreRun, IsRecordOutput, closing_of, record_header_line, record_line, text_of};
 
 use crate::input::RecordInput;
 use crate::reply::RecordReply;
 use books_report::Line;
 use books_report::stores::write_journal;
 use io_ends::OutOfMemory;
-use script_reader::decimal::{push_next, write_size};
+use script_reader::text::decimal::{push_next, write_size};
 use std::alloc::{AllocError, Global};
 
 fn write_header(text: &mut String, input: &RecordInput) -> Result<(), AllocError>
     ensures { OnOk result
-        (string_bytes text.new ≡ string_bytes text.old ++ header_line input.now) }
+        (string_bytes text.new ≡ string_bytes text.old ++ record_header_line input.now) }
 {
     text.push_str("records 1")?;
     write_size(text, "blocks", input.blocks())?;

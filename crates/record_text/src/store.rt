@@ -2,10 +2,10 @@
 
 ghost use Rattle.std.specs.Prelude.{◌≡◌, IfOk};
 ghost use Rattle.std.specs.FinMap as finite;
-ghost use Rattle.record_text.specs.Interpreter.{step_of};
+ghost use Rattle.record_text.specs.Interpreter.{record_step_of};
 ghost use Rattle.books_report.specs.Stores.Steps.{step_with};
 ghost use Rattle.record_text.specs.Ranges.{IsBlockCount};
-ghost use Rattle.record_text.specs.Records.{ids_from, index_of, is_full};
+ghost use Rattle.record_text.specs.Records.{ids_from, index_of, is_store_full};
 
 use crate::reply::{Ids, RecordValue};
 use crate::script::RecordOp;
@@ -104,7 +104,7 @@ impl Store {
 
     // Whether the blocks are not enough for a record more.
     fn is_full(&self) -> bool
-        ensures { result ≡ is_full self.now.blocks self.now.records }
+        ensures { result ≡ is_store_full self.now.blocks self.now.records }
     {
         2 * self.records.len() + 2 > self.blocks as usize
     }
@@ -112,7 +112,7 @@ impl Store {
     // Puts a record, whether or not it was there.
     fn put(&mut self, id: u32, rank: u32, content: u64) -> Result<Outcome<RecordValue>, OutOfMemory>
         ensures step { IfOk result (λ outcome.
-            step_of self.old.blocks (RecordOp.Put id rank content) self.old.records
+            record_step_of self.old.blocks (RecordOp.Put id rank content) self.old.records
             ≡ step_with outcome self.new.records) }
         ensures blocks { self.new.blocks ≡ self.old.blocks }
     {
@@ -130,7 +130,7 @@ impl Store {
 
     // Takes a record out, if it is there.
     fn remove(&mut self, id: u32) -> Outcome<RecordValue>
-        ensures step { step_of self.old.blocks (RecordOp.Remove id) self.old.records
+        ensures step { record_step_of self.old.blocks (RecordOp.Remove id) self.old.records
             ≡ step_with result self.new.records }
         ensures blocks { self.new.blocks ≡ self.old.blocks }
     {
@@ -143,7 +143,7 @@ impl Store {
 
 impl PlainStore for Store {
     ghost use Rattle.std.specs.Prelude.{ℕ};
-    ghost use Rattle.record_text.specs.Interpreter.{step_of};
+    ghost use Rattle.record_text.specs.Interpreter.{record_step_of};
     ghost use Rattle.record_text.specs.Records.{Records};
 
     type Op = RecordOp;
@@ -158,7 +158,7 @@ impl PlainStore for Store {
 
     ghost state = { λ s. s.records };
 
-    ghost step = { step_of };
+    ghost step = { record_step_of };
 
     fn copy(&self) -> Result<Store, OutOfMemory> {
         Store::copy(self)

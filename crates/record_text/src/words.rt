@@ -9,7 +9,7 @@ ghost use Rattle.record_text.specs.Words.{ids_word};
 
 use crate::reply::{Ids, RecordValue};
 use books_report::stores::ToldValue;
-use script_reader::decimal::push_number;
+use script_reader::text::decimal::push_number;
 use std::alloc::AllocError;
 use std::slice;
 

@@ -11,13 +11,13 @@ use Rattle.std.proofs.lemmas.Option.{none-some}
 use Rattle.books_model.specs.Books.{ClearingBooks, position_cmp}
 use Rattle.script_reader.specs.Faults.{is_below}
 use Rattle.script_reader.proofs.Conditions.{or_false}
-use Rattle.script_reader.proofs.Printing.Printed.{is_low_in}
-use Rattle.script_reader.proofs.Printing.Sections.{pair_less, less_pair, less_is}
-use Rattle.script_reader.proofs.WithoutFault.BooksFaultless.{printed, found_is_given, some_of}
-use Rattle.script_reader.proofs.Printing.Extending.{key_found}
-use Rattle.script_reader.specs.declared.version.Version.{Version}
+use Rattle.script_reader.proofs.books.Printing.Printed.{is_low_in}
+use Rattle.script_reader.proofs.books.Printing.Sections.{pair_less, less_pair, less_is}
+use Rattle.script_reader.proofs.books.WithoutFault.BooksFaultless.{printed, found_is_given, some_of}
+use Rattle.script_reader.proofs.books.Printing.Extending.{key_found}
+use Rattle.script_reader.specs.declared.books.version.Version.{Version}
 
--- a search finds where a test that agrees passes
+-- a search finds if a test that agrees passes
 pub found_any : {A : Type 0} (p q : A → Bool) (xs : List A) → AllByRecursion (λ x. p x ≡ q x) xs → is_some (find p xs) ≡ list_any q xs
 found_any p q [] agree = refl
 found_any p q (x ∷ xs) agree = by (p x) (q x) agree.0 (found_any p q xs agree.1)
@@ -99,7 +99,7 @@ low_position_found f a i v w es some same also =
     ∙ found_any (λ e. is_lt (position_cmp (a, i - 1) e.0)) (λ e. not (is_below e.0 (v, w))) es
     (all_of _ es (λ e. lt_is_below (a, i - 1) e.0 ∙ before_position a i v w e.0 some same also))
 
--- a key is one of the keys where it is found
+-- a key is one of the keys if it is found
 pub given_is_found : (m : map.FinMap nat_cmp ℕ) (a v : ℕ) → a ≡ v → (o : Option ℕ) → o ≡ map.get m a → list_any (λ x. x.0 == v) (map.entries m) ≡ is_some o
 given_is_found m a v same None at = by (list_any (λ x. x.0 == v) (map.entries m)) refl
   where

@@ -1,4 +1,4 @@
--- Whole texts by any judge: one that ends where nothing is wrong with its last line, and one with a first fault.
+-- Whole texts by any judge: one that ends if nothing is wrong with its last line, and one with a first fault.
 use Rattle.std.proofs.Common.{◌≡◌, ◌≢◌, ◌⊎◌, inl, inr, ℕ, suc, zero, ◌+◌, ◌-◌, ◌<◌, ◌≤◌, ◌^◌, Bool, true}
 use Rattle.std.proofs.Common.{false, ◌==◌, if◌then◌else◌, List, [], ◌∷◌, ◌++◌, codes}
 use Rattle.std.proofs.Common.{take, drop, length, Option, Some, None, refl, sym, ap, subst, ◌∙◌, append_assoc, length-append, arith}
@@ -6,7 +6,7 @@ use Rattle.std.specs.List.{count_by, flat_map, join_with_byte, position, slice_s
 use Rattle.std.proofs.lemmas.List.{append-nil}
 use Rattle.std.proofs.lemmas.List.Concat.{flat_map-append}
 use Rattle.std.proofs.lemmas.List.Sums.{sum_by-append}
-use Rattle.script_reader.specs.declared.words.TheConstants.{SPACE, LINE_FEED}
+use Rattle.script_reader.specs.declared.text.words.TheConstants.{SPACE, LINE_FEED}
 use Rattle.script_reader.specs.declared.fault.Fault.{Fault}
 use Rattle.script_reader.specs.declared.fault.Fault.TheVariants as fault
 use Rattle.script_reader.specs.Lines.{AreWords}
@@ -15,8 +15,8 @@ use Rattle.script_reader.specs.Forms.{Words, is_only}
 use Rattle.script_reader.specs.Reading.{Judge, HaveNoFault, BeginsFaulty, IsFaultBehind, IsFaultInFront, GoesOnBehind}
 use Rattle.script_reader.proofs.Judging.{count_line, count_lines, fault_once, faultless_append, finish_once, finish_words, no_fault}
 use Rattle.script_reader.proofs.LineFaults.LineKinds.{only_word}
-use Rattle.script_reader.proofs.Texts.Fronting.{take_front}
-use Rattle.script_reader.proofs.Tokens.Cutting.{found_at, found_none, taken}
+use Rattle.script_reader.proofs.books.Texts.Fronting.{take_front}
+use Rattle.script_reader.proofs.text.Tokens.Cutting.{found_at, found_none, taken}
 
 -- the lines of a text before its last
 pub record IsWhole (judge : Judge) (text : List ℕ) : Type 0 where

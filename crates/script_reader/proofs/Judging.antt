@@ -6,14 +6,14 @@ use Rattle.std.proofs.lemmas.List.{append-nil}
 use Rattle.std.proofs.lemmas.List.Concat.{flat_map-append}
 use Rattle.std.proofs.lemmas.List.Sums.{sum_by-append, sum_by-cons}
 use Rattle.std.proofs.lemmas.Option.{none-some, same_Some}
-use Rattle.script_reader.specs.declared.words.TheConstants.{SPACE, LINE_FEED}
+use Rattle.script_reader.specs.declared.text.words.TheConstants.{SPACE, LINE_FEED}
 use Rattle.script_reader.specs.declared.fault.Fault.{Fault}
 use Rattle.script_reader.specs.declared.fault.Fault.TheVariants as fault
 use Rattle.script_reader.specs.Lines.{IsFreeOf, AreWords}
 use Rattle.script_reader.specs.Text.{line, finish_line}
 use Rattle.script_reader.specs.Forms.{Words, is_only}
 use Rattle.script_reader.specs.Reading.{Judge, HaveNoFault, BeginsFaulty, IsFaultBehind}
-use Rattle.script_reader.proofs.Tokens.Cutting.{join-free, line_once, no_line, word_from_test}
+use Rattle.script_reader.proofs.text.Tokens.Cutting.{join-free, line_once, no_line, word_from_test}
 
 -- the last line
 finish : Words
@@ -26,11 +26,11 @@ finish_words = record { some = omega arith; each = (word_from_test (codes "finis
 pub first_line : (w : Words) (ls : List Words) (rest : List ℕ) → flat_map line (w ∷ ls) ++ rest ≡ line w ++ (flat_map line ls ++ rest)
 first_line w ls rest = append_assoc (line w) (flat_map line ls) rest
 
--- a fault is none where none is
+-- a fault is none if none is
 pub some_none : {A : Type 0} {o : Option A} {x : A} → o ≡ None → o ≡ Some x → ⊥
 some_none e h = none-some _ (sym e ∙ h)
 
--- a byte is not counted where there is none
+-- a byte is not counted if there is none
 count_free : (c : ℕ) (xs : List ℕ) → IsFreeOf c xs → count_by (λ b. b == c) xs ≡ 0
 count_free c [] f = refl
 count_free c (x ∷ xs) f = sum_by-cons (λ b. cond (b == c) 1 0) x xs ∙ (λ i. cond (f.0 i) 1 0 + count_free c xs f.1 i) ∙ omega arith

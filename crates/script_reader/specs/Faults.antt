@@ -1,5 +1,5 @@
 -- The first fault of a text: its line, and the first reason that applies to that line beside those before it.
--- Reasons are tried in this order, each where it can apply: header, word, order of kinds, number, limit, order of
+-- Reasons are tried in this order, each if it can apply: header, word, order of kinds, number, limit, order of
 -- lines, account, price, blocks. `IsFirstFault` has what is beside them: a line that does not exist, or comes after
 -- the last.
 use Rattle.std.specs.Prelude.{◌⊎◌, ℕ, ◌+◌, Bool, not, ◌&&◌, ◌||◌, ◌==◌, nat_lt, nat_le, if◌then◌else◌, List, [], ◌∷◌, Option, Some}
@@ -11,16 +11,16 @@ use Rattle.books_model.specs.declared.limits.TheConstants.{MOST_OPERATIONS, MOST
 use Rattle.script_reader.specs.declared.limits.TheConstants.{MOST_CALLERS, MOST_SCRIPTS}
 use Rattle.script_reader.specs.declared.fault.Fault.{Fault}
 use Rattle.script_reader.specs.declared.fault.Fault.TheVariants as fault
-use Rattle.script_reader.specs.declared.version.Version.{Version}
-use Rattle.script_reader.specs.declared.version.Version.TheVariants.{Two}
+use Rattle.script_reader.specs.declared.books.version.Version.{Version}
+use Rattle.script_reader.specs.declared.books.version.Version.TheVariants.{Two}
 use Rattle.script_reader.specs.Lines.{word_at}
 use Rattle.script_reader.specs.Input.{first_seen}
 use Rattle.script_reader.specs.Grammar.{IsValidInput}
 use Rattle.script_reader.specs.Versions.{version_of}
-use Rattle.script_reader.specs.Reading.{HaveNoFault, BeginsFaulty, IsFaultBehind, IsFaultInFront, GoesOnBehind}
+use Rattle.script_reader.specs.Reading.{IsFaultBehind, IsFaultInFront, GoesOnBehind}
 use Rattle.script_reader.specs.Forms.{Words, Region, InScript, InFirstBranch, InSecondBranch, sizes, books_forms}
-use Rattle.script_reader.specs.Forms.{script_forms, begins, is_only, form_of, ranges_of, is_header, is_script_line, size_words}
-use Rattle.script_reader.specs.Forms.{value_at, are_numbers, are_in_range}
+use Rattle.script_reader.specs.Forms.{script_forms, begins, is_only, form_of, ranges_of, is_header, is_script_line, books_size_words}
+use Rattle.script_reader.specs.Forms.{word_value, are_numbers, are_in_range}
 
 -- the first reason of a list that applies
 abbrev pub first_reason : List (Bool × Fault) → Option Fault
@@ -29,7 +29,7 @@ first_reason (reason ∷ reasons) = if reason.0 then Some reason.1 else first_re
 
 -- a size of the books, by its place in their header
 abbrev pub size_at : List Words → ℕ → ℕ
-size_at before i = value_at (slice_index_or before 0 []) i
+size_at before i = word_value (slice_index_or before 0 []) i
 
 -- the version of a header
 abbrev pub header_version : Words → Version
@@ -43,8 +43,8 @@ version_at before = header_version (slice_index_or before 0 [])
 abbrev pub header_fault : Words → Option Fault
 header_fault words = first_reason (
     (not (is_header words), fault.Header)
-    ∷ (not (are_numbers (size_words words)), fault.Number)
-    ∷ (not (are_in_range (size_words words) (sizes (header_version words))), fault.Limit)
+    ∷ (not (are_numbers (books_size_words words)), fault.Number)
+    ∷ (not (are_in_range (books_size_words words) (sizes (header_version words))), fault.Limit)
     ∷ []
     )
 
@@ -57,8 +57,8 @@ abbrev pub takes_block : Words → Bool
 takes_block words = nat_lt (kind_of words) 3
 
 -- that by which lines of a kind rise: a number, or two of which the first goes first
-abbrev pub key_of : Words → ℕ × ℕ
-key_of words = (value_at words 1, if begins (codes "position") words then value_at words 2 else 0)
+abbrev pub line_key : Words → ℕ × ℕ
+line_key words = (word_value words 1, if begins (codes "position") words then word_value words 2 else 0)
 
 abbrev pub is_below : ℕ × ℕ → ℕ × ℕ → Bool
 is_below x y = nat_lt x.0 y.0 || (x.0 == y.0 && nat_lt x.1 y.1)
@@ -71,11 +71,11 @@ is_late before words = list_any (λ w. nat_lt (kind_of words) (kind_of w)) (drop
 abbrev pub is_low : List Words → Words → Bool
 is_low before words =
     list_any (λ w. takes_block w
-    && ((kind_of w == kind_of words) && not (is_below (key_of w) (key_of words)))) (drop 1 before)
+    && ((kind_of w == kind_of words) && not (is_below (line_key w) (line_key words)))) (drop 1 before)
 
 -- a line before it is this kind of line for the number
 abbrev pub is_given : List Words → List ℕ → ℕ → Bool
-is_given before keyword n = list_any (λ w. begins keyword w && value_at w 1 == n) before
+is_given before keyword n = list_any (λ w. begins keyword w && word_value w 1 == n) before
 
 -- what is wrong with a line before the scripts, or with the line that begins them
 abbrev pub books_fault : List Words → Words → Option Fault
@@ -91,8 +91,8 @@ books_fault before words =
       fault.Limit,
     )
     ∷ (is_low before words, fault.Order)
-    ∷ (begins (codes "position") words && not (is_given before (codes "account") (value_at words 1)), fault.Account)
-    ∷ (begins (codes "position") words && not (is_given before (codes "price") (value_at words 2)), fault.Price)
+    ∷ (begins (codes "position") words && not (is_given before (codes "account") (word_value words 1)), fault.Account)
+    ∷ (begins (codes "position") words && not (is_given before (codes "price") (word_value words 2)), fault.Price)
     ∷ (takes_block words && nat_le (size_at before 3) (count_by takes_block before), fault.Blocks)
     ∷ []
     )
@@ -117,16 +117,16 @@ outside_fault before words = first_reason (
 
 -- where the line behind others stands: among the lines of books, between scripts, or in one behind so many operations,
 -- those of both branches of an alternative counted, and so many alternatives
-pub data Place : Type 0 where
-  AmongBooks : Place
-  OutsideScripts : Place
-  Inside : Region → ℕ → ℕ → Place
+pub data BooksPlace : Type 0 where
+  AmongBooks : BooksPlace
+  OutsideScripts : BooksPlace
+  Inside : Region → ℕ → ℕ → BooksPlace
 
 -- where the line behind a line stands, by where that line does
-abbrev pub place_after : Place → Words → Place
-place_after AmongBooks words = if is_only (codes "scripts") words then OutsideScripts else AmongBooks
-place_after OutsideScripts words = if begins (codes "script") words then Inside InScript 0 0 else OutsideScripts
-place_after (Inside region operations alternatives) words =
+abbrev pub books_place_after : BooksPlace → Words → BooksPlace
+books_place_after AmongBooks words = if is_only (codes "scripts") words then OutsideScripts else AmongBooks
+books_place_after OutsideScripts words = if begins (codes "script") words then Inside InScript 0 0 else OutsideScripts
+books_place_after (Inside region operations alternatives) words =
     if is_only (codes "end") words then OutsideScripts
     else (if is_only (codes "try") words then Inside InFirstBranch operations (alternatives + 1)
     else (if is_only (codes "else") words then Inside InSecondBranch operations alternatives
@@ -134,8 +134,8 @@ place_after (Inside region operations alternatives) words =
     else Inside region (operations + 1) alternatives)))
 
 -- where the line behind lines stands
-abbrev pub place_behind : List Words → Place
-place_behind before = fold place_after AmongBooks before
+abbrev pub books_place_behind : List Words → BooksPlace
+books_place_behind before = fold books_place_after AmongBooks before
 
 -- the line is no operation
 abbrev pub is_turning : Words → Bool
@@ -159,7 +159,7 @@ inside_fault version region instruments operations alternatives words =
     )
 
 -- what is wrong with a line behind the header, by where it stands
-abbrev pub place_fault : Place → List Words → Words → Option Fault
+abbrev pub place_fault : BooksPlace → List Words → Words → Option Fault
 place_fault AmongBooks before words = books_fault before words
 place_fault OutsideScripts before words = outside_fault before words
 place_fault (Inside region operations alternatives) before words =
@@ -168,16 +168,7 @@ place_fault (Inside region operations alternatives) before words =
 -- what is wrong with a line of a text, beside the lines before it
 abbrev pub fault_of : List Words → Words → Option Fault
 fault_of [] words = header_fault words
-fault_of (header ∷ lines) words = place_fault (place_behind (header ∷ lines)) (header ∷ lines) words
-
--- no line of a list is faulty beside the lines before it and those of the list ahead of it, and none is the last of a
--- text
-abbrev pub AreFaultless : List Words → List Words → Type 0
-AreFaultless = HaveNoFault fault_of
-
--- the text begins with a line with this fault, and goes on; or it has no whole line, which is a fault too
-abbrev pub StartsFaulty : List Words → List ℕ → List ℕ → Fault → Type 0
-StartsFaulty = BeginsFaulty fault_of
+fault_of (header ∷ lines) words = place_fault (books_place_behind (header ∷ lines)) (header ∷ lines) words
 
 -- behind the lines before, the text has lines without fault, and then the fault; what is left stands behind the
 -- faulty line

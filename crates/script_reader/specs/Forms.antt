@@ -5,7 +5,7 @@ use Rattle.std.specs.Str.{bytes_eq}
 use Rattle.std.specs.Str.Parse.{digits_value}
 use Rattle.books_model.specs.declared.limits.TheConstants.{MOST_INSTRUMENTS, MOST_RING, GREATEST_ACCOUNT}
 use Rattle.books_model.specs.declared.limits.TheConstants.{GREATEST_PRICE, GREATEST_QUANTITY, GREATEST_RATE, GREATEST_SHORTFALL}
-use Rattle.script_reader.specs.declared.version.Version.{Version}
+use Rattle.script_reader.specs.declared.books.version.Version.{Version}
 use Rattle.script_reader.specs.Lines.{word_at}
 use Rattle.script_reader.specs.Number.{is_number}
 use Rattle.script_reader.specs.Input.{is_name}
@@ -118,16 +118,16 @@ abbrev pub is_header : Words → Bool
 is_header words = has_header_words words && is_version (word_at words 1)
 
 -- the words of a header that are sizes
-abbrev pub size_words : Words → Words
-size_words words = word_at words 3 ∷ word_at words 5 ∷ word_at words 7 ∷ []
+abbrev pub books_size_words : Words → Words
+books_size_words words = word_at words 3 ∷ word_at words 5 ∷ word_at words 7 ∷ []
 
 -- the number that digits are, however many they are
 abbrev pub value_of : List ℕ → ℕ
 value_of word = digits_value 10 word
 
 -- the number at a place of a line
-abbrev pub value_at : Words → ℕ → ℕ
-value_at words i = value_of (word_at words i)
+abbrev pub word_value : Words → ℕ → ℕ
+word_value words i = value_of (word_at words i)
 
 -- a word is a number from the least to the greatest
 abbrev pub is_in_range : List ℕ × (ℕ × ℕ) → Bool

@@ -22,7 +22,7 @@ is_name name =
 abbrev pub IsName : List ℕ → Type 0
 IsName name = is_name name ≡ true
 
--- the names seen so far, and this one behind them where it is new
+-- the names seen so far, and this one behind them if it is new
 abbrev pub add_name : List (List ℕ) → List ℕ → List (List ℕ)
 add_name seen name = if list_any (bytes_eq name) seen then seen else seen ++ name ∷ []
 
@@ -44,8 +44,13 @@ module _ {S : Type 0} where
   abbrev pub caller_at : List (CallerOf S) → ℕ → CallerOf S
   caller_at callers c = slice_index_or callers c (record { name = []; scripts = [] })
 
+  -- how many scripts they have together
   abbrev pub count_scripts : List (CallerOf S) → ℕ
   count_scripts callers = sum_by (λ c. length c.scripts) callers
+
+-- a script, which is a list, of the caller with a number, both from 0
+abbrev pub script_at : {O : Type 0} → List (CallerOf (List O)) → ℕ → ℕ → List O
+script_at callers c i = slice_index_or (caller_at callers c).scripts i []
 
 -- callers that a text can give, each with at least one script, and all their scripts as they have to be
 pub record AreCallers {S : Type 0} (IsScript : S → Type 0) (callers : List (CallerOf S)) : Type 0 where

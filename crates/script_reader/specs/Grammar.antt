@@ -3,7 +3,7 @@
 use Rattle.std.specs.Prelude.{◌≡◌, ℕ, List, [], ◌∷◌, ◌++◌, codes}
 use Rattle.std.specs.List.{flat_map}
 use Rattle.books_model.specs.Books.{ClearingBooks}
-use Rattle.script_reader.specs.declared.version.Version.{Version}
+use Rattle.script_reader.specs.declared.books.version.Version.{Version}
 use Rattle.script_reader.specs.Text.{line, books_lines, script_lines, scripts_line, end_line, finish_line}
 use Rattle.script_reader.specs.Input.{ClearingInput, Submission, IsInput, callers_of}
 use Rattle.script_reader.specs.Versions.{IsInputWithin}

@@ -1,7 +1,6 @@
 -- What only the contracts of private functions and the proofs cite.
 pub mod Codes
 pub mod LinesAsWords
-pub mod Rows
 pub mod BooksRows
 pub mod Scripts
 pub mod Cuts

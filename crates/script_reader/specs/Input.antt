@@ -1,5 +1,5 @@
 -- An input: opening books, and callers with their scripts.
-use Rattle.std.specs.Prelude.{ℕ, List, [], slice_index_or}
+use Rattle.std.specs.Prelude.{List}
 use Rattle.books_model.specs.declared.script.Part.{Part}
 use Rattle.books_model.specs.Books.{ClearingBooks}
 use Rattle.books_model.specs.Ranges.{AreInRange, IsScriptFor}
@@ -14,14 +14,6 @@ Caller = CallerOf (List Part)
 pub record ClearingInput : Type 0 where
   pub books : ClearingBooks
   pub callers : List Caller
-
--- the caller with a number, from 0
-abbrev pub caller_at : ClearingInput → ℕ → Caller
-caller_at input c = slice_index_or input.callers c (record { name = []; scripts = [] })
-
--- a script of a caller, both from 0
-abbrev pub script_at : ClearingInput → ℕ → ℕ → List Part
-script_at input c i = slice_index_or (caller_at input c).scripts i []
 
 -- a script on books as it stands in a text, with the name of its caller
 abbrev pub Submission : Type 0

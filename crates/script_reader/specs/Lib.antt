@@ -11,6 +11,7 @@ pub mod FaultWords
 pub mod Journal
 pub mod Pieces
 pub mod Gathered
+pub mod Codes
 pub mod Reading
 pub mod ListLanguage
 pub mod Statements

@@ -1,7 +1,7 @@
 -- Lines and their words, as they are cut out of a text.
 use Rattle.std.specs.Prelude.{◌≡◌, ℕ, ◌<◌, ◌==◌, false, List, length, slice_index_or, []}
 use Rattle.std.specs.List.{AllByRecursion}
-use Rattle.script_reader.specs.declared.words.TheConstants.{SPACE, LINE_FEED}
+use Rattle.script_reader.specs.declared.text.words.TheConstants.{SPACE, LINE_FEED}
 
 -- no byte is this one
 abbrev pub IsFreeOf : ℕ → List ℕ → Type 0

@@ -10,7 +10,7 @@ use Rattle.std.specs.Str.{bytes_eq}
 use Rattle.books_model.specs.declared.limits.TheConstants.{MOST_OPERATIONS}
 use Rattle.script_reader.specs.declared.fault.Fault.{Fault}
 use Rattle.script_reader.specs.declared.fault.Fault.TheVariants as fault
-use Rattle.script_reader.specs.declared.words.TheConstants.{SPACE, LINE_FEED}
+use Rattle.script_reader.specs.declared.text.words.TheConstants.{SPACE, LINE_FEED}
 use Rattle.script_reader.specs.Lines.{word_at}
 use Rattle.script_reader.specs.Text.{number, line, finish_line}
 use Rattle.script_reader.specs.Forms.{Words, Form, begins, is_only, form_of, ranges_of, value_of, are_numbers, are_in_range}
@@ -154,8 +154,8 @@ module _ {O S : Type 0} (g : ListLanguage O S) where
   abbrev pub lines_of : List ℕ → List (SubmissionOf S) → List Words
   lines_of sizes submissions = head_words sizes ∷ (codes "scripts" ∷ []) ∷ flat_map submission_words submissions
 
-  abbrev pub text_of : List ℕ → List (SubmissionOf S) → List ℕ
-  text_of sizes submissions = flat_map line (lines_of sizes submissions) ++ finish_line
+  abbrev pub language_text : List ℕ → List (SubmissionOf S) → List ℕ
+  language_text sizes submissions = flat_map line (lines_of sizes submissions) ++ finish_line
 
   -- an operation has a form of the text with these sizes, and its numbers are in their ranges
   pub record IsOperationIn (sizes : List ℕ) (o : O) : Type 0 where
@@ -171,7 +171,7 @@ module _ {O S : Type 0} (g : ListLanguage O S) where
   -- the bytes are the text with these sizes, and with scripts that the callers gave in some order
   pub record IsTextOf (bytes : List ℕ) (sizes : List ℕ) (callers : List (CallerOf S)) : Type 0 where
     pub submissions : List (SubmissionOf S)
-    pub text : bytes ≡ text_of sizes submissions
+    pub text : bytes ≡ language_text sizes submissions
     pub callers_are : callers ≡ callers_of submissions
     pub sized : AreSizes sizes
     pub valid : AreCallers (IsScriptIn sizes) callers
@@ -179,10 +179,6 @@ module _ {O S : Type 0} (g : ListLanguage O S) where
   -- the bytes are a text
   abbrev pub IsText : List ℕ → Type 0
   IsText bytes = (sizes : List ℕ) × (callers : List (CallerOf S)) × IsTextOf bytes sizes callers
-
-  -- the line has the words of a header around its sizes
-  abbrev pub is_head : Words → Bool
-  is_head words = is_head_with g.title g.sizes words
 
   -- what is wrong with the first line
   abbrev pub head_fault : Words → Option Fault

@@ -3,8 +3,8 @@ use Rattle.std.specs.Prelude.{◌≡◌, ◌⊎◌, ℕ, List, [], ◌∷◌, �
 use Rattle.std.specs.List.{flat_map}
 use Rattle.books_model.specs.Books.{ClearingBooks}
 use Rattle.books_model.specs.Ranges.{IsScriptFor}
-use Rattle.script_reader.specs.declared.version.Version.{Version}
-use Rattle.script_reader.specs.declared.words.TheConstants.{LINE_FEED}
+use Rattle.script_reader.specs.declared.books.version.Version.{Version}
+use Rattle.script_reader.specs.declared.text.words.TheConstants.{LINE_FEED}
 use Rattle.script_reader.specs.Text.{books_lines, scripts_line, finish_line}
 use Rattle.script_reader.specs.Input.{Submission, IsName}
 use Rattle.script_reader.specs.Grammar.{submission_lines}

@@ -1,7 +1,7 @@
 -- The first fault of a text, by any judge: what is wrong with a line beside the lines before it.
 use Rattle.std.specs.Prelude.{◌≡◌, ◌≢◌, ◌⊎◌, ℕ, ◌+◌, ◌==◌, false, List, [], ◌∷◌, ◌++◌, Option, Some, None, codes, length, count_by}
 use Rattle.std.specs.List.{flat_map}
-use Rattle.script_reader.specs.declared.words.TheConstants.{LINE_FEED}
+use Rattle.script_reader.specs.declared.text.words.TheConstants.{LINE_FEED}
 use Rattle.script_reader.specs.declared.fault.Fault.{Fault}
 use Rattle.script_reader.specs.declared.fault.Fault.TheVariants as fault
 use Rattle.script_reader.specs.Lines.{IsFreeOf, AreWords}

@@ -1,7 +1,7 @@
 -- What the laws of texts say.
 use Rattle.std.specs.Prelude.{◌≡◌, ◌⊎◌, ℕ, List}
 use Rattle.script_reader.specs.declared.fault.Fault.{Fault}
-use Rattle.script_reader.specs.declared.version.Version.TheVariants.{Two}
+use Rattle.script_reader.specs.declared.books.version.Version.TheVariants.{Two}
 use Rattle.script_reader.specs.Input.{ClearingInput, IsInput}
 use Rattle.script_reader.specs.Versions.{IsInputWithin}
 use Rattle.script_reader.specs.Grammar.{Spells, IsValidInput, AreTwoTexts, BeginWithInput}
@@ -40,7 +40,7 @@ pub record FrontOrFaulty : Type 0 where
   pub either : (text : List ℕ) → BeginWithInput text ⊎ HasFrontFault text
   pub not_both : (text : List ℕ) → BeginWithInput text → ¬ HasFrontFault text
 
--- where a text begins with that of an input, its bytes, the input and what follows are one
+-- if a text begins with that of an input, its bytes, the input and what follows are one
 abbrev pub OneFront : Type 0
 OneFront =
     (bytes : List ℕ) (input other : ClearingInput) (text rest : List ℕ)

@@ -8,8 +8,8 @@ use Rattle.books_model.specs.declared.script.Op.TheVariants as op
 use Rattle.books_model.specs.declared.script.Part.{Part}
 use Rattle.books_model.specs.declared.script.Part.TheVariants as part
 use Rattle.books_model.specs.Books.{ClearingBooks}
-use Rattle.script_reader.specs.declared.words.TheConstants.{SPACE, LINE_FEED}
-use Rattle.script_reader.specs.declared.version.Version.{Version}
+use Rattle.script_reader.specs.declared.text.words.TheConstants.{SPACE, LINE_FEED}
+use Rattle.script_reader.specs.declared.books.version.Version.{Version}
 use Rattle.script_reader.specs.Versions.{version_word}
 
 -- a number in a text: decimal digits, with no zero in front
@@ -75,26 +75,26 @@ books_lines version books =
     ++ flat_map call_line books.calls
 
 -- the words of an operation
-abbrev pub operation_words : Op → List (List ℕ)
-operation_words (op.OpenAccount a) = codes "open" ∷ number a ∷ []
-operation_words (op.Close a) = codes "close" ∷ number a ∷ []
-operation_words (op.Deposit a x) = codes "deposit" ∷ number a ∷ number x ∷ []
-operation_words (op.Withdraw a x) = codes "withdraw" ∷ number a ∷ number x ∷ []
-operation_words (op.Move a b x) = codes "move" ∷ number a ∷ number b ∷ number x ∷ []
-operation_words (op.Price i p) = codes "price" ∷ number i ∷ number p ∷ []
-operation_words (op.Trade a b i q) =
+abbrev pub books_operation_words : Op → List (List ℕ)
+books_operation_words (op.OpenAccount a) = codes "open" ∷ number a ∷ []
+books_operation_words (op.Close a) = codes "close" ∷ number a ∷ []
+books_operation_words (op.Deposit a x) = codes "deposit" ∷ number a ∷ number x ∷ []
+books_operation_words (op.Withdraw a x) = codes "withdraw" ∷ number a ∷ number x ∷ []
+books_operation_words (op.Move a b x) = codes "move" ∷ number a ∷ number b ∷ number x ∷ []
+books_operation_words (op.Price i p) = codes "price" ∷ number i ∷ number p ∷ []
+books_operation_words (op.Trade a b i q) =
     codes "trade" ∷ number a ∷ number b ∷ number i ∷ number q ∷ []
-operation_words (op.Margin a m) = codes "margin" ∷ number a ∷ number m ∷ []
-operation_words op.Next = codes "next" ∷ []
-operation_words (op.Show a) = codes "show" ∷ number a ∷ []
-operation_words (op.Sum a b) = codes "sum" ∷ number a ∷ number b ∷ []
+books_operation_words (op.Margin a m) = codes "margin" ∷ number a ∷ number m ∷ []
+books_operation_words op.Next = codes "next" ∷ []
+books_operation_words (op.Show a) = codes "show" ∷ number a ∷ []
+books_operation_words (op.Sum a b) = codes "sum" ∷ number a ∷ number b ∷ []
 
 -- the lines of a part, as their words: an operation, or an alternative with its two branches
 abbrev pub part_words : Part → List (List (List ℕ))
-part_words (part.One o) = operation_words o ∷ []
+part_words (part.One o) = books_operation_words o ∷ []
 part_words (part.Either first second) =
-    (codes "try" ∷ []) ∷ (map_list operation_words first
-    ++ ((codes "else" ∷ []) ∷ (map_list operation_words second ++ (codes "done" ∷ []) ∷ [])))
+    (codes "try" ∷ []) ∷ (map_list books_operation_words first
+    ++ ((codes "else" ∷ []) ∷ (map_list books_operation_words second ++ (codes "done" ∷ []) ∷ [])))
 
 -- the parts of a script
 abbrev pub script_lines : List Part → List ℕ

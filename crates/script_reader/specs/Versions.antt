@@ -9,8 +9,8 @@ use Rattle.books_model.specs.declared.script.Part.{Part}
 use Rattle.books_model.specs.Books.{ClearingBooks}
 use Rattle.books_model.specs.Scripts.{operations_of}
 use Rattle.script_reader.specs.declared.limits.TheConstants.{MOST_BLOCKS_OF_ONE, GREATEST_CASH_OF_ONE, GREATEST_AMOUNT_OF_ONE}
-use Rattle.script_reader.specs.declared.version.Version.{Version}
-use Rattle.script_reader.specs.declared.version.Version.TheVariants.{One, Two}
+use Rattle.script_reader.specs.declared.books.version.Version.{Version}
+use Rattle.script_reader.specs.declared.books.version.Version.TheVariants.{One, Two}
 use Rattle.script_reader.specs.Input.{ClearingInput}
 
 -- the second word of the header

@@ -5,20 +5,30 @@ ghost use Rattle.std.specs.FinMap as map;
 ghost use Rattle.std.specs.List.{flat_map, list_any};
 ghost use Rattle.books_model.specs.Ranges.{AreInRange};
 ghost use Rattle.script_reader.specs.declared.fault.Fault.{Fault as AnyFault};
-ghost use Rattle.script_reader.specs.declared.version.Version.{Version as AnyVersion};
+ghost use Rattle.script_reader.specs.declared.books.version.Version.{Version as AnyVersion};
 ghost use Rattle.script_reader.specs.Text.{line};
 ghost use Rattle.script_reader.specs.Inner.LinesAsWords.{books_words};
 ghost use Rattle.script_reader.specs.Versions.{AreBooksWithin};
 ghost use Rattle.script_reader.specs.Inner.BooksRows.{Fits, IsRow, with_row};
-ghost use Rattle.script_reader.specs.Forms.{begins, has_header_words, is_only, is_header, value_at};
+ghost use Rattle.script_reader.specs.Forms.{begins, has_header_words, is_only, is_header, word_value};
 ghost use Rattle.script_reader.specs.Faults.{header_fault, header_version, fault_of, IsFaultyBehind};
 
+pub(crate) mod front;
+pub mod input;
+mod operations;
+pub mod pieces;
+mod rows;
+mod scripts;
+pub mod version;
+
+use crate::books::rows::{
+    ACCOUNTS, INSTRUMENTS, PRICES, QUANTITIES, RINGS, SHORTFALLS, instruments_of,
+};
+use crate::books::version::Version;
 use crate::fault::{Fault, Refusal};
-use crate::lines::Lines;
-use crate::numbers::{both_within, within};
-use crate::rows::{ACCOUNTS, INSTRUMENTS, PRICES, QUANTITIES, RINGS, SHORTFALLS, instruments_of};
-use crate::version::Version;
-use crate::words::Words;
+use crate::text::lines::Lines;
+use crate::text::numbers::{both_within, within};
+use crate::text::words::Words;
 use books_model::Books;
 use io_ends::OutOfMemory;
 use std::alloc::Global;
@@ -104,8 +114,8 @@ fn sizes_of(words: &Words<'_>, version: Version) -> Result<(u32, u32, u32), Faul
     requires header { is_header words.now ≡ true }
     requires version { version ≡ header_version words.now }
     ensures found { IfOk result
-        (λ sizes. (sizes.0 ≡ value_at words.now 3) × (sizes.1 ≡ value_at words.now 5)
-        × (sizes.2 ≡ value_at words.now 7)) }
+        (λ sizes. (sizes.0 ≡ word_value words.now 3) × (sizes.1 ≡ word_value words.now 5)
+        × (sizes.2 ≡ word_value words.now 7)) }
     ensures fine { OnOk result (header_fault words.now ≡ None) }
     ensures err { IfErr result (λ why. header_fault words.now ≡ Some why) }
 {

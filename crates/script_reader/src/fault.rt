@@ -1,5 +1,7 @@
 //! Why a text is refused.
 
+ghost use Rattle.std.specs.Prelude.{◌≡◌, ◌≢◌, ◌+◌, ◌<◌, ◌^◌};
+
 use io_ends::OutOfMemory;
 use std::alloc::AllocError;
 use std::error::Error;
@@ -88,7 +90,7 @@ impl fmt::Display for InputFault {
 
 impl Error for InputFault {}
 
-// Why a part of a text was not read. The number of the line is added where the whole text is read.
+// Why a part of a text was not read. The number of the line is added if the whole text is read.
 #[derive(Clone, Copy, Debug, PartialEq, Eq)]
 pub(crate) enum Refusal {
     // The line that was read last has this fault, or with `Fault::End` the line after it.
@@ -127,5 +129,17 @@ impl From<AllocError> for Refusal {
 
     fn from(_error: AllocError) -> Refusal {
         Refusal::OutOfMemory
+    }
+}
+
+// The number of the line with a fault, from 1, where so many lines were read. A line that is missing is the next.
+pub(crate) fn faulty_line(read: usize, why: Fault) -> u32
+    requires { read + 1 < 2 ^ 32 }
+    ensures missing { why ≡ Fault.End → result ≡ read + 1 }
+    ensures whole { why ≢ Fault.End → result ≡ read }
+{
+    match why {
+        Fault::End => read as u32 + 1,
+        _ => read as u32,
     }
 }

@@ -4,8 +4,13 @@ ghost use Rattle.std.specs.Prelude.{◌≡◌, [], ◌∷◌, ◌++◌, Some, If
 ghost use Rattle.script_reader.specs.ListLanguage.{AreSizes, IsOperationIn, head_fault, head_words, operation_words};
 ghost use Rattle.script_reader.specs.Rows.{row_fault};
 
+pub mod gathered;
+pub(crate) mod gathering;
+mod heads;
+pub(crate) mod reader;
+
 use crate::fault::Fault;
-use crate::words::Words;
+use crate::text::words::Words;
 use io_ends::OutOfMemory;
 use std::alloc::Global;
 

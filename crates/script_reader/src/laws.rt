@@ -9,7 +9,7 @@ use crate::limits::{
     GREATEST_AMOUNT_OF_ONE, GREATEST_CASH_OF_ONE, LONGEST_NAME, MOST_BLOCKS_OF_ONE, MOST_CALLERS,
     MOST_INPUT_BYTES, MOST_SCRIPTS, MOST_WORKERS,
 };
-use crate::words::{LINE_FEED, MOST_WORDS, SPACE};
+use crate::text::words::{LINE_FEED, MOST_WORDS, SPACE};
 
 /// The limits of a text, and of a line's words, in digits, and the bytes that separate words and lines, which are those of
 /// ASCII.

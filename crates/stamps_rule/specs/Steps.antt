@@ -69,7 +69,7 @@ attempt_of cause v = record {
 abbrev pub after_giving_way : Cause → View → View
 after_giving_way cause v = record v { phase = Yielding; abandoned = v.abandoned ++ attempt_of cause v ∷ [] }
 
--- the same where there is a cause
+-- the same if there is a cause
 abbrev pub after_judgement : Option Cause → View → View
 after_judgement None v = v
 after_judgement (Some cause) v = after_giving_way cause v

@@ -34,7 +34,7 @@ pub fn announce_stamp()
     ensures stamps { (j : ℕ) → KeepsStamps (MayAnnounceStamp j) (announce_stamp_action j) }
 {}
 
-/// A seat that looks at the timestamp of one that it met, and gives way at once where that is a cause, keeps both
+/// A seat that looks at the timestamp of one that it met, and gives way at once if that is a cause, keeps both
 /// invariants: the cause is none that it waited for before. It needs no word that all share.
 pub fn judge_stamp()
     ensures locks { (n : ℕ) (base : List ℕ) (j i : ℕ)
@@ -42,7 +42,7 @@ pub fn judge_stamp()
     ensures stamps { (j i : ℕ) → KeepsStamps (MayJudgeStamp j i) (judge_stamp_action j i) }
 {}
 
-/// A seat that looks whether its cause is gone keeps both invariants. Where it is, that seat's later timestamps are
+/// A seat that looks whether its cause is gone keeps both invariants. If it is, that seat's later timestamps are
 /// later than the own.
 pub fn load_cause_stamp()
     ensures locks { (n : ℕ) (base : List ℕ) (j i stamp : ℕ)
@@ -52,7 +52,7 @@ pub fn load_cause_stamp()
         → KeepsStamps (MayLoadCauseStamp j i stamp) (load_cause_stamp_action j i stamp) }
 {}
 
-/// The timestamp invariant holds of a table as it begins, where the lock invariant does.
+/// The timestamp invariant holds of a table as it begins, if the lock invariant does.
 pub fn opening()
     ensures { (n : ℕ) (base words : List ℕ) (views : List View)
         → LocksHold n base words views → IsClockUnused n words views → StampsHold n words views }
@@ -78,7 +78,7 @@ pub fn join_seats()
     ensures { KeepsStampsJoin MayJoinSeats after_joining }
 {}
 
-/// A step of any kind keeps the timestamp invariant where its word is not the clock, of no calls and of no timestamp,
+/// A step of any kind keeps the timestamp invariant if its word is not the clock, of no calls and of no timestamp,
 /// and the seat then knows the same of timestamps.
 pub fn aside()
     ensures { (n : ℕ) (base words : List ℕ) (views : List View) (id : ℕ) (v : View)

@@ -8,7 +8,7 @@ use Rattle.texts_tests.specs.declared.steps.Step.{Step}
 use Rattle.texts_tests.specs.declared.steps.Step.TheVariants as step
 use Rattle.script_reader.specs.Forms.{Form, form}
 use Rattle.script_reader.specs.ListLanguage.{ListLanguage, AreSizes, IsFormOfOperations, IsListLanguage, size, is_word}
-use Rattle.script_reader.proofs.Listed.Numbers.{one_number, two_numbers}
+use Rattle.script_reader.proofs.language.Listed.Numbers.{one_number, two_numbers}
 
 -- the kinds of operation, in a text with this most
 abbrev pub step_forms : List ℕ → List Form
@@ -16,17 +16,17 @@ step_forms sizes =
     form (codes "add") ((1, GREATEST_ACCOUNT) ∷ (1, slice_index_or sizes 0 0) ∷ [])
     ∷ form (codes "show") ((1, GREATEST_ACCOUNT) ∷ []) ∷ []
 
-abbrev pub keyword_of : Step → List ℕ
-keyword_of (step.Add a x) = codes "add"
-keyword_of (step.Show a) = codes "show"
+abbrev pub step_keyword : Step → List ℕ
+step_keyword (step.Add a x) = codes "add"
+step_keyword (step.Show a) = codes "show"
 
-abbrev pub numbers_of : Step → List ℕ
-numbers_of (step.Add a x) = a ∷ x ∷ []
-numbers_of (step.Show a) = a ∷ []
+abbrev pub step_numbers : Step → List ℕ
+step_numbers (step.Add a x) = a ∷ x ∷ []
+step_numbers (step.Show a) = a ∷ []
 
 -- the operation of a first word and of the numbers behind it
-abbrev pub step_of : List ℕ → List ℕ → Step
-step_of keyword numbers =
+abbrev pub read_step : List ℕ → List ℕ → Step
+read_step keyword numbers =
     if bytes_eq keyword (codes "add") then step.Add (slice_index_or numbers 0 0) (slice_index_or numbers 1 0)
     else step.Show (slice_index_or numbers 0 0)
 
@@ -35,9 +35,9 @@ steps = record {
   title = codes "steps";
   sizes = size (codes "most") (1, GREATEST_MOST) ∷ [];
   forms = step_forms;
-  keyword = keyword_of;
-  numbers = numbers_of;
-  operation = step_of;
+  keyword = step_keyword;
+  numbers = step_numbers;
+  operation = read_step;
   operations = λ s. s;
 }
 
@@ -57,23 +57,23 @@ steps_lawful = record {
   every_script = λ ops. (ops, refl);
 }
   where
-    words : (o : Step) → is_word (keyword_of o) ≡ true
+    words : (o : Step) → is_word (step_keyword o) ≡ true
     words (step.Add a x) = refl
     words (step.Show a) = refl
 
-    scripts : (o : Step) → bytes_eq (keyword_of o) (codes "script") ≡ false
+    scripts : (o : Step) → bytes_eq (step_keyword o) (codes "script") ≡ false
     scripts (step.Add a x) = refl
     scripts (step.Show a) = refl
 
-    ends : (o : Step) → bytes_eq (keyword_of o) (codes "end") ≡ false
+    ends : (o : Step) → bytes_eq (step_keyword o) (codes "end") ≡ false
     ends (step.Add a x) = refl
     ends (step.Show a) = refl
 
-    finishes : (o : Step) → bytes_eq (keyword_of o) (codes "finish") ≡ false
+    finishes : (o : Step) → bytes_eq (step_keyword o) (codes "finish") ≡ false
     finishes (step.Add a x) = refl
     finishes (step.Show a) = refl
 
-    one : (o : Step) → step_of (keyword_of o) (numbers_of o) ≡ o
+    one : (o : Step) → read_step (step_keyword o) (step_numbers o) ≡ o
     one (step.Add a x) = refl
     one (step.Show a) = refl
 

@@ -18,7 +18,7 @@ pub record IsCovered (from to amount : ℕ) (s : List ℕ) : Type 0 where
 abbrev pub moved : ℕ → ℕ → ℕ → List ℕ → List ℕ
 moved from to amount s = slice_set (slice_set s from (slice_index s from - amount)) to (slice_index s to + amount)
 
--- it is kept exactly where the amount is covered, and then the amount is moved
+-- it is kept exactly if the amount is covered, and then the amount is moved
 pub record Moves (from to amount : ℕ) (s : List ℕ) (kept : Bool) (t : List ℕ) : Type 0 where
   pub covered : (kept ≡ true) ↔ IsCovered from to amount s
   pub moves : kept ≡ true → t ≡ moved from to amount s

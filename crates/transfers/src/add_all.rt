@@ -5,7 +5,7 @@ ghost use Rattle.transfers.specs.Counting.{AddsAll};
 use crate::increment::CounterShape;
 use txn::{Job, Stop, Verdict, Words};
 
-/// Adds the amounts to the counter, one after another. Where they do not all fit, it reverts.
+/// Adds the amounts to the counter, one after another. If they do not all fit, it reverts.
 #[derive(Clone, Copy, Debug)]
 pub struct AddAll<'s> {
     /// In the order in which they are added.

@@ -6,7 +6,7 @@
 //! threads did when.
 //!
 //! `Increment` is a counter's job, and `increment_plain` shows what its proof gives on a plain list. `AddAll` has a loop,
-//! `AddPairOr` goes back to a mark where what it tried does not come out, and `add_to` is a call on any words, as a
+//! `AddPairOr` goes back to a mark if what it tried does not come out, and `add_to` is a call on any words, as a
 //! collection on words has them. `PutIfAbsent` is a job on a map.
 #![tactic(auto)]
 

@@ -1,4 +1,4 @@
-//! A job that tries something, and goes back to a mark where it does not come out.
+//! A job that tries something, and goes back to a mark if it does not come out.
 
 ghost use Rattle.std.specs.Prelude.{◌<◌, ◌+◌, IfOk};
 ghost use Rattle.txn.specs.Prelude.{IsReady, GoesOn, LeadsTo};
@@ -7,17 +7,17 @@ ghost use Rattle.transfers.specs.Counting.{AddsPairOr, AddsWhereFits};
 use crate::increment::CounterShape;
 use txn::{Job, Stop, Verdict, Words};
 
-/// Adds both amounts of a pair to the counter, one after the other. Where they do not both fit, it goes back to where it
-/// was before the first, and adds the other amount in their place; where that does not fit either, it reverts.
+/// Adds both amounts of a pair to the counter, one after the other. If they do not both fit, it goes back to where it
+/// was before the first, and adds the other amount in their place; if that does not fit either, it reverts.
 #[derive(Clone, Copy, Debug, PartialEq, Eq)]
 pub struct AddPairOr {
     pub first: u64,
     pub second: u64,
-    /// What is added where the two do not both fit.
+    /// What is added if the two do not both fit.
     pub other: u64,
 }
 
-// Adds to the counter where the sum fits, and answers whether it does.
+// Adds to the counter if the sum fits, and answers whether it does.
 fn add_fitting<W: Words>(w: &mut W, by: u64) -> Result<bool, Stop>
     requires ready { IsReady W.Words w.old }
     requires within { 0 < W.Shape.word_count (W.shape w.old) }
@@ -33,7 +33,7 @@ fn add_fitting<W: Words>(w: &mut W, by: u64) -> Result<bool, Stop>
     Ok(true)
 }
 
-// Adds both amounts where the sum fits, and answers whether it does. Where only the first fits, it is taken back.
+// Adds both amounts if the sum fits, and answers whether it does. If only the first fits, it is taken back.
 fn add_pair<W: Words>(w: &mut W, first: u64, second: u64) -> Result<bool, Stop>
     requires ready { IsReady W.Words w.old }
     requires within { 0 < W.Shape.word_count (W.shape w.old) }

@@ -5,7 +5,7 @@ ghost use Rattle.transfers.specs.Moving.{Moves};
 use crate::vault::Vault;
 use txn::{Job, Stop, Verdict, Words, some_fits};
 
-/// Moves `amount` from the word at place `from` to the word at place `to`. It reverts where these are not two words of
+/// Moves `amount` from the word at place `from` to the word at place `to`. It reverts if these are not two words of
 /// the vault, or the first has less.
 #[derive(Clone, Copy, Debug, PartialEq, Eq)]
 pub struct Transfer {

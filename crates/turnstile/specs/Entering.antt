@@ -5,7 +5,7 @@ use Rattle.std.specs.Prelude.{◌≡◌, ◌↔◌, ℕ, ◌+◌, ◌<◌, ◌�
 abbrev pub HasAtMost : ℕ → List ℕ → Type 0
 HasAtMost limit s = slice_index s 0 ≤ limit
 
--- one more is inside exactly where there was room: then the writes are kept, and the answer says so
+-- one more is inside exactly if there was room: then the writes are kept, and the answer says so
 pub record Enters (limit : ℕ) (s : List ℕ) (kept let_in : Bool) (t : List ℕ) : Type 0 where
   pub says_so : let_in ≡ kept
   pub room : (kept ≡ true) ↔ (slice_index s 0 < limit)

@@ -16,7 +16,7 @@ impl Shape for Room {
     ghost good = { λ room s. HasAtMost room.limit s };
 }
 
-/// Lets one more in, where there is room, and says whether it did.
+/// Lets one more in, if there is room, and says whether it did.
 #[derive(Clone, Copy, Debug, PartialEq, Eq)]
 pub struct Enter {
     pub room: Room,

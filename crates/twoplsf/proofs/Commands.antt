@@ -4,7 +4,7 @@ use Rattle.std.specs.Option.{SomeIff}
 use Rattle.std.specs.Str.Parse.{digits_value}
 use Rattle.script_reader.specs.Number.{IsNumber}
 use Rattle.script_reader.specs.Text.{number}
-use Rattle.script_reader.proofs.Tokens.Numerals.{read_is, greatest_u64}
+use Rattle.script_reader.proofs.text.Tokens.Numerals.{read_is, greatest_u64}
 use Rattle.twoplsf.specs.Command.{IsDrill, IsValidCommand}
 
 -- what was read of a word is its number
@@ -25,7 +25,7 @@ five_words words five (inr (inl make)) = absurd (omega (arith, five, ap length m
 five_words words five (inr (inr (inl drill))) = drill
 five_words words five (inr (inr (inr cells))) = absurd (omega (arith, five, ap length cells.2.words_are))
 
--- what holds at all does so where there is no value
+-- what holds at all does so if there is no value
 pub in_none : {X : Type 0} (r : Option X) (P : Type 0) → P → IfNone r P
 in_none None P h = h
 in_none (Some x) P h = tt

@@ -4,12 +4,13 @@ use Rattle.std.proofs.Common.{◌≡◌, ℕ, suc, ◌<◌, List, [], ◌∷◌,
 use Rattle.std.proofs.lemmas.List.Elements.{All-map}
 use Rattle.books_model.specs.declared.reply.Reply.{Reply}
 use Rattle.books_model.specs.Books.{ClearingBooks}
-use Rattle.script_reader.specs.declared.version.Version.TheVariants.{Two}
+use Rattle.script_reader.specs.declared.books.version.Version.TheVariants.{Two}
 use Rattle.script_reader.specs.Text.{line, books_lines, finish_line}
 use Rattle.script_reader.specs.Input.{ClearingInput}
 use Rattle.script_reader.specs.Journal.{IsJournal, IsPlace}
 use Rattle.books_report.specs.declared.line.Line.{Line}
-use Rattle.books_report.specs.Output.{Ran, places_run, replies_of, books_after, journal_lines, text_of, output_of, IsOutput}
+use Rattle.books_report.specs.Journals.{places_run, journal_lines}
+use Rattle.books_report.specs.Output.{Ran, replies_of, books_after, text_of, output_of, IsOutput}
 use Rattle.books_report.specs.Lines.{scripts_of}
 use Rattle.books_report.specs.Lines as lines
 use Rattle.txn_stores.specs.Journals.{line_of_done}
@@ -17,6 +18,7 @@ use Rattle.worker_pool.specs.Days.{Done}
 use Rattle.worker_pool.specs.declared.done.DayEnd.{DayEnd}
 use Rattle.worker_pool.specs.Days as days
 use Rattle.twoplsf.specs.Day.{ran_of_item, journal_of, closing_books, IsDayOf}
+use Rattle.books_report.specs.Words.{reply_words}
 
 -- the places of a journal are those of its items
 places_same : (done : List Done) → places_run (map ran_of_item done) ≡ days.places_of_items done
@@ -69,10 +71,10 @@ module _ (input : ClearingInput) (workers : ℕ) (day : DayEnd) (is : IsDayOf in
 
   -- and so they do of lines that were written behind the first one
   pub joined_is : (text head journal : List ℕ) (closing : ClearingBooks) → closing ≡ closing_books input day → head ≡ line (codes "journal" ∷ [])
-      → journal ≡ head ++ journal_lines input 1 (journal_of day) → text ≡ journal ++ books_lines Two closing ++ finish_line
+      → journal ≡ head ++ journal_lines reply_words input.callers 1 (journal_of day) → text ≡ journal ++ books_lines Two closing ++ finish_line
       → text ≡ output_of input (journal_of day)
   joined_is text head journal closing closed begun written told =
-      told ∙ ap (λ t. t ++ books_lines Two closing ++ finish_line) (written ∙ ap (λ t. t ++ journal_lines input 1 (journal_of day)) begun)
+      told ∙ ap (λ t. t ++ books_lines Two closing ++ finish_line) (written ∙ ap (λ t. t ++ journal_lines reply_words input.callers 1 (journal_of day)) begun)
       ∙ ap (text_of input (journal_of day)) (closing_is closing closed)
 
   -- the text for the items of a day is an output, with each number of restarts below that of the workers

@@ -4,7 +4,7 @@ use Rattle.std.proofs.lemmas.List.{length-map}
 use Rattle.std.proofs.lemmas.List.FromFn.{length-map-range_with_len}
 use Rattle.books_model.specs.Laws.{all_cash}
 use Rattle.script_reader.specs.Input.{ClearingInput}
-use Rattle.script_reader.proofs.Grouped.Outside.{scripts_counted}
+use Rattle.script_reader.proofs.language.Grouped.Outside.{scripts_counted}
 use Rattle.books_report.specs.Output.{IsOutput}
 use Rattle.books_report.proofs.Order.Turns.{length_of_journal}
 use Rattle.input_maker.specs.Made.{made_input, made_submission, made_submissions, submissions_to}

@@ -33,7 +33,7 @@ at_number status.OutOfMemory = refl
 pub one_status : (n : ℕ) (s other : Status) → n ≡ exit_status s → n ≡ exit_status other → s ≡ other
 one_status n s other this that = sym (at_number s) ∙ ap status_at (sym this ∙ that) ∙ at_number other
 
--- where the status is this one, the number is its
+-- if the status is this one, the number is its
 number_of : (n : ℕ) (s is : Status) → n ≡ exit_status s → s ≡ is → n ≡ exit_status is
 number_of n s is this same = this ∙ ap exit_status same
 
@@ -45,7 +45,7 @@ one_of_three : (n : ℕ) (s a b c : Status) → n ≡ exit_status s → (s ≡ a
 one_of_three n s a b c this (inl same) = inl (number_of n s a this same)
 one_of_three n s a b c this (inr other) = inr (one_of_two n s b c this other)
 
--- what holds of the value holds where the result has it
+-- what holds of the value holds if the result has it
 pub where_ok : {T E : Type 0} {r : Result T E} {x : T} (P : T → Type 0) → r ≡ Ok x → P x → IfOk r P
 where_ok P is h = subst (λ r. IfOk r P) (sym is) h
 

@@ -40,7 +40,7 @@ always : (left : Option (List ℕ)) (P : List ℕ → Type 0) → ((bytes : List
 always None P h = tt
 always (Some bytes) P h = h bytes
 
--- where one byte too many was taken, more were left than an input may have
+-- if one byte too many was taken, more were left than an input may have
 above_most : (left now : Option (List ℕ)) → TakesAtMost left now (MOST_INPUT_BYTES + 1)
     → IfSome (count_taken left now) (λ n. n ≡ MOST_INPUT_BYTES + 1) → IfSome left (λ bytes. MOST_INPUT_BYTES < length bytes)
 above_most None now taken above = tt
@@ -96,7 +96,7 @@ module _ (result : Status) (words : List (List ℕ)) (bytes : List ℕ) where
   on_no_output check (IsTooLarge is above) within input other two none = absurd (omega arith)
   on_no_output check (HasFailed failed) within input other two none = inr failed
 
-  -- on bytes that have the input, where no fault came
+  -- on bytes that have the input, if no fault came
   on_input : EndsOn result words bytes → length bytes ≤ MOST_INPUT_BYTES → HaveInputFor words bytes → result ≢ status.ReadFault → result ≢ status.WriteFault
       → (result ≡ status.Done) ⊎ (result ≡ status.Differs) ⊎ (result ≡ status.OutOfMemory)
   on_input (IsDone is few text h) within have read write = inl is
@@ -115,7 +115,7 @@ module _ (result : Status) (words : List (List ℕ)) (bytes : List ℕ) where
   on_no_check only not (inr (inl is)) = absurd (not (only is))
   on_no_check only not (inr (inr memory)) = inr memory
 
--- a command that reads nothing ends so where no fault came
+-- a command that reads nothing ends so if no fault came
 makes : (result : Status) (words : List (List ℕ)) (left now before after : Option (List ℕ))
     → TookBy result words left now before after → (result ≡ status.ReadFault → IsReading words) → result ≢ status.WriteFault → IsMaking words
     → (result ≡ status.Done) ⊎ (result ≡ status.OutOfMemory)
@@ -256,7 +256,7 @@ module _ {result : Status} {words : List (List ℕ)} {left now before after : Op
     no_output = no_output;
   }
 
-  -- where nothing is wrong, the work is done, or a text differs
+  -- if nothing is wrong, the work is done, or a text differs
   complete_reading : IsReading words
       → IfSome left (λ bytes. length bytes ≤ MOST_INPUT_BYTES → HaveInputFor words bytes → (Read → ⊥) → (Write → ⊥)
       → (result ≡ status.Done) ⊎ (result ≡ status.Differs) ⊎ (result ≡ status.OutOfMemory))

@@ -9,9 +9,9 @@ use Rattle.script_reader.specs.Input.{ClearingInput}
 use Rattle.script_reader.specs.Grammar.{AreTwoTexts, Spells}
 use Rattle.twoplsf.specs.Command.{ByCommand, IsAnyRunCommand, IsCells, IsCheck, IsDrill, IsMake, IsMaking, IsOrders}
 use Rattle.twoplsf.specs.Command.{IsReading, IsRecords}
-use Rattle.script_reader.proofs.Texts.Deciding.{not_both, one_fault}
-use Rattle.script_reader.proofs.Texts.FrontLaws.{never_both, one_front}
-use Rattle.script_reader.proofs.Listed.Telling.{one_fault as one_in_language, not_both as not_in_language}
+use Rattle.script_reader.proofs.books.Texts.Deciding.{not_both, one_fault}
+use Rattle.script_reader.proofs.books.Texts.FrontLaws.{never_both, one_front}
+use Rattle.script_reader.proofs.language.Listed.Telling.{one_fault as one_in_language, not_both as not_in_language}
 use Rattle.books_report.specs.declared.limits.TheConstants.{RESTARTS_BELOW}
 use Rattle.books_report.specs.Output.{IsOutput}
 use Rattle.books_report.specs.Checking.{IsFirstWrongLine}

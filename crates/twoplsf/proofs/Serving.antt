@@ -33,7 +33,7 @@ use Rattle.twoplsf.specs.Orders.{IsOrdersDayFor}
 use Rattle.twoplsf.specs.Records.{IsRecordsDayFor}
 use Rattle.twoplsf.specs.Serving.{IsServed}
 use Rattle.twoplsf.specs.Answer.{Answers, IsAnswer, IsCellsOf, IsComparisonOf, IsDayFor, IsDrillOf, IsOrdersRunOf}
-use Rattle.twoplsf.specs.Answer.{IsRecordsRunOf, IsRunOf, IsRefusalOf, IsText, IsTextFor, OfBytesRead}
+use Rattle.twoplsf.specs.Answer.{IsRecordsRunOf, IsRunOf, IsRefusalOf, IsTextAlone, IsTextFor, OfBytesRead}
 use Rattle.twoplsf.specs.Answer.{Refuses, TookText, WasGiven, only_status, refused_line, served_of, status_of, text_of_answer}
 use Rattle.twoplsf.specs.declared.answer.Answer.{Answer}
 use Rattle.twoplsf.specs.declared.answer.Answer.TheVariants.{Text, Day, Records, Orders, Cells}
@@ -92,7 +92,7 @@ range_is words (command.Cells w rounds) is = (is.workers_range, is.rounds_range)
 
 -- what is said of a text and its status, of the refusal of bytes, and of the answer to an input, holds of the answer
 module _ (P : Answer → Type 0) where
-  said : (is : Status) (line : List ℕ) (answer : Answer) → IsText is line answer
+  said : (is : Status) (line : List ℕ) (answer : Answer) → IsTextAlone is line answer
       → ((text : Vec ℕ Global) → text.items ≡ line → P (Text is text)) → P answer
   said is line (Text found text) h holds = subst (λ (s : Status). P (Text s text)) (sym h.0) (holds text h.1)
   said is line _ h holds = absurd h
@@ -112,7 +112,7 @@ module _ (P : Answer → Type 0) where
 -- bytes are refused that spell no input
 pub refusing : {Input : Type 0} (Spelled : List ℕ → Input → Type 0) (IsFirst : List ℕ → ℕ → Fault → Type 0)
     (IsTo : Input → Answer → Type 0) (bytes : List ℕ) (number : ℕ) (why : Fault) → IsFirst bytes number why
-    → ((input : Input) → Spelled bytes input → ⊥) → (answer : Answer) → IsText status.BadInput (refused_line number why) answer
+    → ((input : Input) → Spelled bytes input → ⊥) → (answer : Answer) → IsTextAlone status.BadInput (refused_line number why) answer
     → Answers Spelled IsFirst IsTo bytes answer
 refusing Spelled IsFirst IsTo bytes number why first none (Text is text) h =
     inr (none, (h.0, record { number = number; why = why; first = first; text_is = h.1 }))
@@ -296,7 +296,7 @@ module _ (code : Codes ℕ) (one : (s xs ys : List ℕ) → AreCellValues code 0
   orders_row w is read input spelled _ of_run = absurd of_run
 
   make_row : (plan : Plan) → IsMakeCommand words plan.seed plan.callers plan.scripts → (answer : Answer)
-      → IsText status.Done (made_input_text plan.seed plan.callers plan.scripts) answer → Printed answer
+      → IsTextAlone status.Done (made_input_text plan.seed plan.callers plan.scripts) answer → Printed answer
   make_row plan is answer line =
       said Printed status.Done (made_input_text plan.seed plan.callers plan.scripts) answer line (λ text same. (
         inr (inl (record { seed = plan.seed; callers = plan.callers; scripts = plan.scripts; command = is; text_is = same })),
@@ -591,7 +591,7 @@ pub nothing_counted : (left : Option (List ℕ)) → count_taken left left ≡ S
 nothing_counted None same = cc
 nothing_counted (Some bytes) same = let one : length bytes - length bytes ≡ MOST_INPUT_BYTES + 1 = cc in omega arith
 
--- where reading was refused the command is one that reads
+-- if reading was refused the command is one that reads
 pub reading_by : {T E : Type 0} (words : List (List ℕ)) (o : Command) → IsCommand words o → (r : Result T E) (e : E) (X : Type 0) → r ≡ Err e
     → (reads_text o ≡ false → X × IsOk r) → IsReading words
 reading_by words o is r e X refused unread = by (reads_or_not o)

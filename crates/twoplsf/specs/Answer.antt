@@ -37,7 +37,7 @@ use Rattle.order_text.specs.Grammar.{SpellsOrders, IsOrderFault}
 use Rattle.order_text.specs.Input.{BookInput}
 use Rattle.twoplsf.specs.Orders.{IsOrdersDayOf, IsOrdersText}
 
--- this holds of the bytes that were read, which are those that were left, where the source tells them
+-- this holds of the bytes that were read, which are those that were left, if the source tells them
 pub record OfBytesRead (left : Option (List ℕ)) (P : List ℕ → Type 0) : Type 0 where
   pub bytes : List ℕ
   pub told : IfSome left (λ all. all ≡ bytes)
@@ -94,7 +94,7 @@ text_of_answer (Cells text closed) = text.items
 abbrev pub only_status : Status → Served
 only_status is = record { status = is; day = None; cells = None; records = None; orders = None }
 
--- and what it comes to where the text of this answer was written whole
+-- and what it comes to if the text of this answer was written whole
 abbrev pub served_of : Answer → Served
 served_of (Text is text) = only_status is
 served_of (Day text day) = record { status = status.Done; day = Some day; cells = None; records = None; orders = None }
@@ -103,9 +103,9 @@ served_of (Orders day) = record { status = status.Done; day = None; cells = None
 served_of (Cells text closed) = record { status = status.Done; day = None; cells = Some closed; records = None; orders = None }
 
 -- the answer is this text with this status, and tells of nothing that was done
-abbrev pub IsText : Status → List ℕ → Answer → Type 0
-IsText is said (Text found text) = (found ≡ is) × (text.items ≡ said)
-IsText is said _ = ⊥
+abbrev pub IsTextAlone : Status → List ℕ → Answer → Type 0
+IsTextAlone is said (Text found text) = (found ≡ is) × (text.items ≡ said)
+IsTextAlone is said _ = ⊥
 
 -- the answer refuses the faulty line of the bytes that is the first by this relation, with the first reason for it
 abbrev pub Refuses : (List ℕ → ℕ → Fault → Type 0) → List ℕ → Answer → Type 0
@@ -129,8 +129,8 @@ IsRunOf workers input _ = ⊥
 -- a text was compared with the input that it stands behind: it is an output of it, or this is its first wrong line
 abbrev pub IsComparisonOf : ClearingInput × List ℕ → Answer → Type 0
 IsComparisonOf two answer =
-    (IsOutput two.0 RESTARTS_BELOW two.1 × IsText status.Done agrees_line answer)
-    ⊎ ((n : ℕ) × IsFirstWrongLine two.0 RESTARTS_BELOW two.1 n × IsText status.Differs (differs_line n) answer)
+    (IsOutput two.0 RESTARTS_BELOW two.1 × IsTextAlone status.Done agrees_line answer)
+    ⊎ ((n : ℕ) × IsFirstWrongLine two.0 RESTARTS_BELOW two.1 n × IsTextAlone status.Differs (differs_line n) answer)
 
 -- the input of a record store was run by so many workers: its text is an output of it, for the items of the day
 abbrev pub IsRecordsRunOf : ℕ → StoreInput → Answer → Type 0
@@ -162,7 +162,7 @@ module _ (code : Codes ℕ) where
   IsAnswer command.Check = Answers (λ bytes two. AreTwoTexts bytes two.0 two.1) IsFrontFault IsComparisonOf
   IsAnswer (command.Records workers) = Answers SpellsRecords IsRecordFault (IsRecordsRunOf workers)
   IsAnswer (command.Orders workers) = Answers SpellsOrders IsOrderFault (IsOrdersRunOf workers)
-  IsAnswer (command.Make plan) = λ bytes. IsText status.Done (made_input_text plan.seed plan.callers plan.scripts)
+  IsAnswer (command.Make plan) = λ bytes. IsTextAlone status.Done (made_input_text plan.seed plan.callers plan.scripts)
   IsAnswer (command.Drill workers plan) = λ bytes. IsDrillOf workers plan
   IsAnswer (command.Cells workers rounds) = λ bytes. IsCellsOf workers rounds
 

@@ -42,7 +42,7 @@ pub record HasCauses (is : Status) (words : List (List ℕ)) (left now before af
   pub bad_input : is ≡ status.BadInput → IfSome left (λ bytes. ¬ HaveInputFor words bytes)
   pub no_input : IsReading words → IfSome left (λ bytes. length bytes ≤ MOST_INPUT_BYTES
       → (¬ HaveInputFor words bytes) → (is ≡ status.BadInput) ⊎ Failed is)
-  -- a text behind an input: `Differs` comes in `check` alone, exactly where the text is no output of the input, with its
+  -- a text behind an input: `Differs` comes in `check` alone, exactly if the text is no output of the input, with its
   -- first wrong line
   pub only_check : is ≡ status.Differs → IsCheck words
   pub differs : is ≡ status.Differs → IfSome left (λ bytes. (input : ClearingInput) (text : List ℕ)

@@ -1,4 +1,4 @@
--- What is printed where nothing is read: of an input that the program makes, and of cells.
+-- What is printed if nothing is read: of an input that the program makes, and of cells.
 use Rattle.std.specs.Prelude.{◌≡◌, ◌⊎◌, ℕ, ◌+◌, ◌*◌, List, [], ◌∷◌, ◌++◌, Option, codes}
 use Rattle.std.specs.Io.KnownBytes.{Appends}
 use Rattle.script_reader.specs.Text.{line, number}

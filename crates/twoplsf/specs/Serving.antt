@@ -23,7 +23,7 @@ pub record IsServed {S K : Type 0} (sources : Sources S) (sinks : Sinks K) (code
   -- stands; the text says what words and bytes it is for, so a status that has one never comes with others
   pub text : TookText code result.status words (sources.left source) (sources.left source') (sinks.taken sink) (sinks.taken sink')
   pub unwritten : (result.status ≡ status.ReadFault) ⊎ (result.status ≡ status.OutOfMemory) → sink' ≡ sink
-  -- the day is there exactly where scripts were run and their output was printed, or their sums after a drill: then it is
+  -- the day is there exactly if scripts were run and their output was printed, or their sums after a drill: then it is
   -- one of the input by as many workers as the words say, and the text of `run` is the output for its items
   pub day : IsAnyRunCommand words → IfSome result.day
       (λ day. OfBytesRead (sources.left source) (λ bytes. IsDayFor words bytes (sinks.taken sink) (sinks.taken sink') day))
@@ -43,11 +43,11 @@ pub record IsServed {S K : Type 0} (sources : Sources S) (sinks : Sinks K) (code
   pub unread : (¬ IsReading words) → source' ≡ source
   pub taken : TakesAtMost (sources.left source) (sources.left source') (MOST_INPUT_BYTES + 1)
   pub reads : sources.reads source' ≤ sources.reads source + MOST_INPUT_BYTES + 2
-  -- what is refused where it is called for: wrong words before anything is read, and too many bytes
+  -- what is refused if it is called for: wrong words before anything is read, and too many bytes
   pub words_first : (¬ IsValidCommand words) → (result.status ≡ status.BadWords) ⊎ (result.status ≡ status.WriteFault)
   pub above_limit : count_taken (sources.left source) (sources.left source') ≡ Some (MOST_INPUT_BYTES + 1)
       → (result.status ≡ status.TooLarge) ⊎ (result.status ≡ status.WriteFault) ⊎ (result.status ≡ status.OutOfMemory)
-  -- faults of the outside come only where a read or a write failed
+  -- faults of the outside come only if a read or a write failed
   pub read_fault : result.status ≡ status.ReadFault
       → IsReading words × Rose (sources.faults source) (sources.faults source')
   pub write_fault : result.status ≡ status.WriteFault → Rose (sinks.faults sink) (sinks.faults sink')

@@ -6,7 +6,7 @@ ghost use Rattle.books_report.specs.Output.{output_of};
 ghost use Rattle.script_reader.specs.declared.limits.TheConstants.{MOST_WORKERS};
 ghost use Rattle.script_reader.specs.Faults.{IsFirstFault};
 ghost use Rattle.script_reader.specs.Grammar.{Spells};
-ghost use Rattle.twoplsf.specs.Answer.{Answers, IsRunOf, IsText, refused_line, status_of, text_of_answer};
+ghost use Rattle.twoplsf.specs.Answer.{Answers, IsRunOf, IsTextAlone, refused_line, status_of, text_of_answer};
 ghost use Rattle.twoplsf.specs.Day.{IsDayOf, closing_books, journal_of};
 
 use crate::day::run_day;
@@ -81,7 +81,7 @@ impl Answer {
 
 // The answer that refuses bytes, by their first faulty line.
 pub(crate) fn refusal(alloc: Global, line: u32, why: Fault) -> Result<Answer, OutOfMemory>
-    ensures { IfOk result (IsText Status.BadInput (refused_line line why)) }
+    ensures { IfOk result (IsTextAlone Status.BadInput (refused_line line why)) }
 {
     let mut text = String::from_str(alloc, "refused line ")?;
     write!(text, "{line} {why}")?;

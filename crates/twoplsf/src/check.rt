@@ -3,7 +3,7 @@
 ghost use Rattle.std.specs.Prelude.{◌≡◌, IfOk};
 ghost use Rattle.script_reader.specs.Faults.{IsFrontFault};
 ghost use Rattle.script_reader.specs.Grammar.{AreTwoTexts};
-ghost use Rattle.twoplsf.specs.Answer.{Answers, IsComparisonOf, IsText};
+ghost use Rattle.twoplsf.specs.Answer.{Answers, IsComparisonOf, IsTextAlone};
 ghost use Rattle.twoplsf.specs.Check.{agrees_line, differs_line};
 
 use crate::answer::{Answer, refusal};
@@ -15,7 +15,7 @@ use std::alloc::Global;
 
 // That a text is an output.
 fn agrees(alloc: Global) -> Result<Answer, OutOfMemory>
-    ensures { IfOk result (IsText Status.Done agrees_line) }
+    ensures { IfOk result (IsTextAlone Status.Done agrees_line) }
 {
     Ok(Answer::Text {
         status: Status::Done,
@@ -25,7 +25,7 @@ fn agrees(alloc: Global) -> Result<Answer, OutOfMemory>
 
 // That it is none, by its first wrong line.
 fn differs(alloc: Global, line: u32) -> Result<Answer, OutOfMemory>
-    ensures { IfOk result (IsText Status.Differs (differs_line line)) }
+    ensures { IfOk result (IsTextAlone Status.Differs (differs_line line)) }
 {
     let mut text = String::from_str(alloc, "differs line ")?;
     write!(text, "{line}")?;

@@ -129,7 +129,7 @@ fn plan_of(seed: &[u8], callers: &[u8], scripts: &[u8]) -> Option<Plan>
     })
 }
 
-// The number that a word is, where it is one between two others, which both count. It takes no memory.
+// The number that a word is, if it is one between two others, which both count. It takes no memory.
 fn number_within(word: &[u8], least: u32, most: u32) -> Option<u32>
     ensures some { IfSome result (λ n. (word.now ≡ number n) × IsWithin least most n) }
     ensures none { IfNone result ((n : ℕ) → word.now ≡ number n → ¬ IsWithin least most n) }

@@ -22,7 +22,7 @@ use std::thread::Threads;
 use txn_cells::Coded;
 use worker_gate::Gate;
 
-/// Serves the words, and gives the number of the status that this came to, from 0 to 7. Where there was no memory for the
+/// Serves the words, and gives the number of the status that this came to, from 0 to 7. If there was no memory for the
 /// words, it is that of out of memory.
 pub fn run_program<R: Threads + Wait + Sync, S: Source, K: Sink, G: Gate + Sync>(
     rt: &R,
@@ -57,7 +57,7 @@ pub fn run_program<R: Threads + Wait + Sync, S: Source, K: Sink, G: Gate + Sync>
     ensures served { IfOk words (λ list. EndsWith S.Source K.Sink ⟦<u128 as Coded>⟧ result
         (texts_of list.items) source.old source.new sink.old sink.new) }
 
-    // Where nothing is wrong and no fault comes, the work is done, or memory is out; and `check` may find that the text
+    // If nothing is wrong and no fault comes, the work is done, or memory is out; and `check` may find that the text
     // differs.
     ensures complete { IfOk words (λ list. IsAnyRunCommand (texts_of list.items)
         → IfSome (S.left source.old) (λ bytes. length bytes ≤ MOST_INPUT_BYTES

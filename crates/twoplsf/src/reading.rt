@@ -9,7 +9,7 @@ ghost use Rattle.script_reader.specs.Grammar.{Spells};
 ghost use Rattle.script_reader.specs.Pieces.{AreScripts};
 
 use books_model::Books;
-use script_reader::pieces::{Submitted, cut, input_of, read_opening, read_piece};
+use script_reader::books::pieces::{Submitted, cut, input_of, read_opening, read_piece};
 use script_reader::{Input, InputFault, Version, read_input};
 use std::alloc::Global;
 use std::thread::{Threads, join};

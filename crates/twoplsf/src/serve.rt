@@ -34,18 +34,18 @@ use worker_pool::DayEnd;
 #[derive(Drop)]
 pub struct Served {
     pub status: Status,
-    /// What the workers did, where scripts were run and their output was written whole.
+    /// What the workers did, if scripts were run and their output was written whole.
     pub day: Option<DayEnd>,
-    /// The closed table of a run over cells, where their values were written whole.
+    /// The closed table of a run over cells, if their values were written whole.
     pub cells: Option<Closed<CellsShape<u128>>>,
-    /// What the workers did on a record store, where their output was written whole.
+    /// What the workers did on a record store, if their output was written whole.
     pub records: Option<RecordDay>,
-    /// What the workers did on a limit order book, where their output was written whole.
+    /// What the workers did on a limit order book, if their output was written whole.
     pub orders: Option<OrderDay>,
 }
 
 impl Served {
-    // What serving came to where nothing is told of what was done.
+    // What serving came to if nothing is told of what was done.
     fn only(status: Status) -> Served
         ensures { result ≡ only_status status }
     {
@@ -58,7 +58,7 @@ impl Served {
         }
     }
 
-    // What it came to where the text of this answer was written whole: what was done is told.
+    // What it came to if the text of this answer was written whole: what was done is told.
     fn of(answer: Answer) -> Served
         ensures { result ≡ served_of answer }
     {
@@ -85,7 +85,7 @@ impl Served {
     }
 }
 
-// Writes a text, and answers this where it was written whole, or else a write fault.
+// Writes a text, and answers this if it was written whole, or else a write fault.
 fn finish<K: Sink>(sink: &mut K, text: &[u8], status: Status) -> Status
     ensures { (result ≡ status × Appends (K.taken sink.old) (K.taken sink.new) text.now)
         ⊎ (result ≡ Status.WriteFault × Rose (K.faults sink.old) (K.faults sink.new)
@@ -97,7 +97,7 @@ fn finish<K: Sink>(sink: &mut K, text: &[u8], status: Status) -> Status
     }
 }
 
-// Writes the text of an answer, and tells what was done where it was written whole.
+// Writes the text of an answer, and tells what was done if it was written whole.
 fn print_answer<K: Sink>(sink: &mut K, answer: Answer) -> Served
     ensures { (result ≡ served_of answer
         × Appends (K.taken sink.old) (K.taken sink.new) (text_of_answer answer))
@@ -110,7 +110,7 @@ fn print_answer<K: Sink>(sink: &mut K, answer: Answer) -> Served
     }
 }
 
-// The bytes for a command: all that is left of the source, or none where it reads nothing.
+// The bytes for a command: all that is left of the source, or none if it reads nothing.
 fn bytes_for<S: Source>(
     alloc: Global,
     command: Command,
@@ -185,8 +185,8 @@ pub fn serve<R: Threads + Wait + Sync, S: Source, K: Sink, G: Gate + Sync>(
 ) -> Served
     // The serial journal theorem: what is printed is one serial history with every script once and each caller's in
     // order; the sequential interpreter, run down it from the opening books, gives every reply and the closing books;
-    // and no script was restarted as often as there are workers. The bytes are those that the source had left, where it
-    // tells them; where the sink does not tell what it took, `Appends` says nothing of it.
+    // and no script was restarted as often as there are workers. The bytes are those that the source had left, if it
+    // tells them; if the sink does not tell what it took, `Appends` says nothing of it.
     ensures headline { IsAnyRunCommand (texts_of words.now) → result.status ≡ Status.Done
         → OfBytesRead (S.left source.old) (λ bytes. PrintsOutput (texts_of words.now) bytes
         (K.taken sink.old) (K.taken sink.new)) }
@@ -208,7 +208,7 @@ pub fn serve<R: Threads + Wait + Sync, S: Source, K: Sink, G: Gate + Sync>(
     ensures causes { HasCauses result.status (texts_of words.now)
         (S.left source.old) (S.left source.new) (K.taken sink.old) (K.taken sink.new) }
 
-    // Completeness: where nothing is wrong and no fault comes, the command is done, or out of memory; and `check` may
+    // Completeness: if nothing is wrong and no fault comes, the command is done, or out of memory; and `check` may
     // find that the text differs.
     ensures complete { IsAnyRunCommand (texts_of words.now) → IfSome (S.left source.old)
         (λ bytes. length bytes ≤ MOST_INPUT_BYTES → IsValidInput bytes

@@ -55,7 +55,7 @@ pub fn serve_surely<R: Threads + Wait + Sync, G: Gate + Sync>(
     ensures making { IsMaking (texts_of words.now)
         → (result.status ≡ Status.Done) ⊎ (result.status ≡ Status.OutOfMemory) }
 
-    // Each refusal, where it is called for: it comes, or out of memory.
+    // Each refusal, if it is called for: it comes, or out of memory.
     ensures bad_words { (¬ IsValidCommand (texts_of words.now))
         → result.status ≡ Status.BadWords }
     ensures too_large { IsReading (texts_of words.now)

@@ -12,7 +12,7 @@ use std::thread::Threads;
 use twoplsf::status::Status;
 use worker_gate::OpenGate;
 
-// Whether a command that prints this, where it is done, came to that, or to no memory and an empty sink.
+// Whether a command that prints this, if it is done, came to that, or to no memory and an empty sink.
 fn is_done_or_not<R: Threads + Wait + Sync>(
     rt: &R,
     alloc: Global,

@@ -84,7 +84,7 @@ pub(crate) fn words(alloc: Global, line: &str) -> Result<Vec<String>, OutOfMemor
     Ok(words)
 }
 
-// What the words come to over these ends. What was served is let go here, where nothing else is owned.
+// What the words come to over these ends. What was served is let go here, if nothing else is owned.
 fn status_of<R: Threads + Wait + Sync, G: Gate + Sync>(
     rt: &R,
     alloc: Global,

@@ -233,7 +233,7 @@ impl Gate for Commits {
 }
 
 // Four callers with five scripts each: the tags are 65536 c + i for c below 4 and i below 5. Of the two seats each runs
-// its callers whole, and numbers its calls from 1 on: where seat 1 runs 5 scripts of the 20, the numbers sum to 120 + 15.
+// its callers whole, and numbers its calls from 1 on: if seat 1 runs 5 scripts of the 20, the numbers sum to 120 + 15.
 #[test]
 fn a_drill_commits_each_script_once(rt: HostRuntime) -> Result<(), Fail> {
     let gate = Commits::new();

@@ -22,7 +22,7 @@ pub use Rattle.word_table.specs.declared.limits.TheConstants.{LAST_CALL, MOST_PA
 pub use Rattle.txn_threads.specs.Clients.{HasWorked, HaveWorked}
 pub use Rattle.txn_threads.specs.Passes.{IsFresh, IsNext}
 -- transactions, and lists of jobs
-pub use Rattle.txn_commit.specs.Jobs.{AreTooMany, count_all, count_at, job_at, list_at, means_at}
+pub use Rattle.txn_commit.specs.Jobs.{AreTooMany, count_jobs, count_at, job_at, list_at, means_at}
 pub use Rattle.txn_commit.specs.Lists.{AreDealt, AreOnceInOrder, HaveRecords}
 pub use Rattle.txn_commit.specs.Ordered.{HasRunOn, IsSerial}
 pub use Rattle.txn_commit.specs.Transactions.{AsksItsFootprint, EndsWithoutEntry, GetsEntry, IsMeant, SameSeat}

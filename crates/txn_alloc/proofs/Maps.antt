@@ -4,9 +4,9 @@ pub mod Cells
 pub mod Counting
 -- what maps on blocks have in common: lemmas over any map's part of the words
 pub mod Parts
--- what a call of any map on blocks leads to, writes and reads, where its search found the key and where it missed it
+-- what a call of any map on blocks leads to, writes and reads, if its search found the key and if it missed it
 pub mod Founds
--- all that an insert of any map on blocks promises: where the key was there, where it was put in, and where no block was free
+-- all that an insert of any map on blocks promises: if the key was there, if it was put in, and if no block was free
 pub mod Inserted
 -- calls of a map within a job
 pub mod InJobs

@@ -85,7 +85,7 @@ module _ (part : Part) where
   abbrev pub IsMoved : List ℕ → List ℕ → ℕ → Type 0
   IsMoved before after b = (IsUsedIn before b × ¬ IsUsedIn after b) ⊎ (IsUsedIn after b × ¬ IsUsedIn before b)
 
-  -- a is the word of the key of block b, or of the name of another block, or of its value where it has one of these keys
+  -- a is the word of the key of block b, or of the name of another block, or of its value if it has one of these keys
   abbrev pub IsSeenIn : (ℕ → Type 0) → List ℕ → ℕ → ℕ → Type 0
   IsSeenIn IsKey words b a =
       (a ≡ block_at part.arena b)
@@ -105,8 +105,8 @@ module _ (part : Part) where
   abbrev pub MayReadRange : ℕ → ℕ → List ℕ → List ℕ → ℕ → Type 0
   MayReadRange low high before after a = IsSeen low (λ k. (low ≤ k) × (k ≤ high)) before a
 
-  -- what an insert may read, by its answer: where a block was taken, the heads from that of the key round to its own, and its
-  -- words, too; where none was free, the heads too
+  -- what an insert may read, by its answer: if a block was taken, the heads from that of the key round to its own, and its
+  -- words, too; if none was free, the heads too
   abbrev pub MayReadToInsert : ℕ → Put → List ℕ → List ℕ → ℕ → Type 0
   MayReadToInsert key New before after a =
       MayRead key before after a
@@ -118,7 +118,7 @@ module _ (part : Part) where
   abbrev pub TakesNearest : ℕ → List ℕ → List ℕ → Type 0
   TakesNearest key before after = (b : ℕ) → IsUsedIn after b → ¬ IsUsedIn before b → IsNearest part.arena key b before
 
-  -- what a removal may read, by its answer: where a block was given back, its head too
+  -- what a removal may read, by its answer: if a block was given back, its head too
   abbrev pub MayReadToRemove : ℕ → Option ℕ → List ℕ → List ℕ → ℕ → Type 0
   MayReadToRemove key None before after a = MayRead key before after a
   MayReadToRemove key (Some was) before after a =

@@ -34,7 +34,7 @@ IsHeadFor arena b a = a ≡ head_of arena b
 abbrev pub IsHeadOrFirst : Arena → ℕ → ℕ → Type 0
 IsHeadOrFirst arena b a = IsHeadFor arena b a ⊎ (a ≡ block_at arena b)
 
--- how many lists further than that of a number the list of block b stands, where the first follows the last
+-- how many lists further than that of a number the list of block b stands, if the first follows the last
 abbrev pub steps_to : ℕ → ℕ → ℕ
 steps_to near b = (b + HEADS - near % HEADS) % HEADS
 
@@ -52,7 +52,7 @@ abbrev pub IsWrittenByTake : Arena → Option ℕ → ℕ → Type 0
 IsWrittenByTake arena None a = ⊥
 IsWrittenByTake arena (Some b) a = IsHeadFor arena b a
 
--- the words that a take near a number may read: where it takes none, the heads, and else the heads round to the block's own,
+-- the words that a take near a number may read: if it takes none, the heads, and else the heads round to the block's own,
 -- and the block's first word
 abbrev pub IsReadByTake : Arena → ℕ → Option ℕ → ℕ → Type 0
 IsReadByTake arena near None a = IsHead arena a

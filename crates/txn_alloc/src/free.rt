@@ -36,7 +36,7 @@ pub(crate) fn nearest<W: Words>(w: &mut W, arena: &Arena, near: u64) -> Result<O
 }
 
 /// Takes a free block, unless there is none: the one at the head of the first list that is not empty, from that of
-/// `near` on, where the first list follows the last. Its four words may hold anything.
+/// `near` on, if the first list follows the last. Its four words may hold anything.
 pub fn take_near<W: Words>(w: &mut W, arena: &Arena, near: u64) -> Result<Option<Block>, Stop>
     requires ready { IsReady W.Words w.old }
     requires order { InEachState W.Words W.Shape.Shape w.old (IsInOrder arena.now) }
@@ -51,7 +51,7 @@ pub fn take_near<W: Words>(w: &mut W, arena: &Arena, near: u64) -> Result<Option
         (λ b. LeadsTo W.Words W.Shape.Shape w.old w.new
         (λ before _. IsNearest arena.now near b before))) }
 
-    // It answers None exactly where in every state none is free.
+    // It answers None exactly if in every state none is free.
     ensures none { IfOk result (λ block.
         IfNone block
         (LeadsTo W.Words W.Shape.Shape w.old w.new (λ before _. HasNone arena.now before))) }
@@ -66,13 +66,13 @@ pub fn take_near<W: Words>(w: &mut W, arena: &Arena, near: u64) -> Result<Option
 
     ensures order { OnOk result (InEachState W.Words W.Shape.Shape w.new (IsInOrder arena.now)) }
 
-    // No word is written but the head for the block that it takes, so every other stays. Where it takes none, no word is.
+    // No word is written but the head for the block that it takes, so every other stays. If it takes none, no word is.
     ensures frame { IfOk result
         (λ block. WritesOnly W.Words w.old w.new (IsWrittenByTake arena.now block)) }
     ensures others { IfOk result (λ block.
         LeadsTo W.Words W.Shape.Shape w.old w.new (KeepsOthers (IsWrittenByTake arena.now block))) }
 
-    // It reads the heads from that of `near` round to that of the block that it takes, and the block's first word; where it
+    // It reads the heads from that of `near` round to that of the block that it takes, and the block's first word; if it
     // takes none, the heads.
     ensures reads { IfOk result (λ block.
         AppendsReads (W.trace w.old) (W.trace w.new) (IsReadByTake arena.now near block)) }
@@ -101,7 +101,7 @@ pub fn take<W: Words>(w: &mut W, arena: &Arena) -> Result<Option<Block>, Stop>
         (λ b. LeadsTo W.Words W.Shape.Shape w.old w.new
         (λ before _. IsNearest arena.now 0 b before))) }
 
-    // It answers None exactly where in every state none is free.
+    // It answers None exactly if in every state none is free.
     ensures none { IfOk result (λ block.
         IfNone block
         (LeadsTo W.Words W.Shape.Shape w.old w.new (λ before _. HasNone arena.now before))) }
@@ -116,13 +116,13 @@ pub fn take<W: Words>(w: &mut W, arena: &Arena) -> Result<Option<Block>, Stop>
 
     ensures order { OnOk result (InEachState W.Words W.Shape.Shape w.new (IsInOrder arena.now)) }
 
-    // No word is written but the head for the block that it takes, so every other stays. Where it takes none, no word is.
+    // No word is written but the head for the block that it takes, so every other stays. If it takes none, no word is.
     ensures frame { IfOk result
         (λ block. WritesOnly W.Words w.old w.new (IsWrittenByTake arena.now block)) }
     ensures others { IfOk result (λ block.
         LeadsTo W.Words W.Shape.Shape w.old w.new (KeepsOthers (IsWrittenByTake arena.now block))) }
 
-    // It reads the heads from that of number 0 round to that of the block that it takes, and the block's first word; where it
+    // It reads the heads from that of number 0 round to that of the block that it takes, and the block's first word; if it
     // takes none, the heads.
     ensures reads { IfOk result (λ block.
         AppendsReads (W.trace w.old) (W.trace w.new) (IsReadByTake arena.now 0 block)) }

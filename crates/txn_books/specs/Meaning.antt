@@ -26,7 +26,7 @@ is_done (reply.Declined k why) = false
 is_done (reply.Full k) = false
 
 -- what a script on these words means, for all books for which they stand: the reply is the interpreter's, the writes
--- are kept exactly where it was done, and then the words that are left stand for the interpreter's books
+-- are kept exactly if it was done, and then the words that are left stand for the interpreter's books
 pub record ScriptMeans (shape : BooksShape) (script : List Part) (words : List ℕ) (kept : Bool) (answer : Reply)
     (left : List ℕ) : Type 0 where
   pub replies : (books : ClearingBooks) → Stands shape words books → answer ≡ (outcome_of script books).0

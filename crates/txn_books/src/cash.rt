@@ -114,7 +114,7 @@ pub fn remove_account<W: Words>(w: &mut W, shape: &BooksShape, account: u32) -> 
     Ok(())
 }
 
-/// The cash of all accounts from one number to another, both included: 0 where `low` is above `high`.
+/// The cash of all accounts from one number to another, both included: 0 if `low` is above `high`.
 pub fn cash_between<W: Words>(
     w: &mut W,
     shape: &BooksShape,

@@ -18,7 +18,7 @@ use std::marker::Model;
 use txn_words::{Job, Stop, Verdict, Words};
 
 /// A script on the words of books of a shape, as a transaction. Its answer is what the script replies, and its writes
-/// are kept where that is `Done`.
+/// are kept if that is `Done`.
 ///
 /// Contracts see the shape, the operations and the number.
 #[derive(Drop)]
@@ -112,7 +112,7 @@ fn run_operations<W: Words>(
     Ok(Reply::Done(values))
 }
 
-// Runs the first branch of an alternative. Where it is refused, its writes go back, and the second is run.
+// Runs the first branch of an alternative. If it is refused, its writes go back, and the second is run.
 fn run_either<W: Words>(
     alloc: Global,
     w: &mut W,
@@ -180,7 +180,7 @@ fn run_script<W: Words>(
     Ok(Reply::Done(values))
 }
 
-// The writes are kept where the script was done.
+// The writes are kept if the script was done.
 fn verdict_on(reply: Reply) -> Verdict<Reply>
     ensures answer { answer_of result ≡ reply }
     ensures kept { is_kept result ≡ is_done reply }

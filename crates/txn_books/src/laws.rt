@@ -15,17 +15,17 @@ pub fn one_books()
     ensures { OneBooks }
 {}
 
-/// The other parts stand where a call on the tree wrote what it may write.
+/// The other parts stand if a call on the tree wrote what it may write.
 pub fn tree_change_stands()
     ensures { TreeChangeStands }
 {}
 
-/// The other parts stand where a call on the chains wrote what it may write.
+/// The other parts stand if a call on the chains wrote what it may write.
 pub fn chain_change_stands()
     ensures { ChainChangeStands }
 {}
 
-/// The other parts stand where a call on the queue wrote what it may write.
+/// The other parts stand if a call on the queue wrote what it may write.
 pub fn queue_change_stands()
     ensures { QueueChangeStands }
 {}

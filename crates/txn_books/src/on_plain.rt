@@ -16,7 +16,7 @@ use std::alloc::Global;
 use txn_words::Verdict;
 
 /// Runs a script on words that stand for books, and leaves words that stand for the books after it. It works on a copy,
-/// and the words are what they were where the script is refused.
+/// and the words are what they were if the script is refused.
 pub fn run_on_plain(
     alloc: Global,
     shape: &BooksShape,

@@ -9,7 +9,7 @@ ghost use Rattle.books_model.specs.declared.script.Op.{Op};
 ghost use Rattle.books_model.specs.Ranges.{IsAccountNumber, IsWithin};
 ghost use Rattle.txn_words.specs.Calls.{IsReady, GoesOn, InEachState, LeadsTo};
 ghost use Rattle.txn_books.specs.Standing.{IsGoodFor};
-ghost use Rattle.txn_books.specs.Operating.{IsOperationIn, Steps};
+ghost use Rattle.txn_books.specs.Operating.{IsOperationIn, MeetsStep};
 
 use crate::cash::{balance, cash, cash_between, open_account, remove_account, set_balance};
 use crate::price::{price, put_price};
@@ -38,7 +38,7 @@ pub fn run_operation<W: Words>(w: &mut W, shape: &BooksShape, op: Op) -> Result<
     requires stands { InEachState W.Words W.Shape.Shape w.old (IsGoodFor shape.now) }
     requires range { IsOperationIn shape.now op }
     ensures step { IfOk result (λ outcome. LeadsTo W.Words W.Shape.Shape w.old w.new
-        (Steps shape.now op outcome)) }
+        (MeetsStep shape.now op outcome)) }
     ensures stands { OnOk result (InEachState W.Words W.Shape.Shape w.new (IsGoodFor shape.now)) }
     ensures goes_on { GoesOn W.Words w.old w.new result }
 {
@@ -65,7 +65,7 @@ pub fn open<W: Words>(w: &mut W, shape: &BooksShape, account: u32) -> Result<Out
     requires stands { InEachState W.Words W.Shape.Shape w.old (IsGoodFor shape.now) }
     requires account { IsAccountNumber account }
     ensures step { IfOk result (λ outcome. LeadsTo W.Words W.Shape.Shape w.old w.new
-        (Steps shape.now (Op.OpenAccount account) outcome)) }
+        (MeetsStep shape.now (Op.OpenAccount account) outcome)) }
     ensures stands { OnOk result (InEachState W.Words W.Shape.Shape w.new (IsGoodFor shape.now)) }
     ensures goes_on { GoesOn W.Words w.old w.new result }
 {
@@ -84,7 +84,7 @@ pub fn close<W: Words>(w: &mut W, shape: &BooksShape, account: u32) -> Result<Ou
     requires stands { InEachState W.Words W.Shape.Shape w.old (IsGoodFor shape.now) }
     requires account { IsAccountNumber account }
     ensures step { IfOk result (λ outcome. LeadsTo W.Words W.Shape.Shape w.old w.new
-        (Steps shape.now (Op.Close account) outcome)) }
+        (MeetsStep shape.now (Op.Close account) outcome)) }
     ensures stands { OnOk result (InEachState W.Words W.Shape.Shape w.new (IsGoodFor shape.now)) }
     ensures goes_on { GoesOn W.Words w.old w.new result }
 {
@@ -112,7 +112,7 @@ pub fn deposit<W: Words>(
     requires stands { InEachState W.Words W.Shape.Shape w.old (IsGoodFor shape.now) }
     requires amount { amount ≤ GREATEST_AMOUNT }
     ensures step { IfOk result (λ outcome. LeadsTo W.Words W.Shape.Shape w.old w.new
-        (Steps shape.now (Op.Deposit account amount) outcome)) }
+        (MeetsStep shape.now (Op.Deposit account amount) outcome)) }
     ensures stands { OnOk result (InEachState W.Words W.Shape.Shape w.new (IsGoodFor shape.now)) }
     ensures goes_on { GoesOn W.Words w.old w.new result }
 {
@@ -136,7 +136,7 @@ pub fn withdraw<W: Words>(
     requires ready { IsReady W.Words w.old }
     requires stands { InEachState W.Words W.Shape.Shape w.old (IsGoodFor shape.now) }
     ensures step { IfOk result (λ outcome. LeadsTo W.Words W.Shape.Shape w.old w.new
-        (Steps shape.now (Op.Withdraw account amount) outcome)) }
+        (MeetsStep shape.now (Op.Withdraw account amount) outcome)) }
     ensures stands { OnOk result (InEachState W.Words W.Shape.Shape w.new (IsGoodFor shape.now)) }
     ensures goes_on { GoesOn W.Words w.old w.new result }
 {
@@ -162,7 +162,7 @@ pub fn move_cash<W: Words>(
     requires stands { InEachState W.Words W.Shape.Shape w.old (IsGoodFor shape.now) }
     requires amount { amount ≤ GREATEST_AMOUNT }
     ensures step { IfOk result (λ outcome. LeadsTo W.Words W.Shape.Shape w.old w.new
-        (Steps shape.now (Op.Move payer payee amount) outcome)) }
+        (MeetsStep shape.now (Op.Move payer payee amount) outcome)) }
     ensures stands { OnOk result (InEachState W.Words W.Shape.Shape w.new (IsGoodFor shape.now)) }
     ensures goes_on { GoesOn W.Words w.old w.new result }
 {
@@ -198,7 +198,7 @@ pub fn set_price<W: Words>(
     requires instrument { IsWithin 1 shape.now.instruments instrument }
     requires price { IsWithin 1 GREATEST_PRICE price }
     ensures step { IfOk result (λ outcome. LeadsTo W.Words W.Shape.Shape w.old w.new
-        (Steps shape.now (Op.Price instrument price) outcome)) }
+        (MeetsStep shape.now (Op.Price instrument price) outcome)) }
     ensures stands { OnOk result (InEachState W.Words W.Shape.Shape w.new (IsGoodFor shape.now)) }
     ensures goes_on { GoesOn W.Words w.old w.new result }
 {
@@ -224,7 +224,7 @@ pub fn trade<W: Words>(
     requires instrument { IsWithin 1 shape.now.instruments instrument }
     requires amount { IsWithin 1 GREATEST_QUANTITY amount }
     ensures step { IfOk result (λ outcome. LeadsTo W.Words W.Shape.Shape w.old w.new
-        (Steps shape.now (Op.Trade buyer seller instrument amount) outcome)) }
+        (MeetsStep shape.now (Op.Trade buyer seller instrument amount) outcome)) }
     ensures stands { OnOk result (InEachState W.Words W.Shape.Shape w.new (IsGoodFor shape.now)) }
     ensures goes_on { GoesOn W.Words w.old w.new result }
 {
@@ -270,7 +270,7 @@ pub fn margin<W: Words>(
     requires account { IsAccountNumber account }
     requires rate { rate ≤ GREATEST_RATE }
     ensures step { IfOk result (λ outcome. LeadsTo W.Words W.Shape.Shape w.old w.new
-        (Steps shape.now (Op.Margin account rate) outcome)) }
+        (MeetsStep shape.now (Op.Margin account rate) outcome)) }
     ensures stands { OnOk result (InEachState W.Words W.Shape.Shape w.new (IsGoodFor shape.now)) }
     ensures goes_on { GoesOn W.Words w.old w.new result }
 {
@@ -292,7 +292,7 @@ pub fn next<W: Words>(w: &mut W, shape: &BooksShape) -> Result<Outcome, Stop>
     requires ready { IsReady W.Words w.old }
     requires stands { InEachState W.Words W.Shape.Shape w.old (IsGoodFor shape.now) }
     ensures step { IfOk result (λ outcome. LeadsTo W.Words W.Shape.Shape w.old w.new
-        (Steps shape.now Op.Next outcome)) }
+        (MeetsStep shape.now Op.Next outcome)) }
     ensures stands { OnOk result (InEachState W.Words W.Shape.Shape w.new (IsGoodFor shape.now)) }
     ensures goes_on { GoesOn W.Words w.old w.new result }
 {
@@ -307,7 +307,7 @@ pub fn show<W: Words>(w: &mut W, shape: &BooksShape, account: u32) -> Result<Out
     requires ready { IsReady W.Words w.old }
     requires stands { InEachState W.Words W.Shape.Shape w.old (IsGoodFor shape.now) }
     ensures step { IfOk result (λ outcome. LeadsTo W.Words W.Shape.Shape w.old w.new
-        (Steps shape.now (Op.Show account) outcome)) }
+        (MeetsStep shape.now (Op.Show account) outcome)) }
     ensures stands { OnOk result (InEachState W.Words W.Shape.Shape w.new (IsGoodFor shape.now)) }
     ensures goes_on { GoesOn W.Words w.old w.new result }
 {
@@ -322,7 +322,7 @@ pub fn sum<W: Words>(w: &mut W, shape: &BooksShape, low: u32, high: u32) -> Resu
     requires ready { IsReady W.Words w.old }
     requires stands { InEachState W.Words W.Shape.Shape w.old (IsGoodFor shape.now) }
     ensures step { IfOk result (λ outcome. LeadsTo W.Words W.Shape.Shape w.old w.new
-        (Steps shape.now (Op.Sum low high) outcome)) }
+        (MeetsStep shape.now (Op.Sum low high) outcome)) }
     ensures stands { OnOk result (InEachState W.Words W.Shape.Shape w.new (IsGoodFor shape.now)) }
     ensures goes_on { GoesOn W.Words w.old w.new result }
 {

@@ -40,7 +40,7 @@ pub fn quantity<W: Words>(
     shape.chains().get(w, position_key(account, instrument))
 }
 
-/// Gives an account other holdings of an instrument: no position where they are 0. False: it had no position, no block
+/// Gives an account other holdings of an instrument: no position if they are 0. False: it had no position, no block
 /// was left for one, and nothing changed.
 pub fn set_quantity<W: Words>(
     w: &mut W,
@@ -92,7 +92,7 @@ pub fn holds_any<W: Words>(w: &mut W, shape: &BooksShape, account: u32) -> Resul
     Ok(false)
 }
 
-// What an account's position of one instrument is worth. The price is looked up only where there is a position.
+// What an account's position of one instrument is worth. The price is looked up only if there is a position.
 fn worth_in<W: Words>(
     w: &mut W,
     shape: &BooksShape,

@@ -49,7 +49,7 @@ impl Found {
     }
 }
 
-/// One side of a trade, where its account is there.
+/// One side of a trade, if its account is there.
 pub(crate) fn side_at<W: Words>(
     w: &mut W,
     shape: &BooksShape,

@@ -22,7 +22,7 @@ use Rattle.word_table.specs.declared.limits.TheConstants.{MOST_PASSES}
 use Rattle.word_table.specs.Closing.{ClosedView, AreRecords, IsCoherent, IsLegalInEachOrder}
 use Rattle.txn_cells.specs.declared.coded.Coded.{Ghosts as Codes}
 use Rattle.txn_cells.specs.declared.limits.TheConstants.{CELLS, MOST_ROUNDS}
-use Rattle.txn_cells.specs.Adding.{Adds, AreAllCells, added_by, added_to, amount_by, first_cell, second_cell, sums_of, sum_below}
+use Rattle.txn_cells.specs.Adding.{AddsInRound, AreAllCells, added_by, added_to, amount_by, first_cell, second_cell, sums_of, sum_below}
 use Rattle.txn_cells.specs.Cells.{AreCellValues}
 use Rattle.txn_cells.specs.Rounds.{AreSoMany, IsRound}
 use Rattle.txn_cells.proofs.Keyed.{HasOneEach, sum_of_each}
@@ -136,14 +136,14 @@ module _ {S : Type 0} (code : Codes ℕ) (callers rounds : ℕ) (closed : Closed
 
   -- what a record does
   round_of : (e : Entry) → IsIn e closed.records → (s : List ℕ) → AreAllCells code s → IsLegalTrace e.trace s
-      → Adds code e.who (e.call - 1) s e.kept (after e.trace s)
+      → AddsInRound code e.who (e.call - 1) s e.kept (after e.trace s)
   round_of e is =
       let n : (e.who < callers) × (1 ≤ e.call) × (e.call ≤ rounds) = near e is in
       let t : IsRound code closed.records e.who (e.call - 1) = each e.who (e.call - 1) n.0 (omega (arith, n.1, n.2)) in
       let call : t.entry.call ≡ e.call = omega (arith, t.call_is, n.1) in
       let same : t.entry ≡ e = records.one t.entry e t.there is t.by_seat call in
       subst (λ (x : Entry). (s : List ℕ) → AreAllCells code s → IsLegalTrace x.trace s
-      → Adds code e.who (e.call - 1) s x.kept (after x.trace s)) same t.adds
+      → AddsInRound code e.who (e.call - 1) s x.kept (after x.trace s)) same t.adds
 
   -- an item is that of a record, or it came to nothing
   item_from : (p : ℕ) (x : Item) → slice_get coherent.order p ≡ Some x
@@ -236,7 +236,7 @@ module _ {S : Type 0} (code : Codes ℕ) (callers rounds : ℕ) (closed : Closed
         let e : Entry = t.0 in
         let kept : e.kept ≡ true = all_kept e t.1 in
         let there : slice_get coherent.order p ≡ Some (item_of_entry e) = at ∙ ap (λ (y : Item). Some y) (sym t.2) in
-        let added : Adds code e.who (e.call - 1) (before p) e.kept (after e.trace (before p)) =
+        let added : AddsInRound code e.who (e.call - 1) (before p) e.kept (after e.trace (before p)) =
         round_of e t.1 (before p) (good_before p (omega (arith, within))) (placed p (item_of_entry e) there).legal in
         let left : before (suc p) ≡ after e.trace (before p) =
         words ∙ (ap (λ (y : Item). next_words y (before p)) (sym t.2)

@@ -10,7 +10,7 @@ use Rattle.txn_words.proofs.CallLaws.{state_after, leads_then, leads_from_start}
 use Rattle.txn_cells.specs.declared.coded.Coded.{Ghosts as Codes}
 use Rattle.txn_cells.specs.declared.limits.TheConstants.{CELLS}
 use Rattle.txn_cells.specs.declared.typed.TypedEvent.TheVariants.{Get, Set}
-use Rattle.txn_cells.specs.Adding.{Adds, added_by, added_to, first_cell, second_cell}
+use Rattle.txn_cells.specs.Adding.{AddsInRound, added_by, added_to, first_cell, second_cell}
 use Rattle.txn_cells.specs.Cells.{AreCells, AreCellValues}
 use Rattle.txn_cells.specs.Typed.{DoesTyped, IsLegalTyped, after_typed}
 use Rattle.txn_cells.specs.Inner.Adding.{AddsTo}
@@ -49,7 +49,7 @@ module _ {W S O : Type 0} (words : AnyWords W S O) (shapes : Shapes S) (code : C
       → words.trace u ≡ [] → words.shape v ≡ words.shape u → Begins (words.trace v) (words.trace w)
       → LeadsTo words shapes u v (AddsTo code at len p a) → LeadsTo words shapes v w (AddsTo code at len q 1)
       → (s : List ℕ) → Fits (shapes.word_count (words.shape u)) (shapes.good (words.shape u)) (words.trace w) s
-      → Adds code caller round s true (after (words.trace w) s)
+      → AddsInRound code caller round s true (after (words.trace w) s)
   round_adds u v w caller round p q a first_word all first second great fresh shape begins one other s fit =
       let t : List ℕ = after (words.trace w) s in
       let both : (y : List ℕ) × AddsTo code at len p a s y × AddsTo code at len q 1 y t =

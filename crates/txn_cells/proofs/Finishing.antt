@@ -5,7 +5,6 @@ use Rattle.history_model.specs.Legal.{IsIn}
 use Rattle.word_table.specs.declared.limits.TheConstants.{MOST_PASSES}
 use Rattle.word_table.specs.Closing.{ClosedView, AreRecords, AreSeenBy, IsCoherent, IsLegalInEachOrder}
 use Rattle.word_table.specs.Copies.{PassView}
-use Rattle.word_table.specs.Desks.{DeskView}
 use Rattle.txn_cells.specs.contracts.numbers.U128Coded.TheImpl.{ghosts as numbers}
 use Rattle.txn_cells.specs.declared.limits.TheConstants.{CELLS, MOST_ROUNDS}
 use Rattle.txn_cells.specs.Adding.{AreAllCells, sums_of}
@@ -21,20 +20,16 @@ pub record HasClosed {S : Type 0} (workers rounds : ℕ) (closed : ClosedView S)
   pub coherent : IsCoherent (AreAllCells numbers) closed
   pub legal : IsLegalInEachOrder (AreAllCells numbers) closed
   pub records : AreRecords closed
-  pub desk : DeskView S
-  pub seats : desk.seats ≡ workers
   pub passes : List PassView
-  pub made : HaveMade desk rounds passes
+  pub made : HaveMade workers rounds passes
   pub seen : AreSeenBy passes closed.records
 
 module _ {S : Type 0} (workers rounds : ℕ) (closed : ClosedView S) (h : HasClosed workers rounds closed) where
   each : (c r : ℕ) → c < workers → r < rounds → IsRound numbers closed.records c r
-  each c r lt less = each_made h.desk rounds h.passes h.made closed h.seen c r (subst (λ n. c < n) (sym h.seats) lt) less
+  each c r lt less = each_made workers rounds h.passes h.made closed h.seen c r lt less
 
   near : (e : Entry) → IsIn e closed.records → (e.who < workers) × (1 ≤ e.call) × (e.call ≤ rounds)
-  near e is =
-      let t = none_besides h.desk rounds h.passes h.made closed h.seen e is in
-      (subst (λ n. e.who < n) h.seats t.0, t.1, t.2)
+  near e is = none_besides workers rounds h.passes h.made closed h.seen e is
 
   pub have_rounds : HaveRounds numbers workers rounds closed.records
   have_rounds = record {

@@ -5,7 +5,7 @@ use Rattle.std.proofs.lemmas.Bool.{cases_Bool}
 use Rattle.std.proofs.lemmas.Bool.Decides.{eqb_tells}
 use Rattle.txn_cells.proofs.SumsBelow.{sum_of_all, same_in_all, none_in_all, one_in_all, same_terms, one_term, turned}
 
--- the amount, where the member counts and has this caller and call
+-- the amount, if the member counts and has this caller and call
 abbrev pick : Bool → ℕ → ℕ → ℕ → ℕ → ℕ → ℕ
 pick counts c who call_of_round call amount = if counts then (if c == who then (if call_of_round == call then amount else 0) else 0) else 0
 

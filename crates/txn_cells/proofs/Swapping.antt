@@ -19,7 +19,7 @@ use Rattle.txn_cells.specs.Inner.Puts.{PutsWords}
 use Rattle.txn_cells.proofs.Arrays.{value_found, gets, sets, does_next}
 
 module _ {W S O T : Type 0} (words : AnyWords W S O) (shapes : Shapes S) (code : Codes T) (at len : ℕ) where
-  -- the cells are there still where words were read alone
+  -- the cells are there still if words were read alone
   pub cells_looked : (v w : W) {IsSeen : List ℕ → ℕ → Type 0} {P : List ℕ → Type 0} → words.shape w ≡ words.shape v
       → InEachState words shapes v (AreCells code at len)
       → Looks (shapes.word_count (words.shape v)) (shapes.good (words.shape v)) (words.trace v) (words.trace w) IsSeen P

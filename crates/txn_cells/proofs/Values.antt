@@ -38,7 +38,7 @@ module _ {T : Type 0} (code : Codes T) (count : (x : T) → code.is_value x → 
       let long : length (take code.WORDS (drop (at + i * code.WORDS) s)) ≡ code.WORDS = ap length there.3 ∙ count there.0 there.2 in
       window_within code.WORDS (at + i * code.WORDS) s some long
 
-  -- where a value's words are put into a cell, the cell has the value, and the others have theirs
+  -- if a value's words are put into a cell, the cell has the value, and the others have theirs
   pub values_put : 1 ≤ code.WORDS → (s t : List ℕ) (values : List T) → AreCellValues code at len s values → (i : ℕ) → i < len → (x : T) → code.is_value x
       → PutsWords (at + i * code.WORDS) (code.words x) s t → AreCellValues code at len t (slice_set values i x)
   values_put some s t values v i below x is puts = record {

@@ -41,7 +41,7 @@ use Rattle.std.proofs.lemmas.Option.{same_Some}
 use Rattle.std.proofs.Math.Nat.{mul-le-mul_right, suc-mul}
 use Rattle.txn_cells.specs.Inner.Puts.{HasWords, PutsWords}
 
--- so many words from a place on, where they are there
+-- so many words from a place on, if they are there
 pub length_window : (n a : ℕ) (s : List ℕ) → a + n ≤ length s → length (take n (drop a s)) ≡ n
 length_window n a s h = simp (length-take, length-drop) (omega (arith, h))
 

@@ -45,7 +45,7 @@ module _ (code : Codes ℕ) where
   AreAllCells s = IsGood (CELLS * code.WORDS) (AreCells code 0 CELLS) s
 
   -- from words to words the caller added in the round: the writes are kept, and nothing else changes
-  pub record Adds (caller round : ℕ) (s : List ℕ) (kept : Bool) (t : List ℕ) : Type 0 where
+  pub record AddsInRound (caller round : ℕ) (s : List ℕ) (kept : Bool) (t : List ℕ) : Type 0 where
     pub keeps : kept ≡ true
     pub adds : (values : List ℕ) → AreCellValues code 0 CELLS s values
         → AreCellValues code 0 CELLS t (added_by caller round values)

@@ -1,4 +1,3 @@
 -- What contracts of functions within the crate cite, and no public contract does.
 pub mod Puts
 pub mod Adding
-pub mod Making

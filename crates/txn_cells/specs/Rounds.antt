@@ -4,7 +4,7 @@ use Rattle.history_model.specs.declared.entry.Entry.{Entry}
 use Rattle.history_model.specs.Legal.{IsIn}
 use Rattle.history_model.specs.Traces.{IsLegalTrace, after}
 use Rattle.txn_cells.specs.declared.coded.Coded.{Ghosts as Codes}
-use Rattle.txn_cells.specs.Adding.{Adds, AreAllCells}
+use Rattle.txn_cells.specs.Adding.{AddsInRound, AreAllCells}
 
 module _ (code : Codes ℕ) where
   -- the seat's call of this round, the calls counted from 1: on all words on which its trace is legal it is kept, adds
@@ -15,7 +15,7 @@ module _ (code : Codes ℕ) where
     pub by_seat : entry.who ≡ caller
     pub call_is : entry.call ≡ round + 1
     pub adds : (s : List ℕ) → AreAllCells code s → IsLegalTrace entry.trace s
-        → Adds code caller round s entry.kept (after entry.trace s)
+        → AddsInRound code caller round s entry.kept (after entry.trace s)
 
   -- one caller made so many rounds, and nothing else
   pub record HasRounds (caller rounds : ℕ) (records : List Entry) : Type 0 where

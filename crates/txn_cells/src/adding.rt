@@ -27,7 +27,7 @@ fn cell_at(turn: u64) -> u32
     (turn % u64::from(CELLS)) as u32
 }
 
-// Adds to the cell at place `i`, modulo 2^128.
+// AddsInRound to the cell at place `i`, modulo 2^128.
 fn add_to<W: Words>(w: &mut W, cells: &CellArray<u128>, i: u32, amount: u128) -> Result<(), Stop>
     requires ready { IsReady W.Words w.old }
     requires place { i < cells.now.len }
@@ -45,7 +45,7 @@ fn add_to<W: Words>(w: &mut W, cells: &CellArray<u128>, i: u32, amount: u128) ->
 
 impl Job for AddRound {
     ghost use Rattle.std.specs.Prelude.{◌≡◌, ◌+◌, ◌*◌};
-    ghost use Rattle.txn_cells.specs.Adding.{Adds};
+    ghost use Rattle.txn_cells.specs.Adding.{AddsInRound};
 
     type Shape = CellsShape<u128>;
 
@@ -53,7 +53,7 @@ impl Job for AddRound {
 
     ghost shape = { λ job. job.shape };
 
-    ghost means = { λ job s kept _ t. Adds ⟦<u128 as Coded>⟧ job.caller job.round s kept t };
+    ghost means = { λ job s kept _ t. AddsInRound ⟦<u128 as Coded>⟧ job.caller job.round s kept t };
 
     /// The caller times 65,536, and the round.
     fn tag(&self) -> u64

@@ -1,71 +1,46 @@
 //! Workers on threads, who add to the same cells.
 
-ghost use Rattle.std.specs.Prelude.{◌≡◌, ◌≤◌, ◌<◌, ◌*◌, ℕ, Ok, All, IfOk, length, map, replicate, slice_index_or};
+ghost use Rattle.std.specs.Prelude.{◌≡◌, ◌≤◌, ◌<◌, ◌*◌, All, IfOk, length, replicate};
 ghost use Rattle.word_table.specs.Closing.{AreRecords, IsCoherent, IsLegalInEachOrder};
 ghost use Rattle.word_table.specs.declared.limits.TheConstants.{MOST_PASSES};
-ghost use Rattle.txn_threads.specs.Passes.{IsFresh};
 ghost use Rattle.txn_cells.specs.declared.limits.TheConstants.{CELLS, MOST_ROUNDS};
 ghost use Rattle.txn_cells.specs.Adding.{AreAllCells, sums_of};
 ghost use Rattle.txn_cells.specs.Cells.{AreCellValues};
-ghost use Rattle.txn_cells.specs.Inner.Making.{MadeRounds};
 ghost use Rattle.txn_cells.specs.Rounds.{AreSoMany, HaveRounds};
 
 use crate::array::CellsShape;
 use crate::coded::Coded;
 use crate::limits::CELLS;
-use crate::rounds::make_rounds;
+use crate::rounds::Adder;
 use io_ends::OutOfMemory;
 use std::alloc::Global;
 use std::sync::Wait;
-use std::thread;
 use std::thread::Threads;
-use word_table::{Closed, Desk, Pass};
+use txn_threads::run_clients;
+use word_table::Closed;
 use worker_gate::Gate;
 
-// A pass that has made its rounds, unless no memory was found.
-type Made = Result<Pass<CellsShape<u128>>, OutOfMemory>;
-
-// The rounds with each pass, on a thread of its own.
-fn work_all<G: Gate + Sync, R: Threads + Wait + Sync>(
-    rt: &R,
+// So many workers, each to make so many rounds.
+fn adders<G: Gate>(
     alloc: Global,
-    desk: &Desk<CellsShape<u128>>,
-    passes: Vec<Pass<CellsShape<u128>>>,
     shape: CellsShape<u128>,
+    workers: u32,
     rounds: u32,
     gate: &G,
-) -> Result<Vec<Made>, OutOfMemory>
-    requires whole { (shape.at ≡ 0) × (shape.len ≡ CELLS) }
-    requires few { rounds ≤ MOST_ROUNDS }
-    requires shape { desk.now.shape ≡ shape }
-    requires fresh { All (IsFresh desk.now) passes.items }
-    ensures count { IfOk result (λ made. length made.items ≡ length passes.items) }
-    ensures each { IfOk result (λ made. (k : ℕ) (p m : _) → k < length passes.items
-        → IfOk (slice_index_or made.items k m)
-        (MadeRounds rounds (slice_index_or passes.items k p))) }
+) -> Result<Vec<Adder<'_, G>>, OutOfMemory>
+    ensures count { IfOk result (λ adders. length adders.items ≡ workers) }
+    ensures new { IfOk result (λ adders.
+        All (λ adder. (adder.shape ≡ shape) × (adder.rounds ≡ rounds)) adders.items) }
 {
-    Ok(thread::map_vec(
-        rt,
-        passes,
-        &|pass: Pass<CellsShape<u128>>| -> Made
-            requires whole { (shape.at ≡ 0) × (shape.len ≡ CELLS) }
-            requires few { rounds ≤ MOST_ROUNDS }
-            requires shape { desk.now.shape ≡ shape }
-            requires fresh { IsFresh desk.now pass }
-            ensures { IfOk result (MadeRounds rounds pass) }
-        { make_rounds(rt, alloc, desk, pass, shape, rounds, gate) },
-    )?)
-}
-
-// The passes, unless one of them found no memory.
-fn all_made(alloc: Global, made: Vec<Made>) -> Result<Vec<Pass<CellsShape<u128>>>, OutOfMemory>
-    ensures { IfOk result (λ passes. map Ok passes.items ≡ made.items) }
-{
-    let mut passes = Vec::new(alloc);
-    for pass in made {
-        passes.push(pass?)?;
+    let mut adders = Vec::new(alloc);
+    for _ in 0..workers {
+        adders.push(Adder {
+            shape,
+            rounds,
+            gate,
+        })?;
     }
-    Ok(passes)
+    Ok(adders)
 }
 
 /// Has workers add, each on a thread of its own, to the same cells of 128 bits, which have 0 at first: in each round,
@@ -105,11 +80,6 @@ pub fn run_cells<G: Gate + Sync, R: Threads + Wait + Sync>(
 {
     let shape = CellsShape::<u128>::new(0, CELLS);
     let words = vec![in alloc; 0; CELLS as usize * u128::WORDS as usize]?;
-    let (desk, passes) = Desk::new(alloc, shape, words, workers)?;
-    let made = work_all(rt, alloc, &desk, passes, shape, rounds, gate)?;
-    let passes = all_made(alloc, made)?;
-    match desk.close(alloc, passes) {
-        Ok(closed) => Ok(closed),
-        Err(_) => Err(OutOfMemory),
-    }
+    let adders = adders(alloc, shape, workers, rounds, gate)?;
+    Ok(run_clients(rt, alloc, shape, words, adders)?.closed)
 }

@@ -26,7 +26,7 @@ use Rattle.word_table.specs.Copies.{PassView}
 use Rattle.word_table.specs.Desks.{DeskView}
 use Rattle.txn_commit.specs.declared.lists.Done.{Done}
 use Rattle.txn_commit.specs.Lists.{calls_of, indexes_of, AreCounted, AreDealt, AreMeant, AreOnceInOrder, HaveRecords}
-use Rattle.txn_commit.specs.Ordered.{AreRun}
+use Rattle.txn_commit.specs.Ordered.{AreRecorded}
 use Rattle.txn_commit.specs.Inner.ListWork.{HasRun, IsMade, IsMadeBy, Made, RanFirst}
 use Rattle.txn_commit.proofs.Flattened.{all_in, beside_flat, beside_images, in_flat, into_flat, of_in, one_flat, pairs_flat, AreBeside}
 use Rattle.txn_commit.proofs.ListWork.{both_values, caller_of, in_range, index_of, no_values, own_values, values_of}
@@ -56,7 +56,7 @@ pub record AreWhole {S A : Type 0} (good : List ℕ → Type 0) (means : ℕ →
   pub counted : AreCounted ran
   pub below : All (λ (x : Done A). x.restarts < workers) ran
   pub meant : AreMeant means closed ran
-  pub run : AreRun good means closed ran
+  pub run : AreRecorded good means closed ran
 
 module _ {S A X : Type 0} (good : List ℕ → Type 0) (means : ℕ → ℕ → List ℕ → Bool → A → List ℕ → Type 0) (callers : ℕ) (jobs : ℕ → ℕ) (workers : ℕ)
     (closed : ClosedView S) (items_of : X → List (Done A)) (clients : List X) (passes : List PassView)
@@ -166,7 +166,7 @@ module _ {S A X : Type 0} (good : List ℕ → Type 0) (means : ℕ → ℕ → 
       (beside_images (IsMadeBy good means) (λ (y : Made A). y.ran) (λ (y : Made A). y.entry) h.made
       (λ made t. (of_in (IsMade good means workers k) h.made h.each made t).by_entry)))
 
-  all_run : AreRun good means closed done
+  all_run : AreRecorded good means closed done
   all_run = record {
     entries = entries;
     as_many = all_beside.as_many;
@@ -216,10 +216,10 @@ module _ {S A X L : Type 0} (good : S → List ℕ → Type 0) (means : L → �
       → All (λ x. (lists_of x ≡ lists) × (workers_of x ≡ workers) × (items_of x ≡ [])) old → closed.seats ≡ workers
       → (k : ℕ) (x : X) (p : PassView) → slice_get new k ≡ Some x → slice_get worked.passes k ≡ Some p
       → HasRun (good closed.shape) (means lists) workers k p.view (items_of x) × RanFirst (jobs lists) workers k (callers lists) (items_of x)
-  each_worked closed old new lists workers worked hired seats k x p at_x at_p =
+  each_worked closed old new lists workers worked started seats k x p at_x at_p =
       let within : k < length old = omega (arith, slice_get_within new k x at_x, worked.left) in
       let w = worked.each k x p within in
-      let h = hired k x within in
+      let h = started k x within in
       let here : get_or new k x ≡ x = get_or_from_slice_get new k x x at_x in
       let pass : get_or worked.passes k p ≡ p = get_or_from_slice_get worked.passes k p p at_p in
       let named : number w.before.view ≡ k = ap (λ (l : List ℕ). slice_index l 0) (sym w.next.who_stays ∙ w.who_is) in
@@ -236,7 +236,7 @@ module _ {S A X L : Type 0} (good : S → List ℕ → Type 0) (means : L → �
       → All (λ x. (lists_of x ≡ lists) × (workers_of x ≡ workers) × (items_of x ≡ [])) old
       → HaveWorked Works closed old new → AreRecords closed → IsCoherent (good shape) closed → IsLegalInEachOrder (good shape) closed
       → ran ≡ flat_map items_of new → AreWhole (good shape) (means lists) (callers lists) (jobs lists) workers closed ran
-  all_whole closed shape old new lists workers ran shape_is seats long some hired worked records coherent legal is =
+  all_whole closed shape old new lists workers ran shape_is seats long some started worked records coherent legal is =
       subst (AreWhole (good shape) (means lists) (callers lists) (jobs lists) workers closed) (sym is)
       (whole (good shape) (means lists) (callers lists) (jobs lists) workers closed items_of new worked.passes some many count each worked.seen records
       coherent legal)
@@ -251,4 +251,4 @@ module _ {S A X L : Type 0} (good : S → List ℕ → Type 0) (means : L → �
           → HasRun (good shape) (means lists) workers k p.view (items_of x) × RanFirst (jobs lists) workers k (callers lists) (items_of x)
       each k x p at_x at_p = subst (λ (s : S). HasRun (good s) (means lists) workers k p.view (items_of x)
           × RanFirst (jobs lists) workers k (callers lists) (items_of x)) shape_is
-          (each_worked closed old new lists workers worked hired (seats ∙ long) k x p at_x at_p)
+          (each_worked closed old new lists workers worked started (seats ∙ long) k x p at_x at_p)

@@ -9,7 +9,7 @@ use Rattle.history_model.specs.Traces.{Trace}
 use Rattle.history_model.specs.Views.{IsGranted}
 use Rattle.history_model.proofs.SetLemmas.{differ}
 use Rattle.word_table.specs.Desks.{DeskView}
-use Rattle.word_table.specs.Versions.{HasUse}
+use Rattle.word_table.specs.Versions.{HasUseOf}
 use Rattle.lock_or_yield.specs.declared.turn.Intent.{Intent}
 use Rattle.lock_or_yield.specs.declared.turn.Intent.TheVariants as intent
 use Rattle.lock_or_yield.specs.declared.want.Got.TheVariants as got
@@ -73,7 +73,7 @@ goes_on_used n a v between new before after answer asks on same finds = record {
   yields = λ e. absurd (differ true refl e);
 }
 
-pub used_before : (n a : ℕ) (v : View) (h : Option Halt) → v.met ≡ [] → IsGranted v (lock_of_word a) → HasUse v (lock_of_word a)
+pub used_before : (n a : ℕ) (v : View) (h : Option Halt) → v.met ≡ [] → IsGranted v (lock_of_word a) → HasUseOf v (lock_of_word a)
     → UsesLock n a v h true h v
 used_before n a v h none held used = goes_on_used n a v v v h h asked.Held (asked_held n intent.Read a v h none held) held_not_yield refl (refl, used)
 

@@ -30,7 +30,7 @@ use Rattle.txn_commit.specs.declared.attempt.Asked.TheVariants as asked
 use Rattle.txn_commit.specs.declared.attempt.Halt.{Halt}
 use Rattle.txn_commit.specs.declared.attempt.Halt.TheVariants as halt
 use Rattle.txn_commit.specs.declared.attempt.TheConstants.{UNDO_ROOM}
-use Rattle.txn_commit.specs.Attempts.{DidEvents, GaveWayTo, IsSoundAttempt, Runs, StaysInCall, start_of, stop_of}
+use Rattle.txn_commit.specs.Attempts.{DidEvents, GaveWayTo, IsSoundAttempt, StillRuns, StaysInCall, start_of, stop_of}
 use Rattle.txn_commit.specs.Inner.Asking.{HasBegun}
 use Rattle.txn_commit.proofs.Footprints.{footprint_events, footprint_loaded, footprint_yields}
 
@@ -46,7 +46,7 @@ gave_way_to n met cause old new g bounded = record {
 }
 
 -- the attempt ran when it gave way
-gave_way_since : (n : ℕ) (cause : Cause) (began old new : View) → Runs began old → GaveWayTo n cause old new → GaveWayTo n cause began new
+gave_way_since : (n : ℕ) (cause : Cause) (began old new : View) → StillRuns began old → GaveWayTo n cause old new → GaveWayTo n cause began new
 gave_way_since n cause began old new r g = record {
   phase = g.phase;
   abandoned = (g.abandoned.0, g.abandoned.1 ∙ ap (λ (l : List Abandoned). l ++ g.abandoned.0 ∷ []) r.abandoned, g.abandoned.2, g.abandoned.3);
@@ -100,7 +100,7 @@ held_not_yield e = cc
 pub granted_not_yield : asked.Granted ≢ asked.Yield
 granted_not_yield e = cc
 
-runs_on : (began old new : View) → Runs began old → new.phase ≡ old.phase → new.abandoned ≡ old.abandoned → Runs began new
+runs_on : (began old new : View) → StillRuns began old → new.phase ≡ old.phase → new.abandoned ≡ old.abandoned → StillRuns began new
 runs_on began old new r phase abandoned = record { phase = phase ∙ r.phase; abandoned = abandoned ∙ r.abandoned }
 
 -- a load's event is the trace's last

@@ -29,7 +29,7 @@ use Rattle.txn_commit.specs.declared.attempt.TheConstants.{UNDO_ROOM}
 use Rattle.txn_commit.specs.declared.transaction.Receipt.{Receipt}
 use Rattle.txn_commit.specs.declared.attempt.Halt.{Halt}
 use Rattle.txn_commit.specs.declared.attempt.Halt.TheVariants as halt
-use Rattle.txn_commit.specs.Attempts.{GaveWayTo, IsSoundAttempt, Runs, StaysInCall, StandsAs, start_of}
+use Rattle.txn_commit.specs.Attempts.{GaveWayTo, IsSoundAttempt, StillRuns, StaysInCall, StandsAs, start_of}
 use Rattle.locks_rule.specs.Versions.{uses_of}
 use Rattle.txn_commit.specs.Uses.{ListsUses}
 use Rattle.txn_commit.specs.Inner.Releasing.{Releases, Undoes}
@@ -251,8 +251,8 @@ pub ran_on : (first : View) (kept began pass : PassView) (old : View) → StaysI
 ran_on first kept began pass old before same fresh ran =
     same_call first pass.view old before (subst (λ (p : PassView). StaysInCall p.view old) (same ∙ fresh) ran)
 
-pub still_runs : (n : ℕ) (halted : Option Halt) (began now : View) → halted ≡ None → StandsAs n halted began now → Runs began now
-still_runs n halted began now e = subst (λ (h : Option Halt). StandsAs n h began now → Runs began now) (sym e) (λ r. r)
+pub still_runs : (n : ℕ) (halted : Option Halt) (began now : View) → halted ≡ None → StandsAs n halted began now → StillRuns began now
+still_runs n halted began now e = subst (λ (h : Option Halt). StandsAs n h began now → StillRuns began now) (sym e) (λ r. r)
 
 pub gave_way : (n : ℕ) (halted : Option Halt) (cause : Cause) (began now : View) → halted ≡ Some (halt.Yield cause)
     → StandsAs n halted began now → GaveWayTo n cause began now

@@ -28,7 +28,7 @@ into_flat f [] y k x at t = absurd (none_in x (k, at))
 into_flat f (z ∷ xs) y zero x at t = in_first (f z) (flat_map f xs) y (subst (λ w. IsIn y (f w)) (sym (same_Some z x at)) t)
 into_flat f (z ∷ xs) y (suc k) x at t = in_second (f z) (flat_map f xs) y (into_flat f xs y k x at t)
 
--- where all but one are empty, that one is all
+-- if all but one are empty, that one is all
 nothing_flat : {X Y : Type 0} (g : X → List Y) (xs : List X) → ((k : ℕ) (x : X) → slice_get xs k ≡ Some x → g x ≡ []) → flat_map g xs ≡ []
 nothing_flat g [] none = refl
 nothing_flat g (x ∷ xs) none = flat_map-cons g x xs ∙ ap (λ l. l ++ flat_map g xs) (none zero x refl) ∙ nothing_flat g xs (λ k y at. none (suc k) y at)

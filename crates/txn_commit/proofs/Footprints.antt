@@ -107,7 +107,7 @@ footprint_yields n a cause old new asks gave met =
     )))
     inr ((asks.asked b).1 t))
 
--- another attempt begins, where the last gave way
+-- another attempt begins, if the last gave way
 pub footprint_restarts : (n : ℕ) (cause : Cause) (began old new : View) → GaveWayTo n cause began old
     → new.abandoned ≡ old.abandoned → new.meetings ≡ old.meetings → new.asked ≡ old.asked
     → LeavesFootprint old → LeavesFootprint new

@@ -11,7 +11,7 @@ use Rattle.history_model.specs.declared.entry.Entry.{Entry}
 use Rattle.history_model.proofs.ListPlaces.{below_get}
 use Rattle.txn_commit.specs.declared.transaction.Receipt.{Receipt}
 use Rattle.txn_commit.specs.Lists.{jobs_of_first}
-use Rattle.txn_commit.specs.Jobs.{count_all, count_at, job_at, list_at, means_at}
+use Rattle.txn_commit.specs.Jobs.{count_jobs, count_at, job_at, list_at, means_at}
 use Rattle.txn_commit.specs.Transactions.{GetsEntry}
 
 module _ {J : Type 0} (lists : List (Vec J Global)) where
@@ -26,13 +26,13 @@ module _ {J : Type 0} (lists : List (Vec J Global)) where
   list_there c list lt = get_or-map items_of lists c list [] lt
 
   -- a caller has no more jobs than all together
-  pub jobs_of_one : (c : ℕ) → c < length lists → count_at lists c ≤ count_all lists
+  pub jobs_of_one : (c : ℕ) → c < length lists → count_at lists c ≤ count_jobs lists
   jobs_of_one c lt =
       let list = (below_get c lists lt).0 in
       omega (arith, get_or-le-sum_by jobs_in lists c list lt, ap (λ (l : List J). length l) (list_there c list lt))
 
   -- and these have as many
-  pub jobs_of_all : jobs_of_first (count_at lists) (length lists) ≡ count_all lists
+  pub jobs_of_all : jobs_of_first (count_at lists) (length lists) ≡ count_jobs lists
   jobs_of_all =
       let callers : List ℕ = range_with_len 0 (length lists) in
       let each : map jobs_in lists ≡ map (count_at lists) callers = fill_by_all (count_at lists) (map jobs_in lists) (length lists) 0

@@ -18,6 +18,8 @@ pub mod Flattened
 pub mod Recorded
 -- what one worker ran of lists of jobs
 pub mod ListWork
+-- how far a worker has come with the lists of the callers
+pub mod UnderWay
 -- what all workers ran of them
 pub mod AllLists
 -- what was run, in the order that is rebuilt from what it used

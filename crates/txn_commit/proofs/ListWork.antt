@@ -26,7 +26,7 @@ range_on a n j is = sym (map-id (range_with_len a (n + 1))) ∙ map-range_with_l
 pub range_more : (n : ℕ) → range_with_len 0 (n + 1) ≡ range_with_len 0 n ++ n ∷ []
 range_more n = range_on 0 n n (omega arith)
 
--- where a list's numbers are a range, each is that of its place
+-- if a list's numbers are a range, each is that of its place
 pub in_range : {X : Type 0} (f : X → ℕ) (a n : ℕ) (xs : List X) → map f xs ≡ range_with_len a n → (p : ℕ) (x : X) → slice_get xs p ≡ Some x → f x ≡ a + p
 in_range f a n xs is p x at =
     let within : p < n = omega (arith, slice_get_within xs p x at, ap (λ l. length l) is, length-map xs f, length-range_with_len a n) in

@@ -1,3 +1,5 @@
+-- an interpreter, down the jobs that were run
+pub mod Interpreters
 -- what stands at places, each of which stands there once
 pub mod Arranged
 -- what stands at the places of an order stands in that order itself

@@ -1,4 +1,4 @@
--- Items, each beside the entry of its call, where the closed records are these entries.
+-- Items, each beside the entry of its call, if the closed records are these entries.
 use Rattle.std.proofs.Common.{◌≡◌, ◌≢◌, ◌↔◌, ℕ, List, AllPairs, length, get_or, slice_get, Some, sym, ap, ◌∙◌, arith}
 use Rattle.std.proofs.lemmas.Option.{slice_get-get_or, slice_get_within}
 use Rattle.history_model.specs.declared.entry.Entry.{Entry}

@@ -10,7 +10,13 @@ use Rattle.history_model.proofs.SetLemmas.{has-without}
 use Rattle.locks_rule.specs.Steps.{released_phase, release_writer_action}
 use Rattle.word_table.specs.Calls.{paid}
 use Rattle.word_table.specs.Least.{IsLeast}
-use Rattle.txn_commit.specs.Inner.Releasing.{Releases, turns_left}
+use Rattle.txn_commit.specs.Inner.Releasing.{Releases}
+use Rattle.std.specs.Prelude.{◌-◌}
+
+-- how many locks there are at most from the next one on
+abbrev pub turns_left : Option ℕ → ℕ
+turns_left None = 0
+turns_left (Some lock) = LOCKS - lock
 
 above : (P : ℕ → Type 0) (from : ℕ) → ((k : ℕ) → k < from → ¬ P k) → (k : ℕ) → P k → from ≤ k
 above P from below k p = ⊎_elim (λ lt. absurd (below k lt p)) (λ le. le) (cases_lt k from)
@@ -86,7 +92,7 @@ claim_given_up v new j k e = subst (λ (w : View). Releases v w) (sym e) (record
 pub claims_without : (v new : View) (j k l : ℕ) → new ≡ (release_writer_action j k (paid k v)).view 0 → HasClaim new l → HasClaim v l
 claims_without v new j k l e h = (has-without l k v.claims (subst (λ (w : View). HasClaim w l) e h)).1
 
--- the same where bits and grants alone were given up
+-- the same if bits and grants alone were given up
 pub bits_given_up : (v new : View) → new ≡ record v { phase = new.phase; bits = new.bits; reads = new.reads }
     → (new.phase ≡ v.phase) ⊎ (new.phase ≡ released_phase v.phase) → Releases v new
 bits_given_up v new e phase = record {

@@ -41,7 +41,7 @@ pub record StaysInCall (began now : View) : Type 0 where
   pub seen : now.seen ≡ began.seen
 
 -- the attempt reads and writes
-pub record Runs (began now : View) : Type 0 where
+pub record StillRuns (began now : View) : Type 0 where
   pub phase : now.phase ≡ Running
   pub abandoned : now.abandoned ≡ began.abandoned
 
@@ -54,11 +54,11 @@ pub record GaveWayTo (n : ℕ) (cause : Cause) (began now : View) : Type 0 where
   pub seat : cause.seat < now.seats
   pub bounded : AreRestartsBounded n (number now) now
 
--- the attempt gave way exactly where it halted for a cause
+-- the attempt gave way exactly if it halted for a cause
 abbrev pub StandsAs : ℕ → Option Halt → View → View → Type 0
-StandsAs n None began now = Runs began now
+StandsAs n None began now = StillRuns began now
 StandsAs n (Some (halt.Yield cause)) began now = GaveWayTo n cause began now
-StandsAs n (Some halt.Memory) began now = Runs began now
+StandsAs n (Some halt.Memory) began now = StillRuns began now
 
 -- the attempt did something to words, and the pass knows the same of all else: it holds the same locks, and asked for no
 -- other. It may have found the version of one that it had not used
@@ -80,7 +80,7 @@ pub record IsSoundAttempt {S : Type 0} (word_count : S → ℕ) (good : S → Li
   pub noted : (s : List ℕ) → Fits (word_count desk.shape) (good desk.shape) pass.view.trace s → log.list ≡ notes_of pass.view.trace s
   pub granted : All (λ note. HasWriteGrant pass.view (lock_of_word note.0)) log.list
   pub room : UNDO_ROOM ≤ log.spare + length log.list
-  -- no memory was found only where that room was full
+  -- no memory was found only if that room was full
   pub memory : halted ≡ Some halt.Memory → UNDO_ROOM ≤ length log.list
   pub fits : SomeFits (word_count desk.shape) (good desk.shape) pass.view.trace
   pub footprint : LeavesFootprint pass.view

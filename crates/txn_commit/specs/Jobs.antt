@@ -17,13 +17,13 @@ module _ {J : Type 0} where
   count_at lists c = length (list_at lists c)
 
   -- how many jobs all lists have
-  abbrev pub count_all : List (Vec J Global) → ℕ
-  count_all lists = sum_by (λ (list : Vec J Global). length list.items) lists
+  abbrev pub count_jobs : List (Vec J Global) → ℕ
+  count_jobs lists = sum_by (λ (list : Vec J Global). length list.items) lists
 
   -- a table does not take so many threads, lists or jobs
   abbrev pub AreTooMany : List (Vec J Global) → ℕ → Type 0
   AreTooMany lists threads =
-      (threads ≡ 0) ⊎ (MOST_PASSES < threads) ⊎ (LAST_CALL < length lists) ⊎ (LAST_CALL < count_all lists)
+      (threads ≡ 0) ⊎ (MOST_PASSES < threads) ⊎ (LAST_CALL < length lists) ⊎ (LAST_CALL < count_jobs lists)
 
   -- what job i of list c means
   abbrev pub means_at : {A : Type 0} → (J → List ℕ → Bool → A → List ℕ → Type 0) → List (Vec J Global)

@@ -1,5 +1,5 @@
 -- What was run over a table, in the order that is rebuilt from what it used.
-use Rattle.std.specs.Prelude.{◌≡◌, ◌≢◌, ◌↔◌, ◌<◌, ◌≤◌, ◌+◌, ℕ, AllPairs, Bool, true, false, List, [], ◌∷◌, map, length, take, Some, slice_get}
+use Rattle.std.specs.Prelude.{◌≡◌, ◌≢◌, ◌↔◌, ◌<◌, ◌≤◌, ◌+◌, ℕ, AllPairs, Bool, true, false, List, map, length, take, Some, slice_get}
 use Rattle.std.specs.List.{range_with_len}
 use Rattle.history_model.specs.declared.entry.Entry.{Entry}
 use Rattle.history_model.specs.declared.placed.Spot.{Spot}
@@ -70,31 +70,10 @@ pub record IsSerial {A : Type 0} (good : List ℕ → Type 0) (means : ℕ → �
   pub each : (k : ℕ) (ran : Done A) → slice_get done k ≡ Some ran
       → HasRunOn (means ran.caller ran.index) (before k) ran.reply (before (k + 1))
 
--- what an interpreter answers down jobs, each on the state that those before it leave
-unfoldable pub answers_down : {A X : Type 0} → (ℕ → ℕ → X → A) → (ℕ → ℕ → X → X) → List (Done A) → X → List A
-answers_down reply left [] x = []
-answers_down reply left (job ∷ jobs) x = reply job.caller job.index x ∷ answers_down reply left jobs (left job.caller job.index x)
-
--- the state that they leave
-unfoldable pub state_down : {A X : Type 0} → (ℕ → ℕ → X → X) → List (Done A) → X → X
-state_down left [] x = x
-state_down left (job ∷ jobs) x = state_down left jobs (left job.caller job.index x)
-
--- a job's meaning is one step of an interpreter: of words that stand for a state it answers what the interpreter replies,
--- and what it keeps stands for the state that this leaves; where it keeps nothing, the state is as it was
-pub record IsStep {A X : Type 0} (means : ℕ → ℕ → List ℕ → Bool → A → List ℕ → Type 0) (stands : List ℕ → X → Type 0)
-    (reply : ℕ → ℕ → X → A) (left : ℕ → ℕ → X → X) : Type 0 where
-  pub replies : (c i : ℕ) (s t : List ℕ) (kept : Bool) (answer : A) (x : X) → means c i s kept answer t → stands s x
-      → answer ≡ reply c i x
-  pub keeps : (c i : ℕ) (s t : List ℕ) (kept : Bool) (answer : A) (x : X) → means c i s kept answer t → stands s x → kept ≡ true
-      → stands t (left c i x)
-  pub reverts : (c i : ℕ) (s t : List ℕ) (kept : Bool) (answer : A) (x : X) → means c i s kept answer t → stands s x → kept ≡ false
-      → left c i x ≡ x
-
 -- each item beside the entry of its call, and the closed records are these entries: on all good words on which its trace is
 -- legal the meaning of the item's job holds. Of one caller they are later and later jobs, by later and later calls of one
 -- seat, and no two are of one call
-pub record AreRun {A S : Type 0} (good : List ℕ → Type 0) (means : ℕ → ℕ → List ℕ → Bool → A → List ℕ → Type 0)
+pub record AreRecorded {A S : Type 0} (good : List ℕ → Type 0) (means : ℕ → ℕ → List ℕ → Bool → A → List ℕ → Type 0)
     (closed : ClosedView S) (done : List (Done A)) : Type 0 where
   pub entries : List Entry
   pub as_many : length done ≡ length entries

@@ -1,4 +1,4 @@
--- What a transaction comes to: one entry, or none where there was no memory.
+-- What a transaction comes to: one entry, or none if there was no memory.
 use Rattle.std.specs.Prelude.{◌≡◌, ◌⊎◌, ℕ, ◌+◌, Bool, true, List, [], ◌∷◌, ◌++◌, length}
 use Rattle.history_model.specs.declared.entry.Abandoned.{Abandoned}
 use Rattle.history_model.specs.declared.entry.Entry.{Entry}

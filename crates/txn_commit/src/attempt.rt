@@ -7,7 +7,7 @@ ghost use Rattle.history_model.specs.Views.{IsGranted};
 ghost use Rattle.lock_or_yield.specs.Asking.{AsksToRead, AsksToWrite};
 ghost use Rattle.lock_or_yield.specs.Intents.{MeetsFirst};
 ghost use Rattle.word_table.specs.Desks.{RuleHolds};
-ghost use Rattle.word_table.specs.Versions.{HasUse};
+ghost use Rattle.word_table.specs.Versions.{HasUseOf};
 ghost use Rattle.history_model.specs.Marks.{count_writes};
 ghost use Rattle.history_model.specs.Traces.{Begins};
 ghost use Rattle.txn_words.specs.Marks.{PutsBack, TakesBack};
@@ -96,7 +96,7 @@ fn use_lock<S: Shape, G: Gate, R: Wait>(attempt: &mut Attempt<S, G, R>, a: u64)
     requires desk { attempt.old.pass.now.table ≡ attempt.old.desk.now.table }
     requires phase { attempt.old.pass.now.view.phase ≡ Phase.Running }
     requires granted { IsGranted attempt.old.pass.now.view (lock_of_word a) }
-    requires unused { ¬ HasUse attempt.old.pass.now.view (lock_of_word a) }
+    requires unused { ¬ HasUseOf attempt.old.pass.now.view (lock_of_word a) }
     ensures begun { HasBegun attempt.old.desk.now attempt.old.pass.ghost_name
         attempt.old.began.value attempt.new.desk.now attempt.new.pass.ghost_name attempt.new.began.value }
     ensures log { attempt.new.undo ≡ attempt.old.undo }
@@ -127,7 +127,7 @@ fn first_use_met<S: Shape, G: Gate, R: Wait>(
     requires word { a < length attempt.old.pass.now.view.base }
     requires met { (old : View) × MeetsFirst Intent.Read (RuleHolds S.Shape attempt.old.desk.now) a
         other old attempt.old.pass.now.view }
-    requires unused { ¬ HasUse attempt.old.pass.now.view (lock_of_word a) }
+    requires unused { ¬ HasUseOf attempt.old.pass.now.view (lock_of_word a) }
     ensures begun { HasBegun attempt.old.desk.now attempt.old.pass.ghost_name
         attempt.old.began.value attempt.new.desk.now attempt.new.pass.ghost_name attempt.new.began.value }
     ensures log { attempt.new.undo ≡ attempt.old.undo }
@@ -157,7 +157,7 @@ fn first_use_met<S: Shape, G: Gate, R: Wait>(
     }
 }
 
-// The first use of the lock of word a, to read it: it is asked for, where it is not held, and its version is found. It
+// The first use of the lock of word a, to read it: it is asked for, if it is not held, and its version is found. It
 // answers whether the attempt goes on, or gives way. It stands by itself, so that a read whose lock is in use is short
 // enough to stand where it is called; and what comes once a seat was met stands by itself too, so that a lock that is
 // granted costs few instructions.
@@ -167,7 +167,7 @@ fn first_use<S: Shape, G: Gate, R: Wait>(attempt: &mut Attempt<S, G, R>, a: u64)
     requires phase { attempt.old.pass.now.view.phase ≡ Phase.Running }
     requires word { a < length attempt.old.pass.now.view.base }
     requires judged { attempt.old.pass.now.view.met ≡ [] }
-    requires unused { ¬ HasUse attempt.old.pass.now.view (lock_of_word a) }
+    requires unused { ¬ HasUseOf attempt.old.pass.now.view (lock_of_word a) }
     ensures begun { HasBegun attempt.old.desk.now attempt.old.pass.ghost_name
         attempt.old.began.value attempt.new.desk.now attempt.new.pass.ghost_name attempt.new.began.value }
     ensures log { attempt.new.undo ≡ attempt.old.undo }
@@ -208,7 +208,7 @@ fn use_or_yield<S: Shape, G: Gate, R: Wait>(attempt: &mut Attempt<S, G, R>, a: u
     first_use(attempt, a)
 }
 
-// Asks for the lock of word a, to write it, where it is not held so.
+// Asks for the lock of word a, to write it, if it is not held so.
 #[inline(never)]
 fn ask_to_write<R: Wait, S: Shape>(
     rt: &R,
@@ -355,7 +355,7 @@ impl<'a, S: Shape, G: Gate, R: Wait> Words for Attempt<'a, S, G, R> {
     }
 
     /// Puts `v` into the word at place `a`, under its exclusive lock, once its old value is noted. It finds no memory
-    /// only where the undo log has no spare room, which it has for the first 1,024 writes, and asks for that lock
+    /// only if the undo log has no spare room, which it has for the first 1,024 writes, and asks for that lock
     /// alone.
     fn write(&mut self, a: u64, v: u64) -> Result<(), Stop>
         requires within { a < S.word_count self.old.desk.now.shape }
@@ -421,7 +421,7 @@ impl<'a, S: Shape, G: Gate, R: Wait> Words for Attempt<'a, S, G, R> {
 
     /// Writes the noted values back down to the mark, newest first, each as a write that is noted itself. All these
     /// words lie under locks that the attempt holds, so it asks for none and gives none up. It finds no memory only
-    /// where the undo log has not the spare room for so many.
+    /// if the undo log has not the spare room for so many.
     fn back_to(&mut self, m: Mark) -> Result<(), Stop>
         requires mark { m.writes ≤ count_writes self.old.pass.now.view.trace }
         requires going { stop_of self.old.halt ≡ None }

@@ -5,7 +5,7 @@ ghost use Rattle.history_model.specs.Fitting.{IsGood};
 ghost use Rattle.word_table.specs.declared.limits.TheConstants.{LAST_CALL, MOST_PASSES, MOST_WORDS};
 ghost use Rattle.txn_commit.specs.Lists.{AreDealt, AreOnceInOrder, HaveRecords};
 ghost use Rattle.txn_commit.specs.Ordered.{IsSerial};
-ghost use Rattle.txn_commit.specs.Jobs.{count_all, count_at, list_at, means_at, AreTooMany};
+ghost use Rattle.txn_commit.specs.Jobs.{count_jobs, count_at, list_at, means_at, AreTooMany};
 
 use crate::lists::{Done, Lists, ListsEnd};
 use crate::ordered::run_in_order;
@@ -93,7 +93,7 @@ pub(crate) struct JobLists<'a, J: Job> {
     pub shape: J::Shape,
     pub lists: &'a [Vec<J>],
     ghost few: { length lists.now ≤ LAST_CALL },
-    ghost room: { count_all lists.now ≤ LAST_CALL },
+    ghost room: { count_jobs lists.now ≤ LAST_CALL },
     ghost shapes: { ∥ All (λ list. All (λ job. J.shape job ≡ shape) list.items) lists.now ∥₁ },
 }
 
@@ -157,7 +157,7 @@ where
 
 // Whether the lists have no more jobs than this together.
 fn have_at_most<J>(lists: &[Vec<J>], most: usize) -> bool
-    ensures { IsTrue result ↔ (count_all lists.now ≤ most) }
+    ensures { IsTrue result ↔ (count_jobs lists.now ≤ most) }
 {
     let mut left = most;
     for list in lists {

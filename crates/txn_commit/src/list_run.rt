@@ -6,7 +6,7 @@ ghost use Rattle.history_model.specs.Fitting.{IsGood};
 ghost use Rattle.word_table.specs.declared.limits.TheConstants.{LAST_CALL, MOST_PASSES, MOST_WORDS};
 ghost use Rattle.word_table.specs.Closing.{AreRecords, IsCoherent, IsLegalInEachOrder};
 ghost use Rattle.txn_commit.specs.Lists.{jobs_of_first, AreCounted, AreDealt, AreMeant, AreOnceInOrder, HaveRecords};
-ghost use Rattle.txn_commit.specs.Ordered.{AreRun};
+ghost use Rattle.txn_commit.specs.Ordered.{AreRecorded};
 
 use crate::list_worker::ListWorker;
 use crate::lists::{Done, Lists, ListsEnd};
@@ -17,24 +17,24 @@ use std::thread::Threads;
 use txn_threads::run_clients;
 
 // So many workers, who have run nothing.
-fn hire<L: Lists>(
+fn start<L: Lists>(
     alloc: Global,
     lists: &L,
     workers: u32,
 ) -> Result<Vec<ListWorker<'_, L>>, OutOfMemory>
-    ensures count { IfOk result (λ hired. length hired.items ≡ workers) }
-    ensures new { IfOk result (λ hired. All (λ worker. (worker.lists.now ≡ lists.now)
-        × (worker.workers ≡ workers) × (worker.done.items ≡ [])) hired.items) }
+    ensures count { IfOk result (λ started. length started.items ≡ workers) }
+    ensures new { IfOk result (λ started. All (λ worker. (worker.lists.now ≡ lists.now)
+        × (worker.workers ≡ workers) × (worker.done.items ≡ [])) started.items) }
 {
-    let mut hired = Vec::new(alloc);
+    let mut started = Vec::new(alloc);
     for _ in 0..workers {
-        hired.push(ListWorker {
+        started.push(ListWorker {
             lists,
             workers,
             done: Vec::new(alloc),
         })?;
     }
-    Ok(hired)
+    Ok(started)
 }
 
 // What all workers ran, in their order.
@@ -55,7 +55,7 @@ fn join_all<L: Lists>(
 /// Runs the jobs of all callers, each as one transaction on a table over these words, with so many workers, each on a
 /// thread of its own.
 ///
-/// Each caller is run whole by one worker, its jobs in their order. Where there is no memory for the table, or a worker
+/// Each caller is run whole by one worker, its jobs in their order. If there is no memory for the table, or a worker
 /// finds none, there is no table to be had: the other workers go on to their end, and their work is lost. A worker may
 /// wait for others: that a wait ends, no clause says.
 pub fn run_lists<L: Lists + Sync, R: Threads + Wait + Sync>(
@@ -99,12 +99,12 @@ where
     // In every arrangement each did, of the words that what stands before it left, what its job means.
     ensures meant { IfOk result (λ end. AreMeant (L.means lists.now) end.closed end.done.items) }
     // And beside its entry it does so on all good words on which its trace is legal.
-    ensures run { IfOk result (λ end. AreRun
+    ensures run { IfOk result (λ end. AreRecorded
         (IsGood (L.Shape.word_count (L.shape lists.now)) (L.Shape.good (L.shape lists.now)))
         (L.means lists.now) end.closed end.done.items) }
 {
-    let hired = hire(alloc, lists, workers)?;
-    let ended = run_clients(rt, alloc, lists.shape(), words, hired)?;
+    let started = start(alloc, lists, workers)?;
+    let ended = run_clients(rt, alloc, lists.shape(), words, started)?;
     let done = join_all(alloc, ended.clients)?;
     Ok(ListsEnd {
         closed: ended.closed,

@@ -52,7 +52,7 @@ fn take_out<T: Drop>(alloc: Global, items: Vec<T>, places: &[usize]) -> Result<V
     Ok(arranged)
 }
 
-/// The items at the places, in their order. Where they stand so already, they are not moved.
+/// The items at the places, in their order. If they stand so already, they are not moved.
 pub fn arrange<T: Drop>(
     alloc: Global,
     items: Vec<T>,

@@ -122,9 +122,9 @@ fn give_way<S: Shape, G: Gate, R: Wait>(attempt: &mut Attempt<S, G, R>, cause: C
     attempt.began = Snapshot::of(&*attempt.pass);
 }
 
-// Settles the attempt: its writes are kept or else undone, what it used is listed, and it is committed. It gives the list.
-// Where there is no memory for that, all is undone, and there is no entry.
-fn settle<S: Shape, G: Gate, R: Wait>(
+// Keeps the attempt's writes or else undoes them, lists what it used, and commits it. It gives the list. If there is no
+// memory for that, all is undone, and there is no entry.
+fn commit_or_undo<S: Shape, G: Gate, R: Wait>(
     alloc: Global,
     attempt: &mut Attempt<S, G, R>,
     kept: bool,
@@ -210,7 +210,7 @@ where
         match job.run(attempt) {
             Ok(verdict) => {
                 let (kept, answer) = decision(verdict);
-                let Ok(uses) = settle(alloc, attempt, kept) else {
+                let Ok(uses) = commit_or_undo(alloc, attempt, kept) else {
                     return Err(OutOfMemory);
                 };
                 return Ok(Receipt {
@@ -246,7 +246,7 @@ fn decision<A>(verdict: Verdict<A>) -> (bool, A)
 
 /// Runs the job as one transaction: the pass's next call.
 ///
-/// The job is run in attempts, each with the locks of the words that it touches. Where a lock is held by an earlier
+/// The job is run in attempts, each with the locks of the words that it touches. If a lock is held by an earlier
 /// call, the attempt undoes its writes, gives up its locks, and waits until that call is gone; then the next begins,
 /// with the timestamp that the call has. The first that need not give way is committed while it holds all its locks.
 /// The call may wait for other threads. That a wait ends, no clause says.

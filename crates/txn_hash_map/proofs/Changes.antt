@@ -25,7 +25,7 @@ use Rattle.txn_hash_map.proofs.Cells.{bucket_below, one_chain, block_key, block_
 use Rattle.txn_hash_map.proofs.Steps.{found_key, missing_value}
 use Rattle.txn_hash_map.proofs.Stands.{chain_kept, laid_alike, chains_stand}
 
--- the value of a cell in block c, where block b has x
+-- the value of a cell in block c, if block b has x
 pub if_block : ℕ → ℕ → ℕ → ℕ → ℕ
 if_block b x c y = cond (eqb c b) x y
 
@@ -200,7 +200,7 @@ module _ (map : ChainMap) (s : List ℕ) (f : Entries) (u v : Blocks) (hold : Ho
       let q = hold.map.used_in d m in
       block_below map.arena s (map.buckets + q.0) d (hold.map.cells q.0) (hold.map.chain q.0 q.1) q.2
 
--- the map stands where heads alone are written
+-- the map stands if heads alone are written
 pub chains_headed : (map : ChainMap) (s r : List ℕ) (f : Entries) (u v : Blocks) → HoldsApart (chain_part map) s f u v
     → KeepsOthers (IsHead map.arena) s r → ChainsHold map r f u
 chains_headed map s r f u v hold kept =

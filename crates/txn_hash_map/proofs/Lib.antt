@@ -1,3 +1,5 @@
+-- how far a search along a chain has come
+pub mod Passed
 -- chains of cells in one word list
 pub mod Cells
 -- the steps of a search, in one word list

@@ -10,7 +10,8 @@ use Rattle.txn_words.proofs.Looks.{looks_map, looks_read}
 use Rattle.txn_alloc.proofs.Maps.Founds.{IsOwnNear, IsKeysBlock}
 use Rattle.txn_hash_map.specs.declared.map.ChainMap.{ChainMap}
 use Rattle.txn_hash_map.specs.Chains.{chain_part}
-use Rattle.txn_hash_map.specs.Searches.{IsPassed, IsLink, IsFoundAt}
+use Rattle.txn_hash_map.proofs.Passed.{IsPassed}
+use Rattle.txn_hash_map.specs.Searches.{IsLink, IsFoundAt}
 use Rattle.txn_hash_map.proofs.Steps.{passed_within, passed_names, passed_link, passed_key, found_value, found_key, held_used, link_seen}
 
 module _ (n : ℕ) (G : List ℕ → Type 0) (t : Trace) (IsSeen : List ℕ → ℕ → Type 0) where

@@ -43,7 +43,7 @@ laid_alike map s t e l = record {
   outside = l.outside;
 }
 
--- the map stands where its buckets and the words of its used blocks stay
+-- the map stands if its buckets and the words of its used blocks stay
 pub chains_stand : (map : ChainMap) (s t : List ℕ) (f : Entries) (u : Blocks) → ChainsHold map s f u → length t ≡ length s
     → ((a : ℕ) → IsBucket map a → slice_get t a ≡ slice_get s a)
     → ((b a : ℕ) → set.contains u b ≡ true → IsInBlock map.arena b a → slice_get t a ≡ slice_get s a) → ChainsHold map t f u
@@ -60,7 +60,7 @@ chains_stand map s t f u h e buckets blocks = record {
   in_used = h.in_used;
 }
 
--- where all buckets name none, the map has no entry
+-- if all buckets name none, the map has no entry
 pub none_stands : (map : ChainMap) (s : List ℕ) (f : Entries) → ((key : ℕ) → entry_map.get f key ≡ None) → IsLaid map s
     → ((a : ℕ) → IsBucket map a → slice_get s a ≡ Some 0) → ChainsHold map s f set.empty
 none_stands map s f none laid zero = record {
@@ -74,7 +74,7 @@ none_stands map s f none laid zero = record {
   in_used = λ b i lt m. absurd (true≢false (sym m));
 }
 
--- where its buckets were cleared, and then all blocks laid free, the empty map stands beside them
+-- if its buckets were cleared, and then all blocks laid free, the empty map stands beside them
 module _ (map : ChainMap) (s t u : List ℕ) (laid : IsLaid map s) (cleared : KeepsOthers (IsInRow map.buckets BUCKETS) s t)
     (written : KeepsOthers (IsWrittenByLaying map.arena (all_blocks map.arena)) t u) where
   abbrev mine : KeepsOthers (IsBucket map) s t

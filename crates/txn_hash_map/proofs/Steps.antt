@@ -9,7 +9,8 @@ use Rattle.txn_alloc.proofs.Maps.Cells.{value_past, value_first, value_later, ha
 use Rattle.txn_hash_map.specs.declared.map.ChainMap.{ChainMap}
 use Rattle.txn_alloc.specs.EntryMaps.{Cell, value_of, has_block, Entries, Blocks, IsUsedIn, IsSeen, HasKeysOnce}
 use Rattle.txn_hash_map.specs.Chains.{HasChain, bucket_of, IsLaid, ChainsHold, chain_part}
-use Rattle.txn_hash_map.specs.Searches.{place_after, IsPassed, IsFoundAt, IsMissing, IsOfChain, IsLink}
+use Rattle.txn_hash_map.proofs.Passed.{IsPassed}
+use Rattle.txn_hash_map.specs.Searches.{place_after, IsFoundAt, IsMissing, IsOfChain, IsLink}
 use Rattle.txn_hash_map.proofs.Cells.{bucket_below, one_chain, chain_rest, place_after_more, place_kind, chain_short, block_below}
 
 module _ (map : ChainMap) (key : ℕ) (s : List ℕ) where

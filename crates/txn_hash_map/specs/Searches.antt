@@ -11,17 +11,6 @@ abbrev pub place_after : Arena → ℕ → List Cell → ℕ
 place_after arena place [] = place
 place_after arena place (c ∷ cs) = place_after arena (block_at arena c.block + 2) cs
 
--- the chain of the key's bucket begins with so many cells that do not have the key, and then goes on at the place
-pub record IsPassed (map : ChainMap) (key place passed : ℕ) (words : List ℕ) : Type 0 where
-  pub laid : IsLaid map words
-  pub front : List Cell
-  pub rest : List Cell
-  pub chain : HasChain map.arena words (map.buckets + bucket_of key) (front ++ rest)
-  pub once : HasKeysOnce (front ++ rest)
-  pub at : place ≡ place_after map.arena (map.buckets + bucket_of key) front
-  pub lacking : value_of key front ≡ None
-  pub count : length front ≡ passed
-
 -- the word at the place names the block of the key's cell
 pub record IsFoundAt (map : ChainMap) (key place block : ℕ) (words : List ℕ) : Type 0 where
   pub laid : IsLaid map words

@@ -34,7 +34,7 @@ impl ChainMap {
         ensures nearest { IfOk result (λ put. put ≡ New
             → LeadsTo W.Words W.Shape.Shape w.old w.new (TakesNearest (chain_part self.now) key)) }
 
-        // It answers Full exactly where in every state the key is absent and no block is free.
+        // It answers Full exactly if in every state the key is absent and no block is free.
         ensures full { IfOk result (λ put.
             put ≡ Full
             → LeadsTo W.Words W.Shape.Shape w.old w.new
@@ -50,17 +50,17 @@ impl ChainMap {
         ensures frame { OnOk result
             (WritesWithin W.Words W.Shape.Shape w.old w.new (IsOwn (chain_part self.now) key)) }
 
-        // Where the key was there, the word of its value alone is written.
+        // If the key was there, the word of its value alone is written.
         ensures old { IfOk result (λ put. (was : ℕ)
             → put ≡ Old was
             → WritesWithin W.Words W.Shape.Shape w.old w.new (IsValue (chain_part self.now) key)) }
 
-        // Where there is no room, no word is written.
+        // If there is no room, no word is written.
         ensures full_frame { IfOk result
             (λ put. put ≡ Full → WritesOnly W.Words w.old w.new (λ a. ⊥)) }
 
-        // Of the map's own blocks keys and links are read, and the value of the key; beside them, where a block is taken the
-        // heads from that of the key round to its own, and its words, and where none is free the heads.
+        // Of the map's own blocks keys and links are read, and the value of the key; beside them, if a block is taken the
+        // heads from that of the key round to its own, and its words, and if none is free the heads.
         ensures reads { IfOk result (λ put.
             ReadsWithin W.Words W.Shape.Shape w.old w.new
             (MayReadToInsert (chain_part self.now) key put)) }

@@ -10,7 +10,7 @@ pub fn one_map()
     ensures { OneMap }
 {}
 
-/// The map stands where its buckets and the words of its used blocks stay.
+/// The map stands if its buckets and the words of its used blocks stay.
 pub fn chains_stand()
     ensures { ChainsStand }
 {}

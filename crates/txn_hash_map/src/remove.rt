@@ -29,11 +29,11 @@ impl ChainMap {
         ensures frame { OnOk result
             (WritesWithin W.Words W.Shape.Shape w.old w.new (IsOwn (chain_part self.now) key)) }
 
-        // Where the key is absent, no word is written.
+        // If the key is absent, no word is written.
         ensures none_frame { IfOk result
             (λ answer. IfNone answer (WritesOnly W.Words w.old w.new (λ a. ⊥))) }
 
-        // Of the map's own blocks keys and links are read, and the value of the key; where a block is given back, its head too.
+        // Of the map's own blocks keys and links are read, and the value of the key; if a block is given back, its head too.
         ensures reads { IfOk result (λ answer.
             ReadsWithin W.Words W.Shape.Shape w.old w.new
             (MayReadToRemove (chain_part self.now) key answer)) }

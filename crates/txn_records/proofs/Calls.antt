@@ -18,7 +18,7 @@ use Rattle.txn_records.specs.declared.shape.RecordShape.{RecordShape}
 use Rattle.txn_records.specs.declared.layout.TheConstants.{RANK_STEP}
 use Rattle.txn_records.specs.Layout.{index_key_of}
 use Rattle.txn_records.specs.Standing.{Trees, HasTrees, HasSomeTrees, HoldRecords, IsGoodFor, Stands, rank_in}
-use Rattle.txn_records.specs.Access.{first_in, first_key_in, PutsRecord, UnlessFull}
+use Rattle.txn_records.specs.Access.{first_in, first_key_in, PutsRecord, UnlessNoRoom}
 use Rattle.txn_records.specs.Inner.Listing.{first_key, first_entry}
 use Rattle.txn_records.proofs.Keys.{key_first, entry_first}
 use Rattle.txn_records.proofs.Held.{rank_range, no_record, some_record, range_removed, cut_held, dropped, dropped_held}
@@ -116,7 +116,8 @@ module _ {W S O : Type 0} (words : AnyWords W S O) (shapes : Shapes S) (shape : 
   put_stands was did = state_after words shapes v w (IsGoodFor shape) (IsGoodFor shape) (PutsRecord shape id rank content (Old was)) kept begins stand did
       (λ x y good p. (finite.insert good.0 id (rank, content), p.left good.0 good.1))
 
-  pub new_stands : (put : Put) → LeadsTo words shapes v w (PutsRecord shape id rank content put) → UnlessFull put (InEachState words shapes w (IsGoodFor shape))
+  pub new_stands : (put : Put) → LeadsTo words shapes v w (PutsRecord shape id rank content put)
+      → UnlessNoRoom put (InEachState words shapes w (IsGoodFor shape))
   new_stands New did = state_after words shapes v w (IsGoodFor shape) (IsGoodFor shape) (PutsRecord shape id rank content New) kept begins stand did
       (λ x y good p. (finite.insert good.0 id (rank, content), p.left good.0 good.1))
   new_stands (Old was) did = put_stands was did

@@ -11,7 +11,7 @@ use Rattle.record_text.specs.Laws.{data_at_rank}
 use Rattle.txn_stores.proofs.Maps.{removed_here, removed_there, inserted_here, inserted_there}
 use Rattle.txn_records.specs.declared.layout.TheConstants.{RANK_STEP}
 use Rattle.txn_records.specs.Layout.{index_key_of}
-use Rattle.txn_records.specs.Standing.{Trees, HoldRecords, AreInRange, rank_in}
+use Rattle.txn_records.specs.Standing.{Trees, HoldRecords, RecordsAreInRange, rank_in}
 
 -- an identifier is below the step of the ranks
 pub id_below : (id : ℕ) → IsId id → id < RANK_STEP
@@ -49,7 +49,7 @@ record_is o rank found is told =
     ap (λ f. Some (rank, unwrap_or f 0)) data_is ∙ sym some.1
 
 -- a rank that is told is in range
-pub rank_range : (records : Records) → AreInRange records → (id : ℕ) (answer : Option ℕ) → answer ≡ rank_in (finite.get records id)
+pub rank_range : (records : Records) → RecordsAreInRange records → (id : ℕ) (answer : Option ℕ) → answer ≡ rank_in (finite.get records id)
     → IfSome answer IsRank
 rank_range records range id None e = tt
 rank_range records range id (Some rank) e =
@@ -57,7 +57,7 @@ rank_range records range id (Some rank) e =
     (range id rank some.0 some.1).1
 
 -- records in range stay so
-pub range_removed : (records : Records) (id : ℕ) → AreInRange records → AreInRange (finite.remove records id)
+pub range_removed : (records : Records) (id : ℕ) → RecordsAreInRange records → RecordsAreInRange (finite.remove records id)
 range_removed records id range q rank content there = dite (ℕ_discrete q id)
     (λ e. absurd (let none : finite.get (finite.remove records id) q ≡ None =
     subst (λ z. finite.get (finite.remove records id) z ≡ None) (sym e) (removed_here records id) in cc))
@@ -66,8 +66,8 @@ range_removed records id range q rank content there = dite (ℕ_discrete q id)
 same_some : {A : Type 0} (x y : A) → Some x ≡ Some y → x ≡ y
 same_some x y e = ap (λ o. unwrap_or o x) e
 
-pub range_inserted : (records : Records) (id rank content : ℕ) → AreInRange records → IsId id → IsRank rank → content ≤ GREATEST_DATA
-    → AreInRange (finite.insert records id (rank, content))
+pub range_inserted : (records : Records) (id rank content : ℕ) → RecordsAreInRange records → IsId id → IsRank rank → content ≤ GREATEST_DATA
+    → RecordsAreInRange (finite.insert records id (rank, content))
 range_inserted records id rank content range is ranked fits q r x there = dite (ℕ_discrete q id)
     (λ e.
     let same : (rank, content) ≡ (r, x) = same_some (rank, content) (r, x)

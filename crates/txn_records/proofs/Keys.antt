@@ -22,7 +22,7 @@ use Rattle.txn_tree_map.proofs.Held.Entries.{lower, tied, untied}
 use Rattle.txn_alloc.specs.EntryMaps.{Entries}
 use Rattle.txn_records.specs.declared.layout.TheConstants.{RANK_STEP}
 use Rattle.txn_records.specs.Layout.{index_key_of}
-use Rattle.txn_records.specs.Standing.{Trees, HoldRecords, AreInRange}
+use Rattle.txn_records.specs.Standing.{Trees, HoldRecords, RecordsAreInRange}
 use Rattle.txn_records.specs.Access.{first_in, first_key_in}
 use Rattle.txn_records.specs.Inner.Listing.{keys_of, entries_of, first_key, first_entry}
 use Rattle.txn_records.proofs.Held.{id_below, keys_differ}
@@ -117,7 +117,7 @@ at_rank rank (Some stored) content e = at (stored.0 == rank) refl
         λ i. Some (same i, x i)
     at false is = let told : None ≡ Some content = sym (ap (λ t. if t then Some stored.1 else None) is) ∙ e in absurd (cc)
 
-module _ (records : Records) (range : AreInRange records) where
+module _ (records : Records) (range : RecordsAreInRange records) where
   index_entries : List Entry
   index_entries = finite.entries (index_of records)
 
@@ -168,14 +168,14 @@ keys_keyed [] = refl
 keys_keyed (e ∷ es) = ap (λ ks. key_of e.0 ∷ ks) (keys_keyed es)
 
 -- the first key of the index
-pub key_first : (key : ℕ) (records : Records) (trees : Trees) → AreInRange records → HoldRecords trees records
+pub key_first : (key : ℕ) (records : Records) (trees : Trees) → RecordsAreInRange records → HoldRecords trees records
     → first_key_in key trees.index ≡ first_key key records
 key_first key records trees range held =
     ap (λ es. first (λ k. nat_le key k) (map (λ (e : ℕ × ℕ). e.0) es)) (entries_keyed records range trees held)
     ∙ ap (first (λ k. nat_le key k)) (keys_keyed (finite.entries (index_of records)))
 
 -- the first entry of the index
-pub entry_first : (key : ℕ) (records : Records) (trees : Trees) → AreInRange records → HoldRecords trees records
+pub entry_first : (key : ℕ) (records : Records) (trees : Trees) → RecordsAreInRange records → HoldRecords trees records
     → first_in key trees.index ≡ first_entry key records
 entry_first key records trees range held = ap (first (λ (e : ℕ × ℕ). nat_le key e.0)) (entries_keyed records range trees held)
 
@@ -198,11 +198,11 @@ module _ {X : Type 0} (at : X → ℕ) (make : Entry → X) (same : (e : Entry) 
   rising (e ∷ es) h order =
       (above_all e h.0 es h.1 (sorted_first index_cmp e es order), rising es h.1 (sorted_rest index_cmp e es order))
 
-pub keys_rise : (records : Records) → AreInRange records → AreRising (λ k. k) (keys_of records)
+pub keys_rise : (records : Records) → RecordsAreInRange records → AreRising (λ k. k) (keys_of records)
 keys_rise records range = rising (λ k. k) (λ e. key_of e.0) (λ e. refl) (finite.entries (index_of records)) (are_places records range)
     (entries_sorted (index_of records))
 
-pub entries_rise : (records : Records) → AreInRange records → AreRising (λ (e : ℕ × ℕ). e.0) (entries_of records)
+pub entries_rise : (records : Records) → RecordsAreInRange records → AreRising (λ (e : ℕ × ℕ). e.0) (entries_of records)
 entries_rise records range = rising (λ (e : ℕ × ℕ). e.0) (λ e. (key_of e.0, e.1)) (λ e. refl) (finite.entries (index_of records))
     (are_places records range) (entries_sorted (index_of records))
 
@@ -212,9 +212,9 @@ module _ {X : Type 0} (at : X → ℕ) (make : Entry → X) (same : (e : Entry) 
   fitting [] h = tt
   fitting (e ∷ es) h = (omega (arith, h.0.0, h.0.1, same e), fitting es h.1)
 
-pub keys_fit : (records : Records) → AreInRange records → AllByRecursion (λ k. k < RANK_STEP * RANK_STEP) (keys_of records)
+pub keys_fit : (records : Records) → RecordsAreInRange records → AllByRecursion (λ k. k < RANK_STEP * RANK_STEP) (keys_of records)
 keys_fit records range = fitting (λ k. k) (λ e. key_of e.0) (λ e. refl) (finite.entries (index_of records)) (are_places records range)
 
-pub entries_fit : (records : Records) → AreInRange records → AllByRecursion (λ (e : ℕ × ℕ). e.0 < RANK_STEP * RANK_STEP) (entries_of records)
+pub entries_fit : (records : Records) → RecordsAreInRange records → AllByRecursion (λ (e : ℕ × ℕ). e.0 < RANK_STEP * RANK_STEP) (entries_of records)
 entries_fit records range = fitting (λ (e : ℕ × ℕ). e.0) (λ e. (key_of e.0, e.1)) (λ e. refl) (finite.entries (index_of records))
     (are_places records range)

@@ -14,7 +14,7 @@ use Rattle.txn_tree_map.proofs.Held.Entries.{tied}
 use Rattle.txn_stores.proofs.Maps.{removed_here, removed_there, inserted_here, inserted_there}
 use Rattle.txn_records.specs.declared.layout.TheConstants.{RANK_STEP}
 use Rattle.txn_records.specs.Layout.{index_key_of}
-use Rattle.txn_records.specs.Standing.{Trees, HoldRecords, AreInRange, rank_in}
+use Rattle.txn_records.specs.Standing.{Trees, HoldRecords, RecordsAreInRange, rank_in}
 use Rattle.txn_records.proofs.Held.{id_below, range_removed, data_here, dropped, dropped_held}
 
 -- a map has one entry more than without one that it has
@@ -46,7 +46,7 @@ first_entry {X} m n e = at (finite.entries m) refl
     at [] is = absurd (omega (arith, e, len-entries m, ap length is))
     at (p ∷ es) is = (p.0, p.1, get-entries m p.0 ∙ ap (find nat_cmp p.0) is ∙ grind (rules, tied p.0 p.0 refl))
 
-pub lengths : (n : ℕ) (records : Records) (trees : Trees) → finite.len records ≡ n → AreInRange records → HoldRecords trees records
+pub lengths : (n : ℕ) (records : Records) (trees : Trees) → finite.len records ≡ n → RecordsAreInRange records → HoldRecords trees records
     → (finite.len trees.ranks ≡ n) × (finite.len trees.index ≡ n)
 lengths zero records trees e range held =
     let none : records ≡ finite.empty = empty_of_len records e in

@@ -13,7 +13,7 @@ use Rattle.record_text.specs.Output.{Printed, printed_of}
 use Rattle.txn_records.specs.declared.shape.RecordShape.{RecordShape}
 use Rattle.txn_records.specs.declared.layout.TheConstants.{RANK_STEP}
 use Rattle.txn_records.specs.Layout.{index_key_of, id_in, rank_in_key}
-use Rattle.txn_records.specs.Standing.{AreInRange, Stands}
+use Rattle.txn_records.specs.Standing.{RecordsAreInRange, Stands}
 use Rattle.txn_records.specs.Inner.Listing.{keys_of, entries_of}
 use Rattle.txn_records.proofs.Keys.{Entry, ArePlaces, AreRising, key_of, are_places, entries_keyed}
 use Rattle.txn_records.proofs.Sides.{trees_counted}
@@ -27,7 +27,7 @@ module _ {X : Type 0} (at : X → ℕ) where
   abbrev first_from : ℕ → List X → Option X
   first_from key xs = first (λ x. nat_le key (at x)) xs
 
-  -- where none is first, none is left
+  -- if none is first, none is left
   none_left : (key : ℕ) (xs : List X) → None ≡ first_from key xs → from_key key xs ≡ []
   none_left key [] e = refl
   none_left key (x ∷ xs) e = by (nat_le key (at x)) refl (λ behind. none_left key xs behind)
@@ -117,7 +117,7 @@ module _ {X Y : Type 0} (course : Course X Y) (whole : Records → List Y) where
   rest_of left key records = take left (map course.shown (from_key course.at key (course.all records)))
 
   pub record IsListed (list : List Y) (left key : ℕ) (records : Records) : Type 0 where
-    pub range : AreInRange records
+    pub range : RecordsAreInRange records
     pub whole_is : whole records ≡ list ++ rest_of left key records
 
   module _ (list : List Y) (left key : ℕ) (records : Records) (so_far : IsListed list left key records) where
@@ -152,7 +152,7 @@ module _ {X Y : Type 0} (course : Course X Y) (whole : Records → List Y) where
 abbrev pub ids_course : Course ℕ ℕ
 ids_course = record { at = λ k. k; shown = id_in; all = keys_of }
 
-pub ids_first : (rank most : ℕ) (ids : List ℕ) (left key : ℕ) (records : Records) → AreInRange records → ids ≡ [] → left ≡ most
+pub ids_first : (rank most : ℕ) (ids : List ℕ) (left key : ℕ) (records : Records) → RecordsAreInRange records → ids ≡ [] → left ≡ most
     → key ≡ index_key_of rank 0 → IsListed ids_course (ids_from rank most) ids left key records
 ids_first rank most ids left key records range none all first_is = record {
   range = range;

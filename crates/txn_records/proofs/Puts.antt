@@ -8,7 +8,7 @@ use Rattle.std.specs.Cmp.{nat_cmp_total}
 use Rattle.std.specs.FinMap as finite
 use Rattle.books_model.proofs.Maps.Trees.{len_after_insert, len_after_change}
 use Rattle.record_text.specs.declared.limits.TheConstants.{GREATEST_DATA}
-use Rattle.record_text.specs.Records.{Records, is_full}
+use Rattle.record_text.specs.Records.{Records, is_store_full}
 use Rattle.record_text.specs.Ranges.{IsId, IsRank}
 use Rattle.record_text.specs.Laws.{data_at_rank}
 use Rattle.txn_words.specs.Access.{OfModel, TellsAndChanges}
@@ -36,7 +36,7 @@ full_answer : (b : Bool) → Full ≡ put_answer None b → b ≡ true
 full_answer true e = refl
 full_answer false e = absurd (cc)
 
--- with one block left a record's second key finds none, exactly where the store is full
+-- with one block left a record's second key finds none, exactly if the store is full
 last_block : (a n blocks : ℕ) → a ≡ n + 1 + n → n + n < blocks → (a == blocks) ≡ nat_lt blocks (2 * n + 2)
 last_block a n blocks e lt = dite (ℕ_discrete a blocks) (λ same. grind (arith, nat_tests, same, e, lt)) (λ other. grind (arith, nat_tests, other, e, lt))
 
@@ -78,8 +78,8 @@ module _ (shape : RecordShape) (id rank content : ℕ) (is : IsId id) (fits : co
         ∙ ap (λ o. put_answer o (is_used_up shape stand.trees)) (stand.held.ranks id ∙ absent records stand) in
         let all : finite.len stand.trees.ranks + finite.len stand.trees.index ≡ shape.blocks = eqb-true _ _ (full_answer _ told) in
         let n = as_many shape x records stand in
-        let full : is_full shape.blocks records ≡ true = grind (arith, nat_tests, all, n.0, n.1) in
-        sym (ap (λ o. put_answer o (is_full shape.blocks records)) (absent records stand) ∙ ap (put_answer None) full);
+        let full : is_store_full shape.blocks records ≡ true = grind (arith, nat_tests, all, n.0, n.1) in
+        sym (ap (λ o. put_answer o (is_store_full shape.blocks records)) (absent records stand) ∙ ap (put_answer None) full);
     left = tt;
   }
 
@@ -110,7 +110,7 @@ module _ (shape : RecordShape) (id rank content : ℕ) (is : IsId id) (fits : co
 
       -- what the second answers
       second_answer : is_used_up shape stand.trees ≡ false → put_answer (finite.get with_rank.index key) (is_used_up shape with_rank)
-          ≡ put_answer (rank_in (finite.get records id)) (is_full shape.blocks records)
+          ≡ put_answer (rank_in (finite.get records id)) (is_store_full shape.blocks records)
       second_answer left =
           let n = as_many shape x records stand in
           let some : finite.len records + finite.len records < shape.blocks = grind (arith, nat_tests, left, n.0, n.1, at_most shape x records stand) in
@@ -119,7 +119,7 @@ module _ (shape : RecordShape) (id rank content : ℕ) (is : IsId id) (fits : co
           ap (λ o. put_answer o (is_used_up shape with_rank)) (stand.held.index rank id lt ∙ ap (data_at_rank rank) nothing)
           ∙ ap (put_answer None) (last_block (finite.len with_rank.ranks + finite.len with_rank.index) (finite.len records) shape.blocks
           (omega (arith, longer, n.0, n.1)) some)
-          ∙ sym (ap (λ o. put_answer o (is_full shape.blocks records)) (absent records stand))
+          ∙ sym (ap (λ o. put_answer o (is_store_full shape.blocks records)) (absent records stand))
 
       -- what is left
       new_held : HoldRecords (record { ranks = finite.insert stand.trees.ranks id rank; index = finite.insert stand.trees.index key content })
@@ -129,7 +129,7 @@ module _ (shape : RecordShape) (id rank content : ℕ) (is : IsId id) (fits : co
           (λ r ne. stand.held.index r id lt ∙ ap (data_at_rank r) nothing)
 
     answers : (put : Put) → Both put → (records : Records) → Stands shape x records
-        → put ≡ put_answer (rank_in (finite.get records id)) (is_full shape.blocks records)
+        → put ≡ put_answer (rank_in (finite.get records id)) (is_store_full shape.blocks records)
     answers put t records stand =
         let k = t.at stand.trees stand.parts in
         let was = first_was records stand k.2.1.0 in
@@ -159,8 +159,8 @@ module _ (shape : RecordShape) (id rank content : ℕ) (is : IsId id) (fits : co
 
   -- a record that had a rank is answered with it
   old_answer : (records : Records) (was : ℕ) → rank_in (finite.get records id) ≡ Some was
-      → Old was ≡ put_answer (rank_in (finite.get records id)) (is_full shape.blocks records)
-  old_answer records was known = sym (ap (λ o. put_answer o (is_full shape.blocks records)) known)
+      → Old was ≡ put_answer (rank_in (finite.get records id)) (is_store_full shape.blocks records)
+  old_answer records was known = sym (ap (λ o. put_answer o (is_store_full shape.blocks records)) known)
 
   -- its data alone was written
   pub data_set : OfModel (Stands shape) (λ records. rank_in (finite.get records id) ≡ Some rank) x → (put : Put)

@@ -5,13 +5,13 @@ use Rattle.std.specs.Cmp.{nat_cmp_total}
 use Rattle.std.specs.FinSet as set
 use Rattle.std.specs.FinMap as finite
 use Rattle.std.specs.FinMap.{nat_cmp-IsAntisymmetric}
-use Rattle.record_text.specs.Records.{Records, blocks_of, is_full}
+use Rattle.record_text.specs.Records.{Records, blocks_of, is_store_full}
 use Rattle.record_text.specs.Laws.{data_at_rank}
 use Rattle.txn_tree_map.proofs.Maps as trees
 use Rattle.txn_records.specs.declared.shape.RecordShape.{RecordShape}
 use Rattle.txn_records.specs.declared.layout.Order.TheVariants.{ById, ByRank}
 use Rattle.txn_records.specs.Layout.{tree_of, index_key_of}
-use Rattle.txn_records.specs.Standing.{Trees, HoldRecords, AreInRange, Stands, rank_in}
+use Rattle.txn_records.specs.Standing.{Trees, HoldRecords, RecordsAreInRange, Stands, rank_in}
 use Rattle.txn_records.proofs.Held.{id_below, some_record, no_record, data_here}
 use Rattle.txn_records.proofs.Lengths.{lengths}
 use Rattle.txn_records.proofs.Sides.{trees_counted}
@@ -23,7 +23,7 @@ with_rank rank (Some x) = Some (rank, x)
 
 -- trees that hold the same hold the same records
 module _ (mine theirs : Trees) (records others : Records) (held : HoldRecords mine records) (holds : HoldRecords theirs others)
-    (range : AreInRange records) (ranks : mine.ranks ≡ theirs.ranks) (index : mine.index ≡ theirs.index) where
+    (range : RecordsAreInRange records) (ranks : mine.ranks ≡ theirs.ranks) (index : mine.index ≡ theirs.index) where
   same_rank : (id : ℕ) → rank_in (finite.get records id) ≡ rank_in (finite.get others id)
   same_rank id = sym (held.ranks id) ∙ ap (λ m. finite.get m id) ranks ∙ holds.ranks id
 
@@ -55,7 +55,7 @@ free_counted shape words records stand =
     omega (arith, lens.0, lens.1, trees_counted shape words stand.trees stand.parts)
 
 pub full_without_two : (shape : RecordShape) (words : List ℕ) (records : Records) (stand : Stands shape words records)
-    → (set.len stand.parts.free < 2) ↔ (is_full shape.blocks records ≡ true)
+    → (set.len stand.parts.free < 2) ↔ (is_store_full shape.blocks records ≡ true)
 full_without_two shape words records stand =
     let all = free_counted shape words records stand in
     (λ few. grind (arith, nat_tests, few, all), λ full. grind (arith, nat_tests, full, all))

@@ -51,8 +51,8 @@ pub record HoldRecords (trees : Trees) (records : Records) : Type 0 where
       → finite.get trees.index (index_key_of rank id) ≡ data_at_rank rank (finite.get records id)
 
 -- the numbers of each record are in range
-abbrev pub AreInRange : Records → Type 0
-AreInRange records = (id rank content : ℕ) → finite.get records id ≡ Some (rank, content)
+abbrev pub RecordsAreInRange : Records → Type 0
+RecordsAreInRange records = (id rank content : ℕ) → finite.get records id ≡ Some (rank, content)
     → IsId id × IsRank rank × (content ≤ GREATEST_DATA)
 
 -- the words stand for these records, whose numbers are in range
@@ -60,7 +60,7 @@ pub record Stands (shape : RecordShape) (words : List ℕ) (records : Records) :
   pub trees : Trees
   pub parts : HasTrees shape words trees
   pub held : HoldRecords trees records
-  pub range : AreInRange records
+  pub range : RecordsAreInRange records
 
 -- the words stand for some records
 abbrev pub IsGoodFor : RecordShape → List ℕ → Type 0

@@ -1,13 +1,13 @@
-//! What follows where words stand for records, each law the contract of a function that does nothing.
+//! What follows if words stand for records, each law the contract of a function that does nothing.
 
 ghost use Rattle.std.specs.Prelude.{◌≡◌};
-ghost use Rattle.txn_records.specs.Statements.{OneMap, FreeBlocksCounted, FullWithoutTwo};
+ghost use Rattle.txn_records.specs.Statements.{OneRecordMap, FreeBlocksCounted, FullWithoutTwo};
 
 use crate::layout::{BLOCKS_AT, HEADS_AT, ID_ROOT, INDEX_ROOT, RANK_STEP};
 
 /// A list of words stands for one map of records at most.
 pub fn one_map()
-    ensures { OneMap }
+    ensures { OneRecordMap }
 {}
 
 /// The free blocks and two for each record are all blocks.
@@ -15,7 +15,7 @@ pub fn free_blocks_counted()
     ensures { FreeBlocksCounted }
 {}
 
-/// There are no two free blocks exactly where the store is full.
+/// There are no two free blocks exactly if the store is full.
 pub fn full_without_two()
     ensures { FullWithoutTwo }
 {}

@@ -9,7 +9,7 @@ ghost use Rattle.record_text.specs.declared.script.RecordOp.{RecordOp};
 ghost use Rattle.record_text.specs.Ranges.{IsId, IsRank};
 ghost use Rattle.txn_words.specs.Calls.{IsReady, GoesOn, InEachState, LeadsTo};
 ghost use Rattle.txn_records.specs.Standing.{IsGoodFor};
-ghost use Rattle.txn_records.specs.Operating.{Steps};
+ghost use Rattle.txn_records.specs.Operating.{MeetsStep};
 ghost use Rattle.txn_stores.specs.Standing.{HandsOn, UnlessFull};
 
 use crate::listing::ids_from;
@@ -35,7 +35,7 @@ pub(crate) fn put<W: Words>(
     requires rank { IsRank rank }
     requires content { content ≤ GREATEST_DATA }
     ensures step { IfOk result (λ outcome. LeadsTo W.Words W.Shape.Shape w.old w.new
-        (Steps shape.now (RecordOp.Put id rank content) outcome)) }
+        (MeetsStep shape.now (RecordOp.Put id rank content) outcome)) }
     ensures stands { IfOk result (λ outcome. UnlessFull outcome
         (InEachState W.Words W.Shape.Shape w.new (IsGoodFor shape.now))) }
     ensures hands_on { HandsOn W.Words w.old w.new result }
@@ -56,7 +56,7 @@ pub(crate) fn remove<W: Words>(
     requires ready { IsReady W.Words w.old }
     requires stands { InEachState W.Words W.Shape.Shape w.old (IsGoodFor shape.now) }
     ensures step { IfOk result (λ outcome. LeadsTo W.Words W.Shape.Shape w.old w.new
-        (Steps shape.now (RecordOp.Remove id) outcome)) }
+        (MeetsStep shape.now (RecordOp.Remove id) outcome)) }
     ensures stands { IfOk result (λ outcome. UnlessFull outcome
         (InEachState W.Words W.Shape.Shape w.new (IsGoodFor shape.now))) }
     ensures hands_on { HandsOn W.Words w.old w.new result }
@@ -77,7 +77,7 @@ pub(crate) fn find<W: Words>(
     requires ready { IsReady W.Words w.old }
     requires stands { InEachState W.Words W.Shape.Shape w.old (IsGoodFor shape.now) }
     ensures step { IfOk result (λ outcome. LeadsTo W.Words W.Shape.Shape w.old w.new
-        (Steps shape.now (RecordOp.Find id) outcome)) }
+        (MeetsStep shape.now (RecordOp.Find id) outcome)) }
     ensures stands { IfOk result (λ outcome. UnlessFull outcome
         (InEachState W.Words W.Shape.Shape w.new (IsGoodFor shape.now))) }
     ensures hands_on { HandsOn W.Words w.old w.new result }
@@ -99,7 +99,7 @@ pub(crate) fn list<W: Words>(
     requires ready { IsReady W.Words w.old }
     requires stands { InEachState W.Words W.Shape.Shape w.old (IsGoodFor shape.now) }
     ensures step { IfOk result (λ outcome. LeadsTo W.Words W.Shape.Shape w.old w.new
-        (Steps shape.now (RecordOp.Ranked rank most) outcome)) }
+        (MeetsStep shape.now (RecordOp.Ranked rank most) outcome)) }
     ensures stands { IfOk result (λ outcome. UnlessFull outcome
         (InEachState W.Words W.Shape.Shape w.new (IsGoodFor shape.now))) }
     ensures hands_on { HandsOn W.Words w.old w.new result }

@@ -8,7 +8,7 @@ ghost use Rattle.record_text.specs.Ranges.{IsId, IsRank};
 ghost use Rattle.txn_words.specs.Access.{OfModel, Tells, TellsAndChanges};
 ghost use Rattle.txn_words.specs.Calls.{IsReady, GoesOn, InEachState, LeadsTo};
 ghost use Rattle.txn_records.specs.Standing.{HasSomeTrees, HasTrees, IsGoodFor, Stands, rank_in};
-ghost use Rattle.txn_records.specs.Access.{PutsRecord, UnlessFull};
+ghost use Rattle.txn_records.specs.Access.{PutsRecord, UnlessNoRoom};
 
 use crate::layout::{Order, index_key};
 use crate::shape::RecordShape;
@@ -115,7 +115,7 @@ fn put_new<W: Words>(
         (OfModel (Stands shape.now) (λ records. rank_in (finite.get records id) ≡ None)) }
     ensures put { IfOk result (λ put. LeadsTo W.Words W.Shape.Shape w.old w.new
         (PutsRecord shape.now id rank content put)) }
-    ensures stands { IfOk result (λ put. UnlessFull put
+    ensures stands { IfOk result (λ put. UnlessNoRoom put
         (InEachState W.Words W.Shape.Shape w.new (IsGoodFor shape.now))) }
     ensures goes_on { GoesOn W.Words w.old w.new result }
 {
@@ -183,7 +183,7 @@ fn change_rank<W: Words>(
 /// is new, and no two blocks are left for it; the words stand for nothing then, and whoever asked undoes what was
 /// written.
 ///
-/// Where the rank stays, only the data is written.
+/// If the rank stays, only the data is written.
 pub fn put_record<W: Words>(
     w: &mut W,
     shape: &RecordShape,
@@ -198,7 +198,7 @@ pub fn put_record<W: Words>(
     requires content { content ≤ GREATEST_DATA }
     ensures put { IfOk result (λ put. LeadsTo W.Words W.Shape.Shape w.old w.new
         (PutsRecord shape.now id rank content put)) }
-    ensures stands { IfOk result (λ put. UnlessFull put
+    ensures stands { IfOk result (λ put. UnlessNoRoom put
         (InEachState W.Words W.Shape.Shape w.new (IsGoodFor shape.now))) }
     ensures goes_on { GoesOn W.Words w.old w.new result }
 {

@@ -12,7 +12,7 @@ use txn_stores::{Outcome, Store};
 use txn_words::{Stop, Words};
 
 impl Store for RecordShape {
-    ghost use Rattle.record_text.specs.Interpreter.{step_of};
+    ghost use Rattle.record_text.specs.Interpreter.{record_step_of};
     ghost use Rattle.record_text.specs.Output.{record_store};
     ghost use Rattle.record_text.specs.Ranges.{IsRecordOp, IsRecordScript};
     ghost use Rattle.record_text.specs.Records.{Records};
@@ -28,7 +28,7 @@ impl Store for RecordShape {
 
     ghost stands = { Stands };
 
-    ghost step = { λ shape. step_of shape.blocks };
+    ghost step = { λ shape. record_step_of shape.blocks };
 
     ghost is_operation = { λ _ op. IsRecordOp op };
 

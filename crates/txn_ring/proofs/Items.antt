@@ -37,7 +37,7 @@ module _ (ring : Ring) where
   pub second_own : (p : ℕ) → p < ring.capacity → IsOwn ring (place_at ring p + 1)
   second_own p lt = record { low = omega arith; high = omega arith }
 
-  -- the same items where the ring's words stay
+  -- the same items if the ring's words stay
   pub queue_stands : (s t : List ℕ) (items : List (ℕ × ℕ)) → QueueHolds ring s items → length t ≡ length s
       → ((a : ℕ) → IsOwn ring a → slice_get t a ≡ slice_get s a) → QueueHolds ring t items
   queue_stands s t items h long same = record {

@@ -61,13 +61,13 @@ module _ (ring : Ring) (n : ℕ) (G : List ℕ → Type 0) (t : Trace) where
         at s [] z h = h
         at s (x ∷ items) z h = absurd (omega (arith, z))
 
-    -- where there was room, not every state was full
+    -- if there was room, not every state was full
     pub not_full : {A : Type 0} (w : Trace) → Begins u w → SomeFits n G w → count ≢ ring.capacity → Leads n G t w (λ before after. IsFull ring before) → A
     not_full w begins some ne full =
         let k : IsFull ring (after t some.0) = full.at some.0 some.1 in
         absurd (ne (sym (is_count some.0 (fits_begins n G u w some.0 begins some.1) k.0 k.1) ∙ k.2))
 
-    -- where an item was there, not every state was empty
+    -- if an item was there, not every state was empty
     pub not_empty : {A : Type 0} (w : Trace) → Begins u w → SomeFits n G w → count ≢ 0 → Leads n G t w (λ before after. IsEmpty ring before) → A
     not_empty w begins some ne empty =
         absurd (ne (sym (is_count some.0 (fits_begins n G u w some.0 begins some.1) [] (empty.at some.0 some.1))))

@@ -27,7 +27,7 @@ impl Ring {
         ensures pushed { IfOk result (λ answer.
             LeadsTo W.Words W.Shape.Shape w.old w.new (Pushes self.now item answer)) }
 
-        // It answers false exactly where in every state the queue holds its capacity.
+        // It answers false exactly if in every state the queue holds its capacity.
         ensures full { IfOk result (λ answer. answer ≡ false →
             LeadsTo W.Words W.Shape.Shape w.old w.new (λ before _. IsFull self.now before)) }
         ensures full_if { IfOk result (λ answer.
@@ -71,7 +71,7 @@ impl Ring {
         ensures popped { IfOk result (λ answer.
             LeadsTo W.Words W.Shape.Shape w.old w.new (Pops self.now answer)) }
 
-        // It answers None exactly where in every state the queue holds no item.
+        // It answers None exactly if in every state the queue holds no item.
         ensures none { IfOk result (λ answer.
             IfNone answer
             (LeadsTo W.Words W.Shape.Shape w.old w.new (λ before _. IsEmpty self.now before))) }

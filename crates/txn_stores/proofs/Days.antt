@@ -4,21 +4,23 @@ use Rattle.std.specs.List.{zip}
 use Rattle.std.proofs.Math.ListN.{get_or-map}
 use Rattle.std.proofs.lemmas.List.{length-map}
 use Rattle.std.proofs.lemmas.List.Elements.{All-map}
+use Rattle.script_reader.specs.Gathered.{script_at}
 use mathlib.Core.List.{map-map}
 use Rattle.history_model.specs.Histories.{replay}
 use Rattle.word_table.specs.Closing.{ClosedView}
 use Rattle.txn_commit.specs.declared.lists.Done.{Done}
 use Rattle.txn_commit.specs.Lists.{AreOnceInOrder, HaveRecords}
-use Rattle.txn_commit.specs.Ordered.{answers_down, state_down, IsRunInOrder, IsStep}
+use Rattle.txn_commit.proofs.Orders.Interpreters.{answers_down, state_down, IsInterpreterStep}
+use Rattle.txn_commit.specs.Ordered.{IsRunInOrder}
 use Rattle.txn_commit.proofs.Orders.Stores.{all_answers, at_the_end, runs_to}
-use Rattle.script_reader.specs.Journal.{Place}
+use Rattle.script_reader.specs.Journal.{Place, IsJournalOf, IsPlaceOf}
 use Rattle.books_report.specs.declared.line.Line.{Line}
 use Rattle.books_report.specs.declared.stores.reply.StoreReply.{StoreReply}
-use Rattle.books_report.specs.Lines.{place_of_line}
+use Rattle.books_report.specs.Lines.{place_of_line, ran_of_line, scripts_of}
 use Rattle.books_report.specs.Stores.Interpreter.{Step, run_from}
-use Rattle.books_report.specs.Stores.Lines.{ran_of_line, scripts_of}
-use Rattle.books_report.specs.Stores.Output.{outcome_at, places_run, replies_of, script_at, state_after, state_left, text_of}
-use Rattle.books_report.specs.Stores.Output.{AreRun, IsJournalOf, IsOutputOf, IsPlaceOf, RanOf, StoreOf}
+use Rattle.books_report.specs.Journals.{places_run, RanOf}
+use Rattle.books_report.specs.Stores.Output.{outcome_at, replies_of, state_after, state_left, text_of}
+use Rattle.books_report.specs.Stores.Output.{AreRun, IsOutputOf, StoreOf}
 use Rattle.txn_stores.specs.Days.{IsDay}
 use Rattle.txn_stores.specs.Journals.{line_of_done, place_of_done, places_of_done, script_count, scripts_done}
 use Rattle.txn_stores.specs.Standing.{is_done, ScriptMeans}
@@ -38,7 +40,7 @@ side_by_side join f g (x ∷ xs) = ap (λ l. join (f x) (g x) ∷ l) (side_by_si
 module _ {O V X S : Type 0} (store : StoreOf O V X) (stands : S → List ℕ → X → Type 0) where
   -- what a script of the input means on words of this shape
   abbrev pub means_on : (S → O → X → Step V X) → S → ℕ → ℕ → List ℕ → Bool → StoreReply V → List ℕ → Type 0
-  means_on step shape c i = ScriptMeans (stands shape) (step shape) (script_at store c i)
+  means_on step shape c i = ScriptMeans (stands shape) (step shape) (script_at store.callers c i)
 
   -- the interpreter's reply at a place, and what it leaves
   abbrev reply_at : ℕ → ℕ → X → StoreReply V
@@ -48,13 +50,14 @@ module _ {O V X S : Type 0} (store : StoreOf O V X) (stands : S → List ℕ →
   left_at c i x = (outcome_at store x (record { caller = c; index = i })).1
 
   -- a script's meaning is one step of it
-  is_step : (step : S → O → X → Step V X) (shape : S) → store.step ≡ step shape → IsStep (means_on step shape) (stands shape) reply_at left_at
-  is_step step shape same = subst (λ f. IsStep (λ c i. ScriptMeans (stands shape) f (script_at store c i)) (stands shape) reply_at left_at) same
+  is_step : (step : S → O → X → Step V X) (shape : S) → store.step ≡ step shape → IsInterpreterStep (means_on step shape) (stands shape) reply_at left_at
+  is_step step shape same = subst
+      (λ f. IsInterpreterStep (λ c i. ScriptMeans (stands shape) f (script_at store.callers c i)) (stands shape) reply_at left_at) same
       (record {
         replies = λ c i s t kept answer x m stand. m.replies x stand;
         keeps = λ c i s t kept answer x m stand is. m.leaves is x stand;
         reverts = λ c i s t kept answer x m stand is.
-            run_stays x (run_from store.step 1 (script_at store c i) x) (sym (ap is_done (m.replies x stand)) ∙ sym m.kept_where_done ∙ is);
+            run_stays x (run_from store.step 1 (script_at store.callers c i) x) (sym (ap is_done (m.replies x stand)) ∙ sym m.kept_where_done ∙ is);
       })
 
   -- replies and states down jobs are those down their places
@@ -114,13 +117,13 @@ module _ {O V X S : Type 0} (store : StoreOf O V X) (stands : S → List ℕ →
   -- what is printed of a day
   module _ (closed : ClosedView S) (done : List (Done (StoreReply V))) (day : IsDay store stands closed done) where
     places_printed : places_run (scripts_done done) ≡ places_of_done done
-    places_printed = map-map (λ (ran : RanOf V). ran.place) _ done
+    places_printed = map-map (λ (ran : RanOf (StoreReply V)). ran.place) _ done
 
     are_run : AreRun store closed.seats (scripts_done done)
     are_run = record {
       journal = subst (λ l. IsJournalOf store.callers l) (sym places_printed) day.journal;
-      below = All-map (λ (ran : RanOf V). ran.restarts < closed.seats) _ done day.below;
-      replies = map-map (λ (ran : RanOf V). ran.reply) _ done ∙ day.replies ∙ ap (replies_of store store.begins) (sym places_printed);
+      below = All-map (λ (ran : RanOf (StoreReply V)). ran.restarts < closed.seats) _ done day.below;
+      replies = map-map (λ (ran : RanOf (StoreReply V)). ran.reply) _ done ∙ day.replies ∙ ap (replies_of store store.begins) (sym places_printed);
     }
 
     pub output_is : (text : List ℕ) → text ≡ text_of store (scripts_done done) (store.closing (state_left store (scripts_done done)))
@@ -142,7 +145,7 @@ module _ {O V X S : Type 0} (store : StoreOf O V X) (stands : S → List ℕ →
       pub left_printed : (words : List ℕ) (shape : S) → closed.shape ≡ shape → words ≡ closed.words
           → stands shape words (state_left store (scripts_of lines replies))
       left_printed words shape shape_is words_are =
-          subst (λ (l : List (RanOf V)). stands shape words (state_left store l)) (sym scripts_are)
+          subst (λ (l : List (RanOf (StoreReply V))). stands shape words (state_left store l)) (sym scripts_are)
           (subst (λ (l : List Place). stands shape words (state_after store store.begins l)) (sym places_printed)
           (subst (λ (s : S). stands s words (state_after store store.begins (places_of_done done))) shape_is
           (subst (λ (w : List ℕ). stands closed.shape w (state_after store store.begins (places_of_done done))) (sym words_are) day.left)))

@@ -44,7 +44,7 @@ module _ (len n : ℕ) (items first laid order : List ℕ) (made : Arena) (long 
       (subst (λ bs. KeepsOthers (IsWrittenByLaying made bs) first laid) order_is kept))
       (subst (λ a. FreeListsHold a laid (set.from_list blocks)) arena_is (subst (λ bs. FreeListsHold made laid (set.from_list bs)) order_is free)))
 
--- where its root is 0, a tree holds nothing
+-- if its root is 0, a tree holds nothing
 pub no_tree : (map : TreeMap) (words : List ℕ) → IsLaid map words → slice_get words map.root ≡ Some 0 → TreeHolds map words finite.empty set.empty
 no_tree map words laid zero_root = record {
   laid = laid;

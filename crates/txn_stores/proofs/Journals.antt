@@ -13,8 +13,7 @@ use Rattle.txn_commit.specs.Lists.{indexes_of, AreOnceInOrder}
 use Rattle.txn_commit.proofs.Orders.Once.{later_index, pairs_map}
 use Rattle.word_table.proofs.Joined.Counting.{in_filter}
 use Rattle.script_reader.specs.Gathered.{count_scripts, CallerOf}
-use Rattle.script_reader.specs.Journal.{Place}
-use Rattle.books_report.specs.Stores.Output.{IsJournalOf, IsPlaceOf}
+use Rattle.script_reader.specs.Journal.{Place, IsJournalOf, IsPlaceOf}
 use Rattle.txn_stores.specs.Journals.{place_of_done, script_count}
 use Rattle.txn_stores.specs.Statements.{JobsAreJournal, JobsCounted}
 use Rattle.txn_stores.proofs.Ranges.{in_range, range_once}

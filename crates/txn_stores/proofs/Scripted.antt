@@ -16,7 +16,7 @@ use Rattle.books_report.specs.Stores.Interpreter.{Run, Step, outcome_from, outco
 use Rattle.books_report.specs.Stores.Interpreter.Run.{Ends, Stops}
 use Rattle.books_report.specs.Stores.Steps.{run_with, step_with}
 use Rattle.books_report.proofs.AnyStore.Runs.{after_values, after_values-none, ends, goes_on, is_absent, is_full}
-use Rattle.txn_stores.specs.Standing.{is_done, IsLeft, ScriptMeans, StandsForSome, Steps}
+use Rattle.txn_stores.specs.Standing.{is_done, IsLeft, ScriptMeans, StandsForSome, MeetsStep}
 use Rattle.txn_stores.specs.Inner.Scripts.{IfDone, Runs}
 use Rattle.txn_stores.proofs.Turning.{Leads, Turns, leads_less}
 
@@ -39,10 +39,10 @@ module _ {O V X : Type 0} (stands : List ℕ → X → Type 0) (step : O → X �
     }
 
     module _ {u v w : W} {o : O} {come : Outcome V} (kept : words.shape w ≡ words.shape v) (begins : Begins (words.trace v) (words.trace w))
-        (steps : LeadsTo words shapes v w (Steps stands step o come)) (values : List V) (number : ℕ) (ops rest : List O) (next : ops ≡ o ∷ rest)
+        (steps : LeadsTo words shapes v w (MeetsStep stands step o come)) (values : List V) (number : ℕ) (ops rest : List O) (next : ops ≡ o ∷ rest)
         (before : Leads words shapes u v (Turns stands (SoFar script values number ops))) where
       -- one operation more
-      stepped : LeadsTo words shapes u w (λ x z. (y : List ℕ) × Turns stands (SoFar script values number ops) x y × Steps stands step o come y z)
+      stepped : LeadsTo words shapes u w (λ x z. (y : List ℕ) × Turns stands (SoFar script values number ops) x y × MeetsStep stands step o come y z)
       stepped = leads_then words shapes u v w _ _ before.kept begins before.leads steps
 
       -- it gives a value

@@ -16,7 +16,7 @@ use Rattle.txn_alloc.specs.declared.put.Put.{Put}
 use Rattle.txn_alloc.specs.declared.put.Put.TheVariants.{Full}
 use Rattle.txn_alloc.specs.EntryMaps.{Part, IsOwn, Inserts, LacksRoom, Removes}
 
--- from state to state: what an insert did, why it found no room where it did not, and that other words stay
+-- from state to state: what an insert did, why it found no room if it did not, and that other words stay
 pub record IsPut (part : Part) (key x : ℕ) (put : Put) (old new : List ℕ) : Type 0 where
   pub inserts : Inserts part key x put old new
   pub full : put ≡ Full → LacksRoom part key old
@@ -227,7 +227,7 @@ module _ {W S O Model : Type 0} {words : AnyWords W S O} {shapes : Shapes S} {st
             means _ model stand (k.saw model (subst (λ z. stands z model) k.same stand));
       })
 
-  -- what holds of each model for which the words stand after changes, where they stand for one at most
+  -- what holds of each model for which the words stand after changes, if they stand for one at most
   pub each_turned : {u w : W} {R : Model → Model → Type 0} {Q : Model → Type 0}
       → ((y : List ℕ) (a b : Model) → stands y a → stands y b → a ≡ b) → Leads words shapes u w (Turns stands R)
       → InEachState words shapes u (StandsForSome stands) → ((model last : Model) → R model last → Q last) → InEachState words shapes w (OfModel stands Q)

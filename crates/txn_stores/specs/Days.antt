@@ -9,7 +9,8 @@ use Rattle.txn_commit.specs.declared.lists.Done.{Done}
 use Rattle.txn_commit.specs.Lists.{IsEntryOf}
 use Rattle.txn_commit.specs.Ordered.{spot_of, IsRebuilt}
 use Rattle.books_report.specs.declared.stores.reply.StoreReply.{StoreReply}
-use Rattle.books_report.specs.Stores.Output.{IsJournalOf, StoreOf, replies_of, state_after}
+use Rattle.script_reader.specs.Journal.{IsJournalOf}
+use Rattle.books_report.specs.Stores.Output.{StoreOf, replies_of, state_after}
 use Rattle.txn_stores.specs.Journals.{places_of_done}
 
 -- a day of a store, over a table that is closed and whose words stand for its states: its items, in the order that is

@@ -5,7 +5,7 @@ use Rattle.script_reader.specs.Gathered.{CallerOf, caller_at}
 use Rattle.script_reader.specs.Journal.{Place}
 use Rattle.books_report.specs.declared.line.Line.{Line}
 use Rattle.books_report.specs.declared.stores.reply.StoreReply.{StoreReply}
-use Rattle.books_report.specs.Stores.Output.{RanOf}
+use Rattle.books_report.specs.Journals.{RanOf}
 
 -- the place of the script that was run
 abbrev pub place_of_done : {A : Type 0} → Done A → Place
@@ -20,7 +20,7 @@ abbrev pub line_of_done : {A : Type 0} → Done A → Line
 line_of_done item = record { caller = item.caller; index = item.index; restarts = item.restarts }
 
 -- the items as they are printed
-abbrev pub scripts_done : {V : Type 0} → List (Done (StoreReply V)) → List (RanOf V)
+abbrev pub scripts_done : {V : Type 0} → List (Done (StoreReply V)) → List (RanOf (StoreReply V))
 scripts_done done =
     map (λ item. record { place = place_of_done item; restarts = item.restarts; reply = item.reply }) done
 

@@ -37,7 +37,7 @@ module _ {O V X : Type 0} (stands : List ℕ → X → Type 0) (step : O → X �
   IsLeft words outcome.Full before after = Unit {0}
 
   -- from words to words: the outcome is the interpreter's, and the words then stand for the state that its step leaves
-  pub record Steps (o : O) (come : Outcome V) (old new : List ℕ) : Type 0 where
+  pub record MeetsStep (o : O) (come : Outcome V) (old new : List ℕ) : Type 0 where
     pub comes : (before : X) → stands old before
         → (after : X) × (step o before ≡ step_with come after) × IsLeft new come before after
 
@@ -55,7 +55,7 @@ pub record ScriptOn (S O : Type 0) : Type 0 where
   pub tag : ℕ
 
 -- what a call on words leaves that may find no memory of its own: it goes on to the end unless the words stop, and
--- yields exactly where they do
+-- yields exactly if they do
 pub record HandsOn {W S O A : Type 0} (words : AnyWords W S O) (old new : W) (result : Result A Stop) : Type 0 where
   pub shape : words.shape new ≡ words.shape old
   pub origin : words.origin new ≡ words.origin old

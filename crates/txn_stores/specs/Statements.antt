@@ -3,7 +3,7 @@ use Rattle.std.specs.Prelude.{◌≡◌, List, length}
 use Rattle.txn_commit.specs.declared.lists.Done.{Done}
 use Rattle.txn_commit.specs.Lists.{jobs_of_first, AreOnceInOrder}
 use Rattle.script_reader.specs.Gathered.{CallerOf, count_scripts}
-use Rattle.books_report.specs.Stores.Output.{IsJournalOf}
+use Rattle.script_reader.specs.Journal.{IsJournalOf}
 use Rattle.txn_stores.specs.Journals.{places_of_done, script_count}
 
 -- jobs of which each caller's were run once and in their order are a journal of the callers' scripts

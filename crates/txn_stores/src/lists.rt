@@ -1,6 +1,7 @@
 //! The scripts of an input as lists of jobs, one list for each caller.
 
 ghost use Rattle.std.specs.Prelude.{◌≡◌, ◌*◌, ◌+◌, length};
+ghost use Rattle.script_reader.specs.Gathered.{script_at};
 ghost use Rattle.script_reader.specs.declared.limits.TheConstants.{MOST_SCRIPTS};
 
 use crate::job::StoreJob;
@@ -34,7 +35,6 @@ fn tag_of(caller: u32, index: u32) -> u64
 
 impl<'a, S: Store, G: Gate> Lists for StoreLists<'a, S, G> {
     ghost use Rattle.std.specs.Prelude.{length};
-    ghost use Rattle.books_report.specs.Stores.Output.{script_at};
     ghost use Rattle.txn_stores.specs.Journals.{script_count};
     ghost use Rattle.txn_stores.specs.Standing.{ScriptMeans};
 
@@ -49,7 +49,7 @@ impl<'a, S: Store, G: Gate> Lists for StoreLists<'a, S, G> {
     ghost jobs = { λ lists c. script_count (S.told lists.input.now).callers c };
 
     ghost means = { λ lists c i. ScriptMeans (S.stands lists.shape) (S.step lists.shape)
-        (script_at (S.told lists.input.now) c i) };
+        (script_at (S.told lists.input.now).callers c i) };
 
     fn shape(&self) -> S {
         self.shape

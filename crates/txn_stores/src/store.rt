@@ -5,14 +5,14 @@ ghost use Rattle.history_model.specs.Fitting.{IsGood};
 ghost use Rattle.word_table.specs.declared.limits.TheConstants.{MOST_WORDS};
 ghost use Rattle.books_model.specs.declared.limits.TheConstants.{MOST_OPERATIONS};
 ghost use Rattle.script_reader.specs.declared.limits.TheConstants.{MOST_SCRIPTS};
-ghost use Rattle.script_reader.specs.Gathered.{count_scripts};
-ghost use Rattle.books_report.specs.Lines.{place_of_line};
+ghost use Rattle.script_reader.specs.Gathered.{count_scripts, script_at};
+ghost use Rattle.books_report.specs.Lines.{place_of_line, lent, scripts_of};
 ghost use Rattle.books_report.specs.Stores.Interpreter.{Step};
-ghost use Rattle.books_report.specs.Stores.Lines.{lent, scripts_of};
-ghost use Rattle.books_report.specs.Stores.Output.{script_at, state_left, text_of, IsPlaceOf, StoreOf};
+ghost use Rattle.script_reader.specs.Journal.{IsPlaceOf};
+ghost use Rattle.books_report.specs.Stores.Output.{state_left, text_of, StoreOf};
 ghost use Rattle.txn_words.specs.Calls.{InEachState, IsReady, LeadsTo};
 ghost use Rattle.txn_stores.specs.Journals.{script_count};
-ghost use Rattle.txn_stores.specs.Standing.{HandsOn, StandsForSome, Steps, UnlessFull};
+ghost use Rattle.txn_stores.specs.Standing.{HandsOn, StandsForSome, MeetsStep, UnlessFull};
 
 use books_report::Line;
 use books_report::stores::{OperationList, Outcome, StoreReply};
@@ -72,7 +72,7 @@ pub trait Store: Shape + Copy {
     fn script(input: &Self::Input, caller: u32, index: u32) -> &OperationList<Self::Op>
         requires caller { caller < length (told input.now).callers }
         requires index { index < script_count (told input.now).callers caller }
-        ensures value { result.now ≡ script_at (told input.now) caller index }
+        ensures value { result.now ≡ script_at (told input.now).callers caller index }
         ensures range { is_script (shape_of input.now) result.now };
 
     /// The words that stand for what the store begins with.
@@ -95,7 +95,7 @@ pub trait Store: Shape + Copy {
         requires stands { InEachState W.Words W.Shape.Shape w.old (StandsForSome (stands self.now)) }
         requires range { is_operation self.now op }
         ensures step { IfOk result (λ come. LeadsTo W.Words W.Shape.Shape w.old w.new
-            (Steps (stands self.now) (step self.now) op come)) }
+            (MeetsStep (stands self.now) (step self.now) op come)) }
         ensures stands { IfOk result (λ come. UnlessFull come
             (InEachState W.Words W.Shape.Shape w.new (StandsForSome (stands self.now)))) }
         ensures hands_on { HandsOn W.Words w.old w.new result };

@@ -5,9 +5,9 @@ use Rattle.std.proofs.lemmas.Option.{get_or_from_slice_get, slice_get_cases}
 use Rattle.word_table.specs.Copies.{fresh_pass, PassView}
 use Rattle.word_table.specs.Desks.{DeskView}
 use Rattle.txn_threads.specs.declared.seat.Seat.{Seat}
-use Rattle.txn_threads.specs.Clients.{HasWorked}
-use Rattle.txn_threads.specs.Passes.{IsFresh}
-use Rattle.txn_threads.specs.Inner.Seats.{AreNew, AreParts, HasEnded, HaveServed, IsPass}
+use Rattle.txn_threads.specs.Clients.{HasWorked, HaveWorkedAt}
+use Rattle.txn_threads.specs.Passes.{AreNew, IsFresh, IsPass}
+use Rattle.txn_threads.specs.Inner.Seats.{AreParts, HasEnded}
 use Rattle.txn_threads.proofs.Seating.{client_of, pass_of, client_at, pass_at}
 
 module _ {S C : Type 0} (does : DeskView S → C → C → PassView → PassView → Type 0) (desk : DeskView S)
@@ -62,8 +62,8 @@ module _ {S C : Type 0} (does : DeskView S → C → C → PassView → PassView
       (record { of_table = w.next.table_stays ∙ w.fresh.of_table; idle = w.next.idle; who_is = w.who_is }))
       (λ past. absurd (omega (arith, past.0, lt, as_new))) (slice_get_cases new k).1
 
-  pub all_served : HaveServed does desk clients left after
-  all_served =
+  pub all_worked : HaveWorkedAt does desk clients left after
+  all_worked =
       let as_many : length after ≡ length clients = ap length parts.passes_are ∙ length-map new pass_of ∙ same ∙ sym many in
       record {
         left = ap length parts.clients_are ∙ length-map new client_of ∙ same ∙ sym many;

@@ -6,8 +6,9 @@ use Rattle.std.proofs.lemmas.Option.{get_or_from_slice_get}
 use Rattle.word_table.specs.Copies.{PassView}
 use Rattle.word_table.specs.Desks.{DeskView}
 use Rattle.txn_threads.specs.declared.seat.Seat.{Seat}
-use Rattle.txn_threads.specs.Passes.{IsFresh}
-use Rattle.txn_threads.specs.Inner.Seats.{AreNew, IsReady, IsReadyFor}
+use Rattle.txn_threads.specs.Clients.{IsReadyFor}
+use Rattle.txn_threads.specs.Passes.{AreNew, IsFresh}
+use Rattle.txn_threads.specs.Inner.Seats.{IsReady}
 
 module _ {S C : Type 0} where
   -- the client of a seat, and its pass

@@ -10,7 +10,7 @@ use Rattle.values_rule.specs.Closing.{IsPlaced}
 use Rattle.word_table.specs.Closing.{AreAllPasses, ClosedView, IsCoherent, IsLegalInEachOrder}
 use Rattle.word_table.specs.Copies.{PassView}
 use Rattle.word_table.specs.Desks.{DeskView}
-use Rattle.txn_threads.specs.Inner.Seats.{IsPass}
+use Rattle.txn_threads.specs.Passes.{IsPass}
 
 module _ {S : Type 0} (desk : DeskView S) (passes : List PassView)
     (each : (k : ℕ) (d : PassView) → k < length passes → IsPass desk k (get_or passes k d)) where

@@ -4,8 +4,9 @@ ghost use Rattle.std.specs.Prelude.{◌≡◌, ◌≤◌, ◌<◌, ℕ, length, 
 ghost use Rattle.history_model.specs.Fitting.{IsGood};
 ghost use Rattle.word_table.specs.declared.limits.TheConstants.{MOST_PASSES, MOST_WORDS};
 ghost use Rattle.word_table.specs.Closing.{AreRecords, IsCoherent, IsLegalInEachOrder};
-ghost use Rattle.txn_threads.specs.Clients.{HaveWorked};
-ghost use Rattle.txn_threads.specs.Inner.Seats.{AreNew, AreParts, HasEnded, HaveServed, IsReady, IsReadyFor};
+ghost use Rattle.txn_threads.specs.Clients.{HaveWorked, HaveWorkedAt, IsReadyFor};
+ghost use Rattle.txn_threads.specs.Passes.{AreNew};
+ghost use Rattle.txn_threads.specs.Inner.Seats.{AreParts, HasEnded, IsReady};
 
 use crate::client::Client;
 use crate::seat::Seat;
@@ -101,8 +102,12 @@ fn part_all<C: Client>(
     Ok((clients, passes))
 }
 
-// Lends each client the pass of its place: the clients and the passes, when all threads have ended.
-fn serve<C: Client, R: Threads + Wait + Sync>(
+/// Lends each client the pass of its place, on a thread of its own: the clients and the passes in their order, when all
+/// threads have ended.
+///
+/// `Desk::new` gives the passes, and `Desk::close` takes them. If a client finds no memory, the others go on to their
+/// end, and all is dropped.
+pub fn lend<C: Client, R: Threads + Wait + Sync>(
     rt: &R,
     alloc: Global,
     desk: &Desk<C::Shape>,
@@ -113,8 +118,9 @@ fn serve<C: Client, R: Threads + Wait + Sync>(
     requires ready { All (IsReadyFor C.shape C.can_begin desk.now) clients.items }
     requires new { AreNew desk.now passes.items }
     requires seats { desk.now.seats ≡ length clients.items }
-    ensures { IfOk result (λ served.
-        HaveServed C.does desk.now clients.items served.0.items served.1.items) }
+    // Each client did its work with the pass of its place, and the passes are between calls.
+    ensures worked { IfOk result (λ ended.
+        HaveWorkedAt C.does desk.now clients.items ended.0.items ended.1.items) }
 {
     let mut seats = seat_all(alloc, clients, passes)?;
     work_all(rt, alloc, desk, seats.as_mut_slice());
@@ -124,7 +130,7 @@ fn serve<C: Client, R: Threads + Wait + Sync>(
 /// Opens a table over the words, lends each client a pass of its own on a thread of its own, and closes the table when
 /// all have ended.
 ///
-/// Where there is no memory for the table, or a client finds none, there is no table to be had: the other clients go on
+/// If there is no memory for the table, or a client finds none, there is no table to be had: the other clients go on
 /// to their end, and their work is lost. A client may wait for others: that a wait ends, no clause says.
 ///
 /// Three visitors, who try to enter three times each (`turnstile`):
@@ -160,7 +166,7 @@ pub fn run_clients<C: Client, R: Threads + Wait + Sync>(
         HaveWorked C.does ended.closed clients.items ended.clients.items) }
 {
     let (desk, passes) = Desk::new(alloc, shape, words, clients.len() as u32)?;
-    let (clients, passes) = serve(rt, alloc, &desk, clients, passes)?;
+    let (clients, passes) = lend(rt, alloc, &desk, clients, passes)?;
     let Ok(closed) = desk.close(alloc, passes) else {
         return Err(OutOfMemory);
     };

@@ -1,3 +1,7 @@
+-- how far a search for the first node from a key on, and a sum over keys, have come
+pub mod Summed
+-- the whole tree, around one that hangs at the end of a path
+pub mod Plugs
 -- what one word list holds: cells, trees, places in them
 pub mod Held
 -- the searches down the tree: for a key, and for the first node from a key on

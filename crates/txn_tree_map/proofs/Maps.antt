@@ -1,5 +1,6 @@
 -- The map as a whole: it is one, it stands while its words stay, and what it is after a change at a place.
-use Rattle.std.proofs.Common.{◌≡◌, ℕ, ◌+◌, ◌<◌, ◌≤◌, true, false, List, [], ◌∷◌, ◌++◌, length, slice_get, slice_set, Some, ◌⊎◌, inl, inr, refl, sym, ap, ◌∙◌, subst, arith}
+use Rattle.std.proofs.Common.{◌≡◌, ℕ, ◌+◌, ◌<◌, ◌≤◌, true, false, List, [], ◌∷◌, ◌++◌, length, slice_get, slice_set, Some, ◌⊎◌, inl, inr, refl, sym}
+use Rattle.std.proofs.Common.{ap, ◌∙◌, subst, arith}
 use mathlib.Core.Bool.{true≢false}
 use mathlib.Core.Logic.{dite}
 use native.Mathlib.Decide.{ℕ_discrete}
@@ -24,7 +25,8 @@ use Rattle.txn_alloc.proofs.Maps.Founds.{InsertsIn}
 use Rattle.txn_tree_map.specs.declared.map.TreeMap.{TreeMap}
 use Rattle.txn_tree_map.specs.Trees.{Tree, name_of, cells_of, IsRising, IsLaid, TreeHolds, tree_part}
 use Rattle.txn_tree_map.specs.Trees.Tree.{Leaf, Node}
-use Rattle.txn_tree_map.specs.Paths.{Path, plug, before_of, after_of, HangsAt}
+use Rattle.txn_tree_map.proofs.Plugs.{plug}
+use Rattle.txn_tree_map.specs.Paths.{Path, before_of, after_of, HangsAt}
 use Rattle.txn_tree_map.specs.Searches.{IsMissing}
 use Rattle.txn_tree_map.specs.Changes.{CanPut, IsPut}
 use Rattle.txn_tree_map.proofs.Held.Rising.{value_there}
@@ -42,7 +44,7 @@ one_map map s f g u w h k =
       set.same_set nat_cmp_total nat_cmp-IsAntisymmetric u w (λ q. at_used map s [] h.tree m f u h q ∙ sym (at_used map s [] h.tree m g w k q)),
     )
 
--- where the root names none, the map has no entry
+-- if the root names none, the map has no entry
 pub none_stands : (map : TreeMap) (s : List ℕ) → IsLaid map s → slice_get s map.root ≡ Some 0 → TreeHolds map s entry_map.empty set.empty
 none_stands map s laid zero = record {
   laid = laid;
@@ -54,7 +56,7 @@ none_stands map s laid zero = record {
   used_are = out_empty;
 }
 
--- where its root was cleared, and then all blocks laid free, the empty map stands beside them
+-- if its root was cleared, and then all blocks laid free, the empty map stands beside them
 module _ (map : TreeMap) (s u : List ℕ) (laid : IsLaid map s)
     (written : KeepsOthers (IsWrittenByLaying map.arena (all_blocks map.arena)) (slice_set s map.root 0) u) where
   pub empty_others : KeepsOthers (λ a. (a ≡ map.root) ⊎ IsWrittenByLaying map.arena (all_blocks map.arena) a) s u
@@ -96,7 +98,7 @@ holds_at map s path tree f u m entries used =
       used_are = λ b. used b ∙ ap (λ cs. has_block b cs) (sym (cells_plug path tree));
     }
 
--- the map stands where its root and the words of its used blocks stay
+-- the map stands if its root and the words of its used blocks stay
 pub tree_stands : (map : TreeMap) (s t : List ℕ) (f : Entries) (u : Blocks) → TreeHolds map s f u → length t ≡ length s
     → slice_get t map.root ≡ slice_get s map.root
     → ((b a : ℕ) → set.contains u b ≡ true → IsInBlock map.arena b a → slice_get t a ≡ slice_get s a) → TreeHolds map t f u
@@ -107,7 +109,7 @@ tree_stands map s t f u h e root blocks =
     ∙ times_has b (cells_of h.tree ++ []) (omega (arith, k, at_times map s [] h.tree m b))) mine))
     (at_value map s [] h.tree m f u h) (at_used map s [] h.tree m f u h)
 
--- it stands too where heads alone are written
+-- it stands too if heads alone are written
 pub at_headed : (map : TreeMap) (s t : List ℕ) (path : Path) (tree : Tree) → HangsAt map path tree s
     → KeepsOthers (IsHead map.arena) s t → HangsAt map path tree t
 at_headed map s t path tree m kept = at_stays map s t path tree m kept.count (kept.same map.root m.laid.no_head)
@@ -149,7 +151,7 @@ put_holds map key x b r t f u hold put =
     (λ ne. contains-insert_other u b d ne ∙ at_used map r none.path Leaf none.is_at f u hold d ∙ ap (λ cs. has_block d cs) put.cells
     ∙ less_block d xs ys c (λ e. ne (sym e)) ∙ ap (λ cs. has_block d cs) (sym whole)))
 
--- with the free lists beside it, where the block was in none
+-- with the free lists beside it, if the block was in none
 pub put_apart : (map : TreeMap) (key x b : ℕ) (r t : List ℕ) (f : Entries) (u v : Blocks) → HoldsApart (tree_part map) r f u v
     → set.contains v b ≡ false → IsPut map key x b r t
     → HoldsApart (tree_part map) t (entry_map.insert f key x) (set.insert u b) v
@@ -180,7 +182,7 @@ put_apart map key x b r t f u v hold lacks put =
       apart = λ d m. elim (in_or u b d m) [ inl e ↦ ap (λ q. set.contains v q) e ∙ lacks | inr k ↦ hold.apart d k ];
     }
 
--- and where it was taken out of them
+-- and if it was taken out of them
 pub inserted_new : (map : TreeMap) (key x b : ℕ) (s r t : List ℕ) (f : Entries) (u v : Blocks) → HoldsApart (tree_part map) s f u v → IsMissing map key s
     → TakesBlock map.arena b s r v → KeepsOthers (IsHead map.arena) s r → IsPut map key x b r t → InsertsIn (tree_part map) key x b t f u v
 inserted_new map key x b s r t f u v hold none taken kept put = record {

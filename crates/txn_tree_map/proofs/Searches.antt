@@ -1,3 +1,5 @@
+-- how far a search for a key has come
+pub mod Passed
 -- the steps of a search down the tree, in one word list
 pub mod SearchSteps
 -- the steps of the search for the first node from a key on, in one word list

@@ -6,7 +6,6 @@ use Rattle.txn_alloc.specs.FreeLists.{block_at}
 use Rattle.txn_alloc.specs.EntryMaps.{Cell}
 use Rattle.txn_tree_map.specs.declared.map.TreeMap.{TreeMap}
 use Rattle.txn_tree_map.specs.Trees.{Tree, priority_of, name_of, rank_of, cells_of, HasNode, IsSpelled, IsRising, IsHeap, IsLaid}
-use Rattle.txn_tree_map.specs.Trees.Tree.{Node}
 
 -- one step down from a node: to the left or not, past its cell, with the subtree on the other side
 pub record Step : Type 0 where
@@ -17,15 +16,6 @@ pub record Step : Type 0 where
 -- the steps from the root to a place, the lowest first
 abbrev pub Path : Type 0
 Path = List Step
-
--- the node of a step, with this tree on the side where the step goes
-abbrev pub whole_of : Step → Tree → Tree
-whole_of st tree = if st.left then Node tree st.cell st.other else Node st.other st.cell tree
-
--- the whole tree, where this one hangs at the end of the path
-abbrev pub plug : Path → Tree → Tree
-plug [] tree = tree
-plug (st ∷ path) tree = plug path (whole_of st tree)
 
 -- the place of the word at the end of the path
 abbrev pub place_at_end : Arena → ℕ → Path → ℕ

@@ -1,5 +1,5 @@
 -- How far a search down the tree has come, and what it found.
-use Rattle.std.specs.Prelude.{◌≡◌, ℕ, ◌+◌, ◌^◌, ◌≤◌, ◌⊎◌, true, List, ◌++◌, Some, length, slice_get}
+use Rattle.std.specs.Prelude.{◌≡◌, ℕ, ◌+◌, ◌^◌, ◌≤◌, ◌⊎◌, true, List, ◌++◌, Some, slice_get}
 use Rattle.txn_alloc.specs.FreeLists.{block_at}
 use Rattle.txn_alloc.specs.EntryMaps.{Cell, has_block}
 use Rattle.txn_tree_map.specs.declared.map.TreeMap.{TreeMap}
@@ -43,18 +43,6 @@ IsNamed map place block key words =
 -- the word at the place names none
 abbrev pub IsEnd : ℕ → List ℕ → Type 0
 IsEnd place words = slice_get words place ≡ Some 0
-
--- the search for the key has come to the place, down nodes that all reach as high as the floor,
--- and passed so many that no more than the other blocks are left below it
-pub record IsPassed (map : TreeMap) (key floor place passed : ℕ) (words : List ℕ) : Type 0 where
-  pub path : Path
-  pub rest : Tree
-  pub is_at : HangsAt map path rest words
-  pub at : place ≡ place_at_end map.arena map.root path
-  pub low : IsBelow key (before_of path)
-  pub high : IsAbove key (after_of path)
-  pub higher : IsHigh (2 ^ 64) path floor
-  pub count : passed + length (cells_of rest) ≤ map.arena.blocks
 
 -- the word at the place names the block of the key's cell
 pub record IsFoundAt (map : TreeMap) (key place block : ℕ) (words : List ℕ) : Type 0 where

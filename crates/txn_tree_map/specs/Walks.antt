@@ -24,7 +24,7 @@ pub record Keeps (node : Named) (old new : Walk) : Type 0 where
   pub whole : new.whole ≡ true → (gone ≡ []) × (old.whole ≡ true)
 
 -- the walk has come to its place: left of it all keys are below this one, and right of it from there on. It keeps the nearest of the nodes
--- at which the way went to the left, all of them where it is whole; and passed so many that no more than the other blocks are left below
+-- at which the way went to the left, all of them if it is whole; and passed so many that no more than the other blocks are left below
 pub record IsWalk (map : TreeMap) (walk : Walk) (least passed : ℕ) (words : List ℕ) : Type 0 where
   pub path : Path
   pub rest : Tree
@@ -37,7 +37,7 @@ pub record IsWalk (map : TreeMap) (walk : Walk) (least passed : ℕ) (words : Li
   pub whole : walk.whole ≡ true → dropped ≡ []
   pub count : passed + length (cells_of rest) ≤ map.arena.blocks
 
--- the walk has come to the first node from a key on, and stands right behind it; or to none, and where it is whole there is none
+-- the walk has come to the first node from a key on, and stands right behind it; or to none, and if it is whole there is none
 abbrev pub HasCome : TreeMap → Walk → ℕ → Option Named → List ℕ → Type 0
 HasCome map walk least (Some node) words =
     IsFirstFrom map least (Some node) words × IsWalk map walk (node.key + 1) 0 words

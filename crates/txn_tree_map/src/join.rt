@@ -60,7 +60,7 @@ pub(crate) fn join_one<W: Words>(w: &mut W, map: &TreeMap, gap: Gap) -> Result<G
 }
 
 /// Joins the two trees that the names head, except for the last word, which is to have the name that is answered.
-pub(crate) fn gather<W: Words>(
+pub(crate) fn join_all_but_last<W: Words>(
     w: &mut W,
     map: &TreeMap,
     hole: u64,
@@ -122,7 +122,7 @@ pub(crate) fn join<W: Words>(
         (ReadsWithin W.Words W.Shape.Shape w.old w.new (IsJoinSeen map.now hole left right)) }
     ensures goes_on { GoesOn W.Words w.old w.new result }
 {
-    let last = gather(w, map, hole, left, right)?;
+    let last = join_all_but_last(w, map, hole, left, right)?;
     w.write(last.place, last.name)?;
     Ok(())
 }

@@ -7,7 +7,7 @@ pub fn one_map()
     ensures { OneMap }
 {}
 
-/// The map stands where its root and the words of its used blocks stay.
+/// The map stands if its root and the words of its used blocks stay.
 pub fn tree_stands()
     ensures { TreeStands }
 {}

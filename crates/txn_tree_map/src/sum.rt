@@ -102,7 +102,7 @@ fn sum_along<W: Words>(
 }
 
 impl TreeMap {
-    /// The sum of the values of the keys from `low` to `high`, both included: 0 where `low` is above `high`.
+    /// The sum of the values of the keys from `low` to `high`, both included: 0 if `low` is above `high`.
     ///
     /// It walks from key to key, keeps the nearest nodes still to come in a room of fixed size on its
     /// stack, and takes no memory. A sum of `n` entries in a tree of depth `d` reads in proportion to

@@ -1,8 +1,8 @@
 //! A walk through the nodes of the tree in the order of their keys.
 //!
-//! The node next to one is the leftmost of its right subtree, or where that is empty the nearest
+//! The node next to one is the leftmost of its right subtree, or if that is empty the nearest
 //! node above it at which the way went to the left. A walk keeps the nearest such nodes in a room of
-//! fixed size. Where the room is full the farther half is dropped, and once all that are kept have
+//! fixed size. If the room is full the farther half is dropped, and once all that are kept have
 //! come, the walk begins again at the root. So between two searches from the root at least half a
 //! room of nodes comes.
 
@@ -60,7 +60,7 @@ impl Walk {
         self.whole = true;
     }
 
-    /// Makes room for one node more: where there is none, the farther half goes.
+    /// Makes room for one node more: if there is none, the farther half goes.
     fn make_room(&mut self)
         ensures place { self.new.place ≡ self.old.place }
         ensures kept { self.new.kept.items ≡ (if array_vec_len self.old.kept == KEPT

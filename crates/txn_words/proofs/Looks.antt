@@ -24,7 +24,7 @@ module _ (n : ℕ) (G : List ℕ → Type 0) (t : Trace) (IsSeen : List ℕ → 
     holds = h.at;
   }
 
-  -- one look after another, where what was seen before tells that the later one sees no more
+  -- one look after another, if what was seen before tells that the later one sees no more
   pub looks_grow : (u v : Trace) (IsNear : List ℕ → ℕ → Type 0) (P Q : List ℕ → Type 0) → ((s : List ℕ) → P s → Q s → (a : ℕ) → IsNear s a → IsSeen s a)
       → Looks n G t u IsSeen P → Looks n G u v IsNear Q → Looks n G t v IsSeen (λ s. P s × Q s)
   looks_grow u v IsNear P Q step l m = record {

@@ -30,7 +30,7 @@ pub trait Job {
     ghost shape: { Self → Self.Shape };
 
     /// What the job is to do with a good list: whether its writes are kept, its answer, and what is left of the list.
-    /// Where the writes are not kept, nothing is read off what is left.
+    /// If the writes are not kept, nothing is read off what is left.
     ghost means: { Self → List ℕ → Bool → Self.Answer → List ℕ → Type 0 };
 
     /// The job's number, for those who watch a run. Nothing else uses it.
@@ -58,7 +58,7 @@ pub trait Job {
             (W.trace w.new) s
             → Self.Shape.good (shape self.now) (after (W.trace w.new) s)) }
 
-        // It goes on to the end unless the words stop, and yields exactly where they do.
+        // It goes on to the end unless the words stop, and yields exactly if they do.
         ensures done { OnOk result (W.stop w.new ≡ None) }
         ensures yields { (result ≡ Err Stop.Yield) ↔ (W.stop w.new ≡ Some Stop.Yield) }
 
@@ -67,8 +67,8 @@ pub trait Job {
         ensures sound { W.is_sound w.new };
 }
 
-/// Some good list fits what was done so far. It does nothing: a job calls it where it relies on what good lists have in
-/// common, as where a number has to fit.
+/// Some good list fits what was done so far. It does nothing: a job calls it if it relies on what good lists have in
+/// common, as when a number has to fit.
 pub fn some_fits<W: Words>(w: &W, shape: &W::Shape)
     requires shape { W.shape w.now ≡ shape.now }
     requires sound { W.is_sound w.now }

@@ -33,7 +33,7 @@ impl Model for WordList {
 
 /// Words in a list of one's own, with the trace of all that was done to them, and an undo log.
 ///
-/// It gives way to nobody, and stops only where it is out of memory for its trace or its log. Contracts see its shape, the
+/// It gives way to nobody, and stops only if it is out of memory for its trace or its log. Contracts see its shape, the
 /// list that it was made from, the trace and the stop; the words are what the trace leaves of the list.
 #[derive(Drop)]
 pub struct Plain<S: Shape> {
@@ -190,7 +190,7 @@ fn write_back(mut undo: UndoLog, mut words: Vec<u64>) -> Vec<u64>
     words
 }
 
-// Puts the value at the place, where the list has this place.
+// Puts the value at the place, if the list has this place.
 fn set_word(words: &mut Vec<u64>, a: u64, v: u64)
     ensures { words.new.items ≡ slice_set words.old.items a v }
 {

@@ -106,7 +106,7 @@ pub trait Words {
     /// mark stays good, and one that was taken before it too. It gives way to nobody, since each of these words was
     /// written before.
     ///
-    /// A mark that was taken later than what was gone back to since names writes that went back: where the trace has as
+    /// A mark that was taken later than what was gone back to since names writes that went back: if the trace has as
     /// many, going back to it is allowed, and takes back what its number says.
     fn back_to(&mut self, m: Mark) -> Result<(), Stop>
         requires mark { m.writes ≤ count_writes (trace self.old) }

@@ -45,7 +45,7 @@ impl UndoLog {
         })
     }
 
-    /// Puts the word at place `a` with its old value at the newest end. It wants memory only where `spare` is 0,
+    /// Puts the word at place `a` with its old value at the newest end. It wants memory only if `spare` is 0,
     /// and a refusal leaves list and spare.
     pub fn note(&mut self, a: u64, old: u64) -> Result<(), OutOfMemory>
         ensures ok { OnOk result (self.new.list ≡ self.old.list ++ (a, old) ∷ []) }
@@ -77,7 +77,7 @@ impl UndoLog {
         let _ = self.entries.pop();
     }
 
-    /// The pair at place `i`, where the oldest stands at 0. It stays in the log.
+    /// The pair at place `i`; the oldest stands at 0. It stays in the log.
     pub fn at(&self, i: usize) -> (u64, u64)
         requires { i < length self.now.list }
         ensures { slice_get self.now.list i ≡ Some result }

@@ -29,7 +29,7 @@ oldest_more a (x ∷ notes) more o e = dite (ℕ_discrete a x.0)
     (λ q. rw (eq-eqb a x.0 q) (rw (eq-eqb a x.0 q) at e))
     (λ n. rw (ne_eqb a x.0 n) (oldest_more a notes more o (rw (ne_eqb a x.0 n) at e)))
 
--- and where there is none, it is that of the new ones
+-- and if there is none, it is that of the new ones
 pub oldest_first : (a : ℕ) (notes more : Notes) → oldest a notes ≡ None → oldest a (notes ++ more) ≡ oldest a more
 unfolding oldest
 oldest_first a [] more e = refl

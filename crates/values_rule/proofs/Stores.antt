@@ -8,7 +8,7 @@ use Rattle.history_model.specs.Views.{HasWriteGrant, IsGranted}
 use Rattle.history_model.proofs.SetLemmas.{differ, not_true}
 use Rattle.locks_rule.specs.Locks.{LocksHold, IsSeat}
 use Rattle.locks_rule.proofs.Own.{Own}
-use Rattle.values_rule.specs.Values.{value_at}
+use Rattle.values_rule.specs.Values.{table_value}
 
 -- a lock that one seat holds for writing no other seat holds
 pub shut_out : (n : ℕ) (base ws : List ℕ) (vs : List View) (id other j k : ℕ) (v u : View) → LocksHold n base ws vs
@@ -32,13 +32,13 @@ module _ (n : ℕ) (base ws : List ℕ) (vs : List View) (id j : ℕ) (v : View)
   pub in_base : a < length base
   in_base = subst (λ (l : List ℕ). a < length l) (h.bases_alike id j v o.seat) within
 
-  pub set_here : value_at n (slice_set ws (value_word v.seats a) x) a ≡ x
+  pub set_here : table_value n (slice_set ws (value_word v.seats a) x) a ≡ x
   set_here =
       let same : value_word v.seats a ≡ value_word n a = ap (λ (m : ℕ). value_word m a) o.seats in
       let low = in_base in
       ap (λ (i : ℕ). slice_index (slice_set ws i x) (value_word n a)) same ∙ get_or-set_same ws (value_word n a) x 0 (omega (arith, h.word_count))
 
-  pub set_there : (b : ℕ) → b ≢ a → value_at n (slice_set ws (value_word v.seats a) x) b ≡ value_at n ws b
+  pub set_there : (b : ℕ) → b ≢ a → table_value n (slice_set ws (value_word v.seats a) x) b ≡ table_value n ws b
   set_there b ne = let seats = o.seats in get_or-set_other ws (value_word v.seats a) (value_word n b) x 0 (λ e. ne (omega arith))
 
 -- what is there is not missing

@@ -7,16 +7,16 @@ use Rattle.history_model.specs.Counts.{is_attempt}
 use Rattle.history_model.specs.Locks.{lock_of_word}
 use Rattle.history_model.specs.Traces.{IsLegalTrace, Writes, Touches, value_after}
 use Rattle.history_model.specs.Views.{HasWriteGrant, IsGranted}
-use Rattle.values_rule.specs.Values.{value_at, oldest}
+use Rattle.values_rule.specs.Values.{table_value, oldest}
 use Rattle.values_rule.proofs.Notes.{oldest-nil}
 
 -- notes and values
 pub record UndoMoves (n : ℕ) (base now ws ws' : List ℕ) (v w : View) : Type 0 where
   pub noted : (a o : ℕ) → oldest a w.undo ≡ Some o → (a < length base) × HasWriteGrant w (lock_of_word a) × (slice_get now a ≡ Some o)
   pub unnoted : (a : ℕ) → a < length base → oldest a w.undo ≡ None
-      → ((oldest a v.undo ≡ None) × (value_at n ws' a ≡ value_at n ws a)) ⊎ (slice_get now a ≡ Some (value_at n ws' a))
+      → ((oldest a v.undo ≡ None) × (table_value n ws' a ≡ table_value n ws a)) ⊎ (slice_get now a ≡ Some (table_value n ws' a))
   -- a word that another seat may use stays
-  pub foreign : (a : ℕ) → a < length base → ¬ HasWriteGrant v (lock_of_word a) → value_at n ws' a ≡ value_at n ws a
+  pub foreign : (a : ℕ) → a < length base → ¬ HasWriteGrant v (lock_of_word a) → table_value n ws' a ≡ table_value n ws a
 
 -- the attempt's trace
 pub record TraceMoves (n : ℕ) (base now ws' : List ℕ) (w : View) : Type 0 where
@@ -24,7 +24,7 @@ pub record TraceMoves (n : ℕ) (base now ws' : List ℕ) (w : View) : Type 0 wh
   pub legal : is_attempt w.phase ≡ true → IsLegalTrace w.trace now
   pub undo_written : (a o : ℕ) → is_attempt w.phase ≡ true → oldest a w.undo ≡ Some o → Writes w.trace a
   pub written_noted : (a : ℕ) → w.phase ≡ Running → Writes w.trace a → IsSome (oldest a w.undo)
-  pub last_stands : (a x : ℕ) → w.phase ≡ Running → value_after w.trace a None ≡ Some x → value_at n ws' a ≡ x
+  pub last_stands : (a x : ℕ) → w.phase ≡ Running → value_after w.trace a None ≡ Some x → table_value n ws' a ≡ x
   pub rested : (w.phase ≡ Idle) ⊎ (w.phase ≡ Releasing) → w.undo ≡ []
 
 -- an attempt that did nothing yet

@@ -12,7 +12,7 @@ use Rattle.history_model.specs.Undoing.{Notes, written_back}
 use Rattle.history_model.proofs.ListPlaces.{same_list}
 use Rattle.history_model.proofs.Traces.TraceLaws.{get_set_same, get_set_other}
 use Rattle.values_rule.specs.Undone.{memory_of, undone_by}
-use Rattle.values_rule.specs.Values.{value_at, oldest}
+use Rattle.values_rule.specs.Values.{table_value, oldest}
 use Rattle.values_rule.proofs.Notes.{option_cases}
 
 length-written_back : (notes : Notes) (s : List ℕ) → length (written_back notes s) ≡ length s
@@ -43,7 +43,7 @@ unfolding undone_by
 length-undone_by [] s = refl
 length-undone_by (v ∷ vs) s = length-undone_by vs (written_back v.undo s) ∙ length-written_back v.undo s
 
--- where all notes of a word have the value x, and the word has it or is noted, it has x in the end
+-- if all notes of a word have the value x, and the word has it or is noted, it has x in the end
 settles : (vs : List View) (s : List ℕ) (a x : ℕ) → a < length s → ((id o : ℕ) (v : View) → Knows vs id v → oldest a v.undo ≡ Some o → Some x ≡ Some o)
     → (((id : ℕ) (v : View) → Knows vs id v → oldest a v.undo ≡ None) → slice_get s a ≡ Some x) → slice_get (undone_by vs s) a ≡ Some x
 unfolding undone_by
@@ -64,7 +64,7 @@ settles (v ∷ vs) s a x lt agree rest =
 -- the memory becomes a list that has the oldest value of each word that is noted, and of every other the word's value
 pub restored : (n : ℕ) (ws now : List ℕ) (vs : List View) → length (memory_of n ws) ≡ length now
     → ((id a o : ℕ) (v : View) → Knows vs id v → oldest a v.undo ≡ Some o → slice_get now a ≡ Some o)
-    → ((a : ℕ) → a < length now → ((id : ℕ) (v : View) → Knows vs id v → oldest a v.undo ≡ None) → slice_get now a ≡ Some (value_at n ws a))
+    → ((a : ℕ) → a < length now → ((id : ℕ) (v : View) → Knows vs id v → oldest a v.undo ≡ None) → slice_get now a ≡ Some (table_value n ws a))
     → undone_by vs (memory_of n ws) ≡ now
 restored n ws now vs long noted unnoted =
     let memory : List ℕ = memory_of n ws in
@@ -72,7 +72,7 @@ restored n ws now vs long noted unnoted =
     sym (same_list now (undone_by vs memory) (omega (arith, long, undone_long))
     (λ a x is.
     let lt : a < length now = slice_get_within now a x is in
-    let value : slice_get memory a ≡ Some (value_at n ws a) = slice_get-get_or memory a 0 (omega (arith, lt, long))
+    let value : slice_get memory a ≡ Some (table_value n ws a) = slice_get-get_or memory a 0 (omega (arith, lt, long))
     ∙ ap (λ (y : ℕ). Some y) (get_or-drop (value_word n 0) ws a 0 ∙ ap (λ (i : ℕ). get_or ws i 0) (shifted n a)) in
     settles vs memory a x (omega (arith, lt, long)) (λ id o v e t. sym is ∙ noted id a o v e t)
     (λ free. value ∙ (sym (unnoted a lt free) ∙ is))))

@@ -14,7 +14,7 @@ use Rattle.history_model.specs.Table.{Knows}
 use Rattle.history_model.specs.Traces.{IsLegalTrace}
 use Rattle.locks_rule.specs.Locks.{LocksHold}
 use Rattle.values_rule.specs.Undone.{memory_of, undone_by}
-use Rattle.values_rule.specs.Values.{value_at}
+use Rattle.values_rule.specs.Values.{table_value}
 use Rattle.values_rule.specs.History.{version_at, items_of_entry, items_of}
 use Rattle.values_rule.specs.Versions.{ValuesHold}
 
@@ -44,8 +44,8 @@ abbrev pub ArePlaced : (List ℕ → Type 0) → ℕ → List ℕ → List View 
 ArePlaced good n base views order = (p : ℕ) (x : Item) → slice_get order p ≡ Some x → IsPlaced good n base order p x
 
 -- all of it leaves good words
-abbrev pub LeavesGood : (List ℕ → Type 0) → ℕ → List ℕ → List View → List Item → Type 0
-LeavesGood good n base views order = good (replay_items base order)
+abbrev pub LeavesGoodWords : (List ℕ → Type 0) → ℕ → List ℕ → List View → List Item → Type 0
+LeavesGoodWords good n base views order = good (replay_items base order)
 
 -- what an attempt has done is legal behind all of it
 abbrev pub AttemptsAreLegal : ℕ → List ℕ → List View → List Item → Type 0
@@ -79,4 +79,4 @@ HasArrangement n base words v = (order : List Item) × IsArrangement (flat_map i
 abbrev pub MemoryIsLeft : ℕ → List ℕ → List ℕ → View → Type 0
 MemoryIsLeft n base words v =
     (order : List Item) → IsArrangement (flat_map items_of_entry v.seen) order
-    → (a : ℕ) → a < length base → slice_get (replay_items base order) a ≡ Some (value_at n words a)
+    → (a : ℕ) → a < length base → slice_get (replay_items base order) a ≡ Some (table_value n words a)

@@ -86,7 +86,7 @@ version_at n words k = if nat_lt k LOCKS then slice_index words (version_word n 
 abbrev pub next_version : ℕ → List ℕ → List View → ℕ → ℕ
 next_version n words views k = version_at n words k + flag (owed_by k views)
 
--- the newest value of each word, where `next k` is the version of lock k, from word i on
+-- the newest value of each word, if `next k` is the version of lock k, from word i on
 unfoldable pub newest_from : List ℕ → List Item → (ℕ → ℕ) → ℕ → List ℕ → List ℕ
 newest_from base items next i [] = []
 newest_from base items next i (x ∷ xs) =

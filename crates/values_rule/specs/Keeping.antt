@@ -12,7 +12,7 @@ use Rattle.history_model.specs.Table.{Knows, serial_word, calls_word, commits_wo
 use Rattle.locks_rule.specs.Actions.{Action, words_after, views_after}
 use Rattle.locks_rule.specs.Joins.{views_joined}
 use Rattle.locks_rule.specs.Locks.{LocksHold}
-use Rattle.values_rule.specs.Values.{value_at}
+use Rattle.values_rule.specs.Values.{table_value}
 use Rattle.values_rule.specs.History.{version_at}
 use Rattle.values_rule.specs.Versions.{ValuesHold}
 use Rattle.values_rule.specs.Steps.{after_giving_way}
@@ -62,19 +62,19 @@ pub record GivesUp (v w : View) : Type 0 where
   pub over : is_open w.phase ≡ false
 
 -- the words that the rule of values reads stay
-pub record SameWords (n : ℕ) (words after : List ℕ) : Type 0 where
+pub record SameValueWords (n : ℕ) (words after : List ℕ) : Type 0 where
   pub serial : slice_index after serial_word ≡ slice_index words serial_word
   pub calls : (j : ℕ) → j < n → slice_index after (calls_word n j) ≡ slice_index words (calls_word n j)
   pub commits : (j : ℕ) → j < n → slice_index after (commits_word n j) ≡ slice_index words (commits_word n j)
   pub versions : (k : ℕ) → version_at n after k ≡ version_at n words k
-  pub values : (a : ℕ) → value_at n after a ≡ value_at n words a
+  pub values : (a : ℕ) → table_value n after a ≡ table_value n words a
 
 -- such a step keeps the value invariant
 abbrev pub GivingUpKeeps : (List ℕ → Type 0) → Type 0
 GivingUpKeeps good =
     (n : ℕ) (base words after : List ℕ) (views : List View) (id j : ℕ) (v w : View)
     → LocksHold n base words views → ValuesHold good n base words views → Knows views id v
-    → v.who ≡ j ∷ [] → is_open v.phase ≡ true → GivesUp v w → SameWords n words after
+    → v.who ≡ j ∷ [] → is_open v.phase ≡ true → GivesUp v w → SameValueWords n words after
     → ValuesHold good n base after (slice_set views id w)
 
 -- the seat goes on with its call, or stays between calls, knows the same of calls and values, and has all locks that it
@@ -102,7 +102,7 @@ abbrev pub AsideKeeps : (List ℕ → Type 0) → Type 0
 AsideKeeps good =
     (n : ℕ) (base words after : List ℕ) (views : List View) (id : ℕ) (v w : View)
     → LocksHold n base words views → ValuesHold good n base words views → Knows views id v
-    → SameValues v w → SameWords n words after
+    → SameValues v w → SameValueWords n words after
     → ValuesHold good n base after (slice_set views id w)
 
 -- a seat gives up locks, or ends its call, and makes no attempt then: the call is open if it was, nothing is left to undo,
@@ -131,7 +131,7 @@ abbrev pub QuietKeeps : (List ℕ → Type 0) → Type 0
 QuietKeeps good =
     (n : ℕ) (base words after : List ℕ) (views : List View) (id : ℕ) (v w : View)
     → LocksHold n base words views → ValuesHold good n base words views → Knows views id v
-    → IsQuiet v w → SameWords n words after
+    → IsQuiet v w → SameValueWords n words after
     → ValuesHold good n base after (slice_set views id w)
 
 -- a call whose attempt gave way and undid all makes another, and keeps it

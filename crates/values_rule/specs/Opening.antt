@@ -5,7 +5,7 @@ use Rattle.history_model.specs.declared.view.View.{View}
 use Rattle.history_model.specs.declared.view.Phase.TheVariants.{Idle}
 use Rattle.history_model.specs.Table.{Knows, serial_word, calls_word, commits_word, version_word}
 use Rattle.locks_rule.specs.Locks.{LocksHold}
-use Rattle.values_rule.specs.Values.{value_at}
+use Rattle.values_rule.specs.Values.{table_value}
 use Rattle.values_rule.specs.Versions.{ValuesHold}
 
 -- a view whose seats made no call yet
@@ -24,10 +24,10 @@ pub record IsUntouched (n : ℕ) (base words : List ℕ) (views : List View) : T
   pub calls : (j : ℕ) → j < n → slice_index words (calls_word n j) ≡ 0
   pub commits : (j : ℕ) → j < n → slice_index words (commits_word n j) ≡ 0
   pub versions : (k : ℕ) → k < LOCKS → slice_index words (version_word n k) ≡ 0
-  pub values : (a : ℕ) → a < length base → slice_get base a ≡ Some (value_at n words a)
+  pub values : (a : ℕ) → a < length base → slice_get base a ≡ Some (table_value n words a)
   pub unused : (id : ℕ) (v : View) → Knows views id v → IsUnused v
 
--- the value invariant holds of it, where the base is good
+-- the value invariant holds of it, if the base is good
 abbrev pub OpeningHolds : (List ℕ → Type 0) → Type 0
 OpeningHolds good =
     (n : ℕ) (base words : List ℕ) (views : List View)

@@ -62,7 +62,7 @@ load_value_action j a v = record {
   view = λ w. record v { trace = v.trace ++ Read a w ∷ [] };
 }
 
--- x is stored to the word a, under the exclusive lock, where the attempt has just read it
+-- x is stored to the word a, under the exclusive lock, if the attempt has just read it
 pub record MayStoreValue (j a : ℕ) (v : View) : Type 0 where
   pub who : v.who ≡ j ∷ []
   pub phase : v.phase ≡ Running

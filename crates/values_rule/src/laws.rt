@@ -6,7 +6,7 @@
 //! other know by the versions that they found which came first, and no word needs to count them. An order of what was
 //! done that respects these uses and what each pass had seen is an arrangement. `ValuesHold` says that there is one,
 //! and that a word has the value that its newest version leaves. Each kind of step has a law here that says so of every
-//! state in which the lock invariant holds too; that the kind keeps the lock invariant is the clause `locks`, where no
+//! state in which the lock invariant holds too; that the kind keeps the lock invariant is the clause `locks`, if no
 //! law of `locks_rule` says it.
 
 ghost use Rattle.std.specs.Prelude.{ℕ, List, Bool};
@@ -16,7 +16,7 @@ ghost use Rattle.locks_rule.specs.Locks.{LocksHold};
 ghost use Rattle.locks_rule.specs.Splits.{MaySplitSeat, left_by_split, given_by_split};
 ghost use Rattle.locks_rule.specs.Steps.{MaySetReadBit, MayClearReadBit, MayLoadWriter, MayClaimWriter, MayScanRow, set_read_bit_action, clear_read_bit_action, load_writer_action, claim_writer_action, scan_row_action, release_writer_action};
 ghost use Rattle.values_rule.specs.Steps.{load_value_action, store_value_action, undo_store_action, clear_stamp_action, begin_call_action};
-ghost use Rattle.values_rule.specs.Closing.{OfEveryArrangement, ArePlaced, LeavesGood, AttemptsAreLegal, UndoingRestores, OfOneForAll, AgreeWithTable, HasArrangement, MemoryIsLeft};
+ghost use Rattle.values_rule.specs.Closing.{OfEveryArrangement, ArePlaced, LeavesGoodWords, AttemptsAreLegal, UndoingRestores, OfOneForAll, AgreeWithTable, HasArrangement, MemoryIsLeft};
 ghost use Rattle.values_rule.specs.Keeping.{KeepsValueRule, KeepsValueRuleSplit, KeepsValueRuleJoin, GivingWayKeeps, RestartKeeps, GivingUpKeeps, QuietKeeps, AsideKeeps};
 ghost use Rattle.values_rule.specs.Opening.{OpeningHolds};
 ghost use Rattle.locks_rule.specs.Versions.{MayLoadVersion, load_version_action, MayStoreVersion, store_version_action, MayReleaseUnowed};
@@ -188,7 +188,7 @@ pub fn opening<S: Shape>()
 pub fn every_arrangement_legal<S: Shape>()
     ensures placed { (shape : _) → OfEveryArrangement (S.good shape) (ArePlaced (S.good shape)) }
     ensures leaves_good { (shape : _)
-        → OfEveryArrangement (S.good shape) (LeavesGood (S.good shape)) }
+        → OfEveryArrangement (S.good shape) (LeavesGoodWords (S.good shape)) }
     ensures attempts_legal { (shape : _) → OfEveryArrangement (S.good shape) AttemptsAreLegal }
 {}
 

@@ -2,7 +2,7 @@
 pub mod Taken
 -- what a number that was found in the table, or is stored there, says while the rule holds
 pub mod Found
--- what a call finds of versions and pays: its first use of a lock, and the next version where that is owed
+-- what a call finds of versions and pays: its first use of a lock, and the next version if that is owed
 pub mod Versioning
 -- what the answers of the calls say
 pub mod Answering

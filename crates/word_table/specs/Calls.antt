@@ -33,7 +33,7 @@ use Rattle.word_table.specs.declared.answer.Judged.{Judged}
 use Rattle.word_table.specs.declared.answer.Judged.TheVariants as judged
 use Rattle.word_table.specs.Kinds.{TakenIn}
 use Rattle.word_table.specs.Sound.{IsSound}
-use Rattle.word_table.specs.Versions.{HasUse, locks_found}
+use Rattle.word_table.specs.Versions.{HasUseOf, locks_found}
 
 -- the call that began with the view old met another seat, i, on lock k: by a step that it took from the view asking, in
 -- a state of the table in which that seat stood on the lock
@@ -63,7 +63,7 @@ SameCall old new = new ≡ record old {
 abbrev pub GrantsStay : View → View → Type 0
 GrantsStay old new = (k : ℕ) → (HasReadGrant old k → HasReadGrant new k) × (HasWriteGrant old k → HasWriteGrant new k)
 
--- the view with the read bit of lock k set, where it was not
+-- the view with the read bit of lock k set, if it was not
 abbrev pub with_bit : ℕ → ℕ → View → View
 with_bit k a v = if has k v.bits then v else (set_read_bit_action (number v) k a v).view 0
 
@@ -73,7 +73,7 @@ MakesSeen sound v a =
     HasBit v (lock_of_word a)
     ⊎ ((found : ℕ) × TakenIn sound (set_read_bit_action (number v) (lock_of_word a) a v) v found (with_bit (lock_of_word a) a v))
 
--- what share answers to seat j where it found the writer word to be w
+-- what share answers to seat j if it found the writer word to be w
 abbrev pub shared_of : ℕ → ℕ → Shared
 shared_of j w = if is_free j w then shared.Granted else shared.Met (w - 1)
 
@@ -83,13 +83,13 @@ pub record Looked (sound : List ℕ → List View → Type 0) (v : View) (a : �
   pub taken : TakenIn sound (load_writer_action (number v) (lock_of_word a) a v) v found u
   pub answer : r ≡ shared_of (number v) found
 
--- share set the bit, where it was not set, and then loaded the writer word
+-- share set the bit, if it was not set, and then loaded the writer word
 pub record AsksShared (sound : List ℕ → List View → Type 0) (v : View) (a : ℕ) (r : Shared) (u : View) : Type 0 where
   pub makes_seen : MakesSeen sound v a
   pub found : ℕ
   pub taken : TakenIn sound (load_writer_action (number v) (lock_of_word a) a (with_bit (lock_of_word a) a v)) (with_bit (lock_of_word a) a v) found u
   pub answer : r ≡ shared_of (number v) found
-  -- it met a seat exactly where the number found is another seat's and 1
+  -- it met a seat exactly if the number found is another seat's and 1
   pub met_named : (i : ℕ) → r ≡ shared.Met i → (found ≡ i + 1) × (i ≢ number v)
   pub named_met : (i : ℕ) → found ≡ i + 1 → i ≢ number v → r ≡ shared.Met i
 
@@ -99,7 +99,7 @@ SharedBy sound v a r u =
     (IsGranted v (lock_of_word a) × (r ≡ shared.Granted) × (u ≡ v))
     ⊎ (¬ IsGranted v (lock_of_word a) × AsksShared sound v a r u)
 
--- what claim answers where it found the writer word to be w
+-- what claim answers if it found the writer word to be w
 abbrev pub claimed_of : ℕ → Claimed
 claimed_of w = if w == 0 then claimed.Pending else claimed.Met (w - 1)
 
@@ -108,7 +108,7 @@ pub record AsksClaim (sound : List ℕ → List View → Type 0) (v : View) (a :
   pub found : ℕ
   pub taken : TakenIn sound (claim_writer_action (number v) (lock_of_word a) a v) v found u
   pub answer : r ≡ claimed_of found
-  -- it met a seat exactly where the number found is another seat's and 1, and it never is the own one
+  -- it met a seat exactly if the number found is another seat's and 1, and it never is the own one
   pub not_own : found ≢ number v + 1
   pub met_named : (i : ℕ) → r ≡ claimed.Met i → found ≡ i + 1
   pub named_met : (i : ℕ) → found ≡ i + 1 → r ≡ claimed.Met i
@@ -119,7 +119,7 @@ ClaimedBy sound v a r u =
     (HasClaim v (lock_of_word a) × (r ≡ claimed.Pending) × (u ≡ v))
     ⊎ (¬ HasClaim v (lock_of_word a) × AsksClaim sound v a r u)
 
--- what scan answers where it found the row word of seat i to be w
+-- what scan answers if it found the row word of seat i to be w
 abbrev pub scanned_of : ℕ → ℕ → ℕ → Scanned
 scanned_of k i w = if bit_at w (k % 64) == 0 then scanned.Clear else scanned.Met i
 
@@ -128,23 +128,23 @@ pub record ScannedBy (sound : List ℕ → List View → Type 0) (v : View) (k i
   pub found : ℕ
   pub taken : TakenIn sound (scan_row_action (number v) k i v) v found u
   pub answer : r ≡ scanned_of k i found
-  -- it met the seat exactly where the seat's bit was set in the number found
+  -- it met the seat exactly if the seat's bit was set in the number found
   pub met_set : (j : ℕ) → r ≡ scanned.Met j → (j ≡ i) × (bit_at found (k % 64) ≡ 1)
   pub set_met : bit_at found (k % 64) ≡ 1 → r ≡ scanned.Met i
 
 -- the version of lock k was found before in this attempt, or a step found it
 abbrev pub FindsVersion : (List ℕ → List View → Type 0) → ℕ → View → View → Type 0
 FindsVersion sound k old new =
-    (HasUse old k × (new ≡ old))
+    (HasUseOf old k × (new ≡ old))
     ⊎ ((has k (locks_found old.uses) ≡ false) × ((found : ℕ) × TakenIn sound (load_version_action (number old) k old) old found new))
 
--- load found the version of the lock of word a, where that was its first use in the attempt, and loaded the value then
+-- load found the version of the lock of word a, if that was its first use in the attempt, and loaded the value then
 pub record LoadedBy (sound : List ℕ → List View → Type 0) (v : View) (a r : ℕ) (w : View) : Type 0 where
   pub between : View
   pub finds : FindsVersion sound (lock_of_word a) v between
   pub taken : TakenIn sound (load_value_action (number between) a between) between r w
 
--- the uses are as before where they had one of lock k, and else they gain one
+-- the uses are as before if they had one of lock k, and else they gain one
 pub record GainsUse (k : ℕ) (old new : List (ℕ × ℕ)) : Type 0 where
   pub had : has k (locks_found old) ≡ true → new ≡ old
   pub gained : has k (locks_found old) ≡ false → (version : ℕ) × (new ≡ old ++ (k, version) ∷ [])
@@ -160,13 +160,13 @@ Pays sound k v =
     ⊎ ((version : ℕ) × (IsIn (k, version) v.uses
     × ((found : ℕ) × TakenIn sound (store_version_action (number v) k version v) v found (paid k v))))
 
--- the next version of lock k was stored, where that was owed, and 0 to the writer word then
+-- the next version of lock k was stored, if that was owed, and 0 to the writer word then
 pub record GaveUp (sound : List ℕ → List View → Type 0) (k : ℕ) (v w : View) : Type 0 where
   pub pays : Pays sound k v
   pub found : ℕ
   pub taken : TakenIn sound (release_writer_action (number v) k (paid k v)) (paid k v) found w
 
--- what judge answers to a call with the timestamp own where the other seat shows this one
+-- what judge answers to a call with the timestamp own if the other seat shows this one
 abbrev pub judged_of : ℕ → ℕ → Judged
 judged_of shown own = if nat_lt 0 shown && nat_lt shown own then judged.Yield shown else judged.Wait
 
@@ -174,12 +174,12 @@ judged_of shown own = if nat_lt 0 shown && nat_lt shown own then judged.Yield sh
 abbrev pub GaveWay : Cause → View → View → Type 0
 GaveWay cause old new = new ≡ after_giving_way cause (without cause.seat old.met) old
 
--- judge loaded the timestamp of seat i, and by the same step the attempt gave way where that was a cause
+-- judge loaded the timestamp of seat i, and by the same step the attempt gave way if that was a cause
 pub record JudgedBy (sound : List ℕ → List View → Type 0) (v : View) (i : ℕ) (r : Judged) (w : View) : Type 0 where
   pub found : ℕ
   pub taken : TakenIn sound (judge_stamp_action (number v) i v) v found w
   pub answer : r ≡ judged_of found v.stamp
-  -- it gives way exactly where the timestamp found is above 0 and below the call's own
+  -- it gives way exactly if the timestamp found is above 0 and below the call's own
   pub yield_earlier : (stamp : ℕ) → r ≡ judged.Yield stamp → (found ≡ stamp) × (0 < stamp) × (stamp < v.stamp)
   pub earlier_yield : 0 < found → found < v.stamp → r ≡ judged.Yield found
 

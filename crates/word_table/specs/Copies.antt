@@ -21,7 +21,7 @@ use Rattle.word_table.specs.declared.copies.CallCopy.{CallCopy}
 use Rattle.word_table.specs.declared.copies.LockCopy.{LockCopy}
 use Rattle.word_table.specs.declared.copies.VersionCopy.{VersionCopy}
 use Rattle.word_table.specs.declared.limits.TheConstants.{MOST_PASSES, MOST_WORDS}
-use Rattle.word_table.specs.Versions.{HasUse, locks_found}
+use Rattle.word_table.specs.Versions.{HasUseOf, locks_found}
 
 -- a pass: the table that it is of, what it knows, and how many steps it took
 pub record PassView : Type 0 where
@@ -96,7 +96,7 @@ pub record HoldsNothing (v : View) : Type 0 where
 
 -- an attempt that runs holds each lock that it has a use of
 abbrev pub HoldsUsed : View → Type 0
-HoldsUsed v = v.phase ≡ Running → (k : ℕ) → HasUse v k → IsGranted v k
+HoldsUsed v = v.phase ≡ Running → (k : ℕ) → HasUseOf v k → IsGranted v k
 
 -- what a pass keeps is a copy of what its seat knows
 pub record IsCopy (call : CallCopy) (locks : LockCopy) (table : TableId) (me : Me (Unit {0}) View) : Type 0 where

@@ -19,7 +19,7 @@ use Rattle.word_table.specs.declared.step.Step.TheVariants.{LoadCauseStamp, Load
 use Rattle.word_table.specs.Sound.{IsSound}
 use Rattle.word_table.specs.Versions.{MayRaiseVersion}
 
--- what the step does, where the seat knows v
+-- what the step does, if the seat knows v
 abbrev pub action_of : Step → View → Action
 action_of (SetReadBit j k a) v = set_read_bit_action j k a v
 action_of (ClearReadBit j k) v = clear_read_bit_action j k v
@@ -61,7 +61,7 @@ is_load (LoadCauseStamp j i stamp) = true
 is_load (LoadVersion j k) = true
 is_load (StoreVersion j k x) = false
 
--- a seat that knows v may take the step, where these are the good lists of words
+-- a seat that knows v may take the step, if these are the good lists of words
 abbrev pub May : (List ℕ → Type 0) → Step → View → Type 0
 May good (SetReadBit j k a) v = MaySetReadBit j k a v
 May good (ClearReadBit j k) v = MayClearReadBit j k v
@@ -94,7 +94,7 @@ Grows good action v =
     (n : ℕ) (base words : List ℕ) (views : List View) (id : ℕ)
     → IsSound good n base words views → Knows views id v → found_by action words + 1 < 2 ^ 64
 
--- in a state of the table that is sound, where it knew old, a seat took the step that found this number, and then knew new
+-- in a state of the table that is sound, if it knew old, a seat took the step that found this number, and then knew new
 pub record TakenIn (sound : List ℕ → List View → Type 0) (action : Action) (old : View) (found : ℕ) (new : View) : Type 0 where
   pub words : List ℕ
   pub views : List View

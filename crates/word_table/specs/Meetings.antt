@@ -79,7 +79,7 @@ RestartsFew good n base =
     (state : TableState) (place j : ℕ) (view : View)
     → IsReached good n base state → Knows state.views place view → view.who ≡ j ∷ [] → AreRestartsBounded n j view
 
--- a timestamp is drawn once in a call, and kept as long as it lasts: where a seat has one, it has the same in every later
+-- a timestamp is drawn once in a call, and kept as long as it lasts: if a seat has one, it has the same in every later
 -- state of the run in which it is in this call
 abbrev pub StampsAreKept : (List ℕ → Type 0) → ℕ → List ℕ → Type 0
 StampsAreKept good n base =
@@ -108,7 +108,7 @@ NumbersStayBelow good n base =
     × ((k : ℕ) → k < LOCKS → slice_index state.words (version_word n k) < 2 ^ 37)
 
 -- n seats that did nothing yet: a view for each number, and no other
-pub record AreDealt (n : ℕ) (base : List ℕ) (views : List View) : Type 0 where
+pub record AreFreshSeats (n : ℕ) (base : List ℕ) (views : List View) : Type 0 where
   pub count : length views ≡ n
   pub each : (j : ℕ) → j < n → (place : ℕ) × Knows views place (opening_view base n (j ∷ []) [])
 
@@ -116,9 +116,9 @@ pub record AreDealt (n : ℕ) (base : List ℕ) (views : List View) : Type 0 whe
 abbrev pub SeatsAreDealt : (List ℕ → Type 0) → ℕ → List ℕ → Type 0
 SeatsAreDealt good n base =
     good base → 0 < n
-    → (state : TableState) × IsReached good n base state × (state.words ≡ opening_words n base) × AreDealt n base state.views
+    → (state : TableState) × IsReached good n base state × (state.words ≡ opening_words n base) × AreFreshSeats n base state.views
 
--- in every arrangement of all that was done each item stands at a legal place: an attempt that gave way, and an entry, where
+-- in every arrangement of all that was done each item stands at a legal place: an attempt that gave way, and an entry, if
 -- its trace is legal, behind all that its pass had seen as the call began; an attempt before its call's entry
 abbrev pub ReadsOneState : (List ℕ → Type 0) → ℕ → List ℕ → Type 0
 ReadsOneState good n base =

@@ -39,7 +39,7 @@ pub record TakesNote (before after : TableState) : Type 0 where
   pub words_are : after.words ≡ before.words
   pub views_are : after.views ≡ slice_set before.views place (left_by_note view) ++ note_of view ∷ []
 
--- a view takes in another, where the two may be joined
+-- a view takes in another, if the two may be joined
 pub record Joins (may : View → View → Type 0) (both : View → View → View) (before after : TableState) : Type 0 where
   pub place : ℕ
   pub view : View

@@ -8,7 +8,7 @@ use Rattle.history_model.specs.Legal.{IsIn}
 use Rattle.history_model.specs.Sets.{has, flag}
 use Rattle.locks_rule.specs.Versions.{locks_of}
 use Rattle.word_table.specs.declared.copies.VersionCopy.{VersionCopy}
-use Rattle.word_table.specs.Versions.{HasUse}
+use Rattle.word_table.specs.Versions.{HasUseOf}
 
 -- the uses stand by rising lock, so that each lock stands once
 abbrev pub AreRising : List LockUse → Type 0
@@ -26,7 +26,7 @@ pub record IsUseOf (v : View) (u : LockUse) : Type 0 where
 pub record AreUsesOf (v : View) (listed : List LockUse) : Type 0 where
   pub rising : AreRising listed
   pub each : (u : LockUse) → IsIn u listed → IsUseOf v u
-  pub all : (k : ℕ) → HasUse v k → (u : LockUse) × (IsIn u listed × (u.lock ≡ k))
+  pub all : (k : ℕ) → HasUseOf v k → (u : LockUse) × (IsIn u listed × (u.lock ≡ k))
 
 -- the copy has a use of lock k
 abbrev pub IsMarked : VersionCopy → ℕ → Type 0

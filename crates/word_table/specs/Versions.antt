@@ -14,8 +14,8 @@ abbrev pub locks_found : List (ℕ × ℕ) → List ℕ
 locks_found uses = map (λ u. u.0) uses
 
 -- the attempt has a use of lock k
-abbrev pub HasUse : View → ℕ → Type 0
-HasUse v k = has k (locks_found v.uses) ≡ true
+abbrev pub HasUseOf : View → ℕ → Type 0
+HasUseOf v k = has k (locks_found v.uses) ≡ true
 
 -- 1 more than the version x is stored, while the claim on lock k stands
 pub record MayRaiseVersion (j k x : ℕ) (v : View) : Type 0 where

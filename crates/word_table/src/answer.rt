@@ -50,7 +50,7 @@ pub(crate) fn is_unclaimed(found: u64, who: u32) -> bool
     found == 0 || found == u64::from(who) + 1
 }
 
-/// What asking for a shared lock comes to where its writer word was found to be this.
+/// What asking for a shared lock comes to if its writer word was found to be this.
 pub(crate) fn shared_by(found: u64, who: u32) -> Shared
     requires { found ≤ MOST_PASSES }
     ensures { result ≡ shared_of who found }
@@ -62,7 +62,7 @@ pub(crate) fn shared_by(found: u64, who: u32) -> Shared
     }
 }
 
-/// What a claim comes to where the writer word was found to be this.
+/// What a claim comes to if the writer word was found to be this.
 pub(crate) fn claimed_by(found: u64) -> Claimed
     requires { found ≤ MOST_PASSES }
     ensures { result ≡ claimed_of found }
@@ -74,7 +74,7 @@ pub(crate) fn claimed_by(found: u64) -> Claimed
     }
 }
 
-/// What the scan of a seat comes to where its row word was found to be this.
+/// What the scan of a seat comes to if its row word was found to be this.
 pub(crate) fn scanned_by(found: u64, lock: u32, seat: u32) -> Scanned
     requires { lock < LOCKS }
     ensures { result ≡ scanned_of lock seat found }

@@ -93,7 +93,7 @@ fn join_one<S: Shape>(table: &TableWords<S>, seat: &mut TableSeat, other: TableS
 }
 
 /// All passes as one seat, which has all their numbers, and what each had seen.
-pub(crate) fn gather<S: Shape>(
+pub(crate) fn join_passes<S: Shape>(
     table: &TableWords<S>,
     first: Pass<S>,
     mut passes: Vec<Pass<S>>,

@@ -11,7 +11,7 @@ ghost use Rattle.word_table.specs.Desks.{AreGoodWords};
 ghost use Rattle.word_table.specs.Sound.{opening_words};
 ghost use Rattle.word_table.specs.Copies.{fresh_pass};
 
-use crate::closing::{CloseRefused, Closed, copy_words, gather, room_for};
+use crate::closing::{CloseRefused, Closed, copy_words, join_passes, room_for};
 use crate::deal::deal;
 use crate::layout::place_of_values;
 use crate::limits::{MOST_PASSES, MOST_WORDS};
@@ -160,7 +160,7 @@ impl<S: Shape> Desk<S> {
         let Some(last_pass) = passes.pop() else {
             unreachable!()
         };
-        let seat = gather(&table, last_pass, passes);
+        let seat = join_passes(&table, last_pass, passes);
         let made = Snapshot::of(&table);
         let last = Snapshot::of(&seat);
         let closed = close_with(table, seat);
@@ -170,7 +170,7 @@ impl<S: Shape> Desk<S> {
     }
 
     /// Closes the table, with all its passes. The words that it leaves are what each arrangement of all that was done
-    /// leaves of the words that it began with. Memory is taken first, and where there is none, nothing was done.
+    /// leaves of the words that it began with. Memory is taken first, and if there is none, nothing was done.
     pub fn close(self, alloc: Global, passes: Vec<Pass<S>>) -> Result<Closed<S>, CloseRefused<S>>
         requires all { AreAllPasses self.table self.seats passes.items }
         ensures desk { IfOk result

@@ -95,7 +95,7 @@ pub fn every_number<S: Shape>()
 
 /// Of all that was done, in every state of every run: it has an arrangement (`arranged`), and in each one every attempt
 /// that gave way, and every entry, stands where its trace is legal and behind all that its pass had seen as the call
-/// began (`opacity`). An entry that was made stands in every later state (`stays`), and there in each arrangement where
+/// began (`opacity`). An entry that was made stands in every later state (`stays`), and there in each arrangement if
 /// good words come of what stands before it and its trace is legal on them (`entries`). What a pass has seen stands
 /// before the entry of each call that it begins later (`later`).
 pub fn every_arrangement<S: Shape>()
@@ -112,7 +112,7 @@ pub fn every_arrangement<S: Shape>()
 {}
 
 /// Of the words that a call writes, in every state of every run: a step is a load, or else its word is one of its seat's
-/// own, or one of a lock that the call asked for, or the clock, where the call has met another, whatever is written there
+/// own, or one of a lock that the call asked for, or the clock, if the call has met another, whatever is written there
 /// (`own`). So two calls that asked for no common lock write no common word but the clock (`apart`).
 pub fn every_write<S: Shape>()
     ensures own { (shape : _) (n : ℕ) (base : List ℕ)

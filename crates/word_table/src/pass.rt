@@ -14,7 +14,7 @@ ghost use Rattle.locks_rule.specs.Versions.{locks_of};
 ghost use Rattle.word_table.specs.Copies.{HoldsNothing};
 ghost use Rattle.word_table.specs.Least.{IsLeast};
 ghost use Rattle.word_table.specs.Unscanned.{IsUnscanned};
-ghost use Rattle.word_table.specs.Versions.{HasUse};
+ghost use Rattle.word_table.specs.Versions.{HasUseOf};
 
 mod clock;
 mod locks;
@@ -137,7 +137,7 @@ impl<S: Shape> Pass<S> {
         let _seat = &self.seat;
     }
 
-    /// The call's timestamp, 0 where none was drawn. A smaller one is earlier.
+    /// The call's timestamp, 0 if none was drawn. A smaller one is earlier.
     pub fn stamp(&self) -> u64
         ensures { result ≡ self.now.view.stamp }
     {
@@ -185,7 +185,7 @@ impl<S: Shape> Pass<S> {
     #[inline(always)]
     pub fn has_use(&self, k: u32) -> bool
         requires { k < LOCKS }
-        ensures used { IsTrue result ↔ HasUse self.now.view k }
+        ensures used { IsTrue result ↔ HasUseOf self.now.view k }
         ensures granted { IsTrue result → self.now.view.phase ≡ Phase.Running
             → IsGranted self.now.view k }
     {
@@ -229,11 +229,11 @@ impl<S: Shape> Pass<S> {
     }
 
     /// What the attempt used of the lock: the version that it found there, and whether it has written a word of it. There
-    /// is none where the attempt did nothing to a word of the lock. It takes no memory.
+    /// is none if the attempt did nothing to a word of the lock. It takes no memory.
     pub fn use_of(&self, k: u32) -> Option<LockUse>
         requires { (self.now.view.phase ≡ Phase.Running)
             ⊎ ((self.now.view.phase ≡ Phase.Withdrawing) × (self.now.view.undo ≡ [])) }
-        ensures none { IsNone result ↔ ¬ HasUse self.now.view k }
+        ensures none { IsNone result ↔ ¬ HasUseOf self.now.view k }
         ensures found { IfSome result
             (λ used. (used.lock ≡ k) × IsIn (k, used.version) self.now.view.uses) }
         ensures once { IfSome result

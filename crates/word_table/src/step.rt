@@ -94,7 +94,7 @@ pub enum Step {
     DrawStamp { seat: u32 },
     /// The timestamp is stored to the own STAMPS word.
     AnnounceStamp { seat: u32 },
-    /// The timestamp of a seat that the call met is loaded, and the attempt gives way where that is an earlier one.
+    /// The timestamp of a seat that the call met is loaded, and the attempt gives way if that is an earlier one.
     JudgeStamp { seat: u32, other: u32 },
     /// The timestamp of the attempt's cause is loaded, which showed this one.
     LoadCauseStamp { seat: u32, other: u32, stamp: u64 },

@@ -17,7 +17,7 @@ use Rattle.worker_pool.proofs.Places.{related_push, related_set}
 use Rattle.std.proofs.lemmas.List.{length-set, get_or-set_other, get_or-set_same, get_or_append_left, get_or_default, get_or_push}
 use Rattle.worker_pool.proofs.Steps.{times_append}
 
--- 1 where the two are the same, and else 0
+-- 1 if the two are the same, and else 0
 abbrev pub one_at : ℕ → ℕ → ℕ
 one_at c x = if c == x then 1 else 0
 

@@ -23,7 +23,7 @@ next_has P given left after all x steps is has =
     let whole : given ++ x ∷ after ≡ all = ap (λ l. given ++ l) (sym steps) ∙ is in
     subst P (get_middle given after x x) (subst (λ (l : List _). All P l) (sym whole) has (length given) x (length_middle given after x))
 
--- a sum over items that count olds much, each where the other is
+-- a sum over items that count olds much, each if the other is
 pub sum_same : {X : Type 0} (f : X → ℕ) (xs ys : List X) → length ys ≡ length xs
     → ((k : ℕ) (d : X) → k < length xs → f (get_or ys k d) ≡ f (get_or xs k d)) → sum_by f ys ≡ sum_by f xs
 sum_same f [] [] e h = refl

@@ -1,6 +1,6 @@
 -- All shares of a day, put together.
-use Rattle.std.proofs.Common.{◌≡◌, ◌≢◌, ◌↔◌, ℕ, ◌+◌, ◌<◌, ◌≤◌, ◌&&◌, ◌==◌, List, ◌∷◌, [], All, AllPairs, flat_map, map, take, length, get_or, slice_get, Some, cond}
-use Rattle.std.proofs.Common.{sym, ap, ◌∙◌, subst, arith}
+use Rattle.std.proofs.Common.{◌≡◌, ◌≢◌, ◌↔◌, ℕ, ◌+◌, ◌<◌, ◌≤◌, ◌&&◌, ◌==◌, List, ◌∷◌, [], All, AllPairs, flat_map, map, take, length, get_or, slice_get}
+use Rattle.std.proofs.Common.{Some, cond, sym, ap, ◌∙◌, subst, arith}
 use Rattle.std.proofs.Common.{zero-add}
 use Rattle.std.specs.List.{range_with_len}
 use Rattle.std.proofs.lemmas.List.{get_or-map, length-map}
@@ -29,8 +29,8 @@ use Rattle.worker_pool.specs.Days.{Done}
 use Rattle.worker_pool.specs.declared.worker.Share.{Share}
 use Rattle.worker_pool.specs.Counting.{once_below}
 use Rattle.worker_pool.specs.Days.{place_of_item, places_of_items, AreCallersWhole, IsDay}
-use Rattle.worker_pool.specs.Inner.Makers.{AreMadeBy, IsMadeBy}
-use Rattle.worker_pool.specs.Inner.Workers.{seat_of, share_of, tally_number, AreAllDone, IsDone, Tally}
+use Rattle.worker_pool.specs.Inner.Makers.{AreMadeBy, IsScriptEntry}
+use Rattle.worker_pool.specs.Inner.Workers.{seat_of, share_of, counted_number, AreAllDone, IsDone, CountedShare}
 use Rattle.txn_commit.proofs.Orders.Arranged.{all_arranged, AreAllPlaces}
 use Rattle.txn_commit.proofs.Orders.Once.{pairs_map}
 use Rattle.txn_commit.proofs.Recorded.{have_records}
@@ -52,21 +52,21 @@ pub once_at_most : (x n : ℕ) → once_below x n ≤ 1
 once_at_most x n = grind arith
 
 module _ (desk : DeskView BooksShape) (input : ClearingInput) (shares : List Share) (all : AreAllDone desk input shares) where
-  abbrev ws : List Tally
-  ws = all.tallies
+  abbrev ws : List CountedShare
+  ws = all.counted_shares
 
   all_worked : All (IsDone desk input) ws
   all_worked = all.each
 
-  numbers : map tally_number ws ≡ range_with_len 0 desk.seats
+  numbers : map counted_number ws ≡ range_with_len 0 desk.seats
   numbers = sym (map-map seat_of share_of ws) ∙ ap (map seat_of) all.are ∙ all.numbers
 
-  its_worker : (pass : PassView) → IsIn pass (map pass_of ws) → (d : Tally) → (k : ℕ) × (k < length ws) × ((get_or ws k d).share.pass ≡ pass)
+  its_worker : (pass : PassView) → IsIn pass (map pass_of ws) → (d : CountedShare) → (k : ℕ) × (k < length ws) × ((get_or ws k d).share.pass ≡ pass)
   its_worker pass (k, is) d =
       let within : k < length ws = omega (arith, slice_get_within (map pass_of ws) k pass is, length-map ws pass_of) in
       (k, within, sym (get_or-map pass_of ws k d d.share.pass within) ∙ get_or_from_slice_get (map pass_of ws) k pass d.share.pass is)
 
-  first_of : (xs : List Tally) (k : ℕ) → k < length xs → Tally
+  first_of : (xs : List CountedShare) (k : ℕ) → k < length xs → CountedShare
   first_of [] k lt = absurd (omega arith)
   first_of (x ∷ xs) k lt = x
 
@@ -84,29 +84,29 @@ module _ (desk : DeskView BooksShape) (input : ClearingInput) (shares : List Sha
         let w = its_worker pass at d in
         ap (λ (p : PassView). p.view.phase) (sym w.2) ∙ (all_worked w.0 d w.1).made.idle;
     all = λ j lt.
-        let long : length ws ≡ desk.seats = sym (length-map ws tally_number) ∙ ap length numbers ∙ length-range_with_len 0 desk.seats in
+        let long : length ws ≡ desk.seats = sym (length-map ws counted_number) ∙ ap length numbers ∙ length-range_with_len 0 desk.seats in
         let within : j < length ws = omega (arith, long, lt) in
-        let d : Tally = first_of ws j within in
-        let w : Tally = get_or ws j d in
-        let number_is : tally_number w ≡ j = sym (get_or-map tally_number ws j d (tally_number d) within)
-        ∙ ap (λ l. get_or l j (tally_number d)) numbers ∙ get_or-range_with_len 0 desk.seats j (tally_number d) lt ∙ zero-add j in
+        let d : CountedShare = first_of ws j within in
+        let w : CountedShare = get_or ws j d in
+        let number_is : counted_number w ≡ j = sym (get_or-map counted_number ws j d (counted_number d) within)
+        ∙ ap (λ l. get_or l j (counted_number d)) numbers ∙ get_or-range_with_len 0 desk.seats j (counted_number d) lt ∙ zero-add j in
         let stands : slice_get (map pass_of ws) j ≡ Some w.share.pass =
         slice_get-get_or (map pass_of ws) j d.share.pass (omega (arith, within, length-map ws pass_of))
         ∙ ap (λ p. Some p) (get_or-map pass_of ws j d d.share.pass within) in
         (w.share.pass, (j, stands), (all_worked j d within).made.number_is ∙ ap (λ n. n ∷ []) number_is);
   })
     where
-      some_worker : (pass : PassView) → IsIn pass (map pass_of ws) → Tally
+      some_worker : (pass : PassView) → IsIn pass (map pass_of ws) → CountedShare
       some_worker pass (k, is) = first_of ws k (omega (arith, slice_get_within (map pass_of ws) k pass is, length-map ws pass_of))
 
   abbrev pub given : List Done
   given = flat_map items_of ws
 
-  numbered : (k : ℕ) (d : Tally) → k < length ws → tally_number (get_or ws k d) ≡ 0 + k
+  numbered : (k : ℕ) (d : CountedShare) → k < length ws → counted_number (get_or ws k d) ≡ 0 + k
   numbered k d lt =
-      let long : length ws ≡ desk.seats = sym (length-map ws tally_number) ∙ ap length numbers ∙ length-range_with_len 0 desk.seats in
-      sym (get_or-map tally_number ws k d (tally_number d) lt)
-      ∙ ap (λ l. get_or l k (tally_number d)) numbers ∙ get_or-range_with_len 0 desk.seats k (tally_number d) (omega (arith, long, lt))
+      let long : length ws ≡ desk.seats = sym (length-map ws counted_number) ∙ ap length numbers ∙ length-range_with_len 0 desk.seats in
+      sym (get_or-map counted_number ws k d (counted_number d) lt)
+      ∙ ap (λ l. get_or l k (counted_number d)) numbers ∙ get_or-range_with_len 0 desk.seats k (counted_number d) (omega (arith, long, lt))
 
   once_had : (x : ℕ) → total_had ws x ≤ 1
   once_had x = omega (arith, all.once x, once_at_most x (length input.callers))
@@ -154,8 +154,8 @@ module _ (desk : DeskView BooksShape) (input : ClearingInput) (shares : List Sha
       whole_of_all = callers_whole desk input ws all_worked once_had done (λ P h. all_arranged given done places at all_at P h)
 
       its_made : (k : ℕ) (x : Done) (e : Entry) → slice_get done k ≡ Some x → slice_get (entries over places order) k ≡ Some e
-          → IsMadeBy desk.shape input e x
-      its_made = made_there over places order done at (λ x e. IsMadeBy desk.shape input e x) made.each
+          → IsScriptEntry desk.shape input e x
+      its_made = made_there over places order done at (λ x e. IsScriptEntry desk.shape input e x) made.each
 
       its_run : IsRunInOrder Good (Means input desk.shape) closed done
       its_run =

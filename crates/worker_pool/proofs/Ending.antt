@@ -21,8 +21,8 @@ use Rattle.worker_pool.specs.Counting.{times, once_below}
 use Rattle.worker_pool.specs.Inner.Ends.{IsGuest, owners_dealt, owners_took, stolen}
 use Rattle.worker_pool.specs.Inner.Finishing.{IsReturning, IsWholeRow, rows_stole}
 use Rattle.worker_pool.specs.Inner.Makers.{HasMade, RanScripts, RunsEach}
-use Rattle.worker_pool.specs.Inner.Takers.{dealt_to, had, IsDealtOut, Thieves}
-use Rattle.worker_pool.specs.Inner.Workers.{number_of, seat_of, share_of, AreAllDone, HasEndedItsPart, HasDoneItsPart, IsDone, Tally}
+use Rattle.worker_pool.specs.Inner.Queues.{dealt_to, had, IsDealtOut, Stealers}
+use Rattle.worker_pool.specs.Inner.Workers.{number_of, seat_of, share_of, AreAllDone, HasEndedItsPart, HasDoneItsPart, IsDone, CountedShare}
 use Rattle.worker_pool.proofs.Sums.{times_cons}
 use Rattle.worker_pool.proofs.Arranged.{length_without, none_without, times_without, without}
 use Rattle.worker_pool.proofs.Ended.{once_at_most}
@@ -36,7 +36,7 @@ abbrev pub RowOf : Type 0
 RowOf = Vec (Pass ℕ Deal Global) Global
 
 abbrev pub row_of : Worker → RowOf
-row_of worker = worker.taker.passes
+row_of worker = worker.queue.passes
 
 abbrev pub worker_share : Worker → Share
 worker_share worker = worker.share
@@ -76,10 +76,10 @@ few_once (suc n) xs h =
     ∙ none_without n xs) (omega (arith, times_without n x xs, h x))) in
     omega (arith, length_without n xs, rest, h n, at_most_one n)
 
-module _ (thieves : Thieves) (desk : DeskView BooksShape) (input : ClearingInput) (ws : List Worker)
-    (ended : All (HasEndedItsPart thieves desk input) ws) (none_failed : All (λ (worker : Worker). worker.failed ≡ false) ws)
-    (numbers : map number_of ws ≡ range_with_len 0 desk.seats) (long : length thieves ≡ length ws) where
-  worked : All (HasDoneItsPart thieves desk input) ws
+module _ (stealers : Stealers) (desk : DeskView BooksShape) (input : ClearingInput) (ws : List Worker)
+    (ended : All (HasEndedItsPart stealers desk input) ws) (none_failed : All (λ (worker : Worker). worker.failed ≡ false) ws)
+    (numbers : map number_of ws ≡ range_with_len 0 desk.seats) (long : length stealers ≡ length ws) where
+  worked : All (HasDoneItsPart stealers desk input) ws
   worked k d lt = ended k d lt (none_failed k d lt)
 
   number_at : (k : ℕ) (d : Worker) → k < length ws → number_of (get_or ws k d) ≡ k
@@ -89,38 +89,39 @@ module _ (thieves : Thieves) (desk : DeskView BooksShape) (input : ClearingInput
       ∙ get_or-range_with_len 0 desk.seats k (number_of d) (omega (arith, many, lt)) ∙ zero-add k
 
   pub owners_return : All (IsReturning (length ws)) (map own_of ws)
-  owners_return = all_map (IsReturning (length ws)) own_of ws (λ k d lt. let e = (worked k d lt).end in
+  owners_return = all_map (IsReturning (length ws)) own_of ws (λ k d lt. let e = (worked k d lt).queue in
       record { fifo = e.fifo; parts = omega (arith, e.parts, long) })
 
   guest_at : (i k : ℕ) (d : Worker) (w : OwnerOf) (p : Pass ℕ Deal Global) (s : Stealer ℕ Global Deal DealRule)
-      → i < length ws → k < length ws → IsGuest (get_or (map own_of ws) k w) (get_or (get_or ws i d).taker.passes.items k p)
+      → i < length ws → k < length ws → IsGuest (get_or (map own_of ws) k w) (get_or (get_or ws i d).queue.passes.items k p)
   guest_at i k d w p s within lt =
-      let e = (worked i d within).end in
+      let e = (worked i d within).queue in
       let it = e.row.each k s p (omega (arith, lt, long)) in
       let at = map_at own_of ws k w lt in
-      let o = (worked k at.0 lt).end in
-      let deque : worker_deque (get_or ws k at.0).taker.own ≡ stealer_deque (get_or thieves k s) = o.own s
-      ∙ ap (λ n. stealer_deque (get_or thieves n s)) (number_at k at.0 lt) in
-      subst (λ (v : OwnerOf). IsGuest v (get_or (get_or ws i d).taker.passes.items k p)) (sym at.1) (record {
-        deque = subst (λ q. IsPassOf q (get_or (get_or ws i d).taker.passes.items k p)) (sym deque) it.deque;
+      let o = (worked k at.0 lt).queue in
+      let deque : worker_deque (get_or ws k at.0).queue.own ≡ stealer_deque (get_or stealers k s) = o.own s
+      ∙ ap (λ n. stealer_deque (get_or stealers n s)) (number_at k at.0 lt) in
+      subst (λ (v : OwnerOf). IsGuest v (get_or (get_or ws i d).queue.passes.items k p)) (sym at.1) (record {
+        deque = subst (λ q. IsPassOf q (get_or (get_or ws i d).queue.passes.items k p)) (sym deque) it.deque;
         part = it.part;
         dealt = it.dealt;
         own = omega (arith, o.parts, o.few);
       })
 
-  a_thief : (ts : Thieves) → 0 < length ts → Stealer ℕ Global Deal DealRule
-  a_thief [] lt = absurd (omega arith)
-  a_thief (t ∷ ts) lt = t
+  a_stealer : (ts : Stealers) → 0 < length ts → Stealer ℕ Global Deal DealRule
+  a_stealer [] lt = absurd (omega arith)
+  a_stealer (t ∷ ts) lt = t
 
   pub rows_whole : All (λ (row : RowOf). IsWholeRow (map own_of ws) row.items) (map row_of ws)
   rows_whole = all_map (λ (row : RowOf). IsWholeRow (map own_of ws) row.items) row_of ws (λ i d within.
-      let count : length (get_or ws i d).taker.passes.items ≡ length (map own_of ws) = (worked i d within).end.row.count ∙ long ∙ sym (length-map ws own_of) in
+      let count : length (get_or ws i d).queue.passes.items ≡ length (map own_of ws) =
+      (worked i d within).queue.row.count ∙ long ∙ sym (length-map ws own_of) in
       record {
         guests = record {
           count = omega (arith, count);
           each = λ k w p lt.
               let less : k < length ws = omega (arith, lt, count, length-map ws own_of) in
-              guest_at i k d w p (a_thief thieves (omega (arith, less, long))) within less;
+              guest_at i k d w p (a_stealer stealers (omega (arith, less, long))) within less;
         };
         whole = count;
       })
@@ -128,99 +129,99 @@ module _ (thieves : Thieves) (desk : DeskView BooksShape) (input : ClearingInput
   -- what was taken by all, and what was left and was then found in the deques, is each caller once
   pub each_once : (left0 left : List ℕ)
       → ((x : ℕ) → owners_took (map own_of ws) x + rows_stole (map row_of ws) x + times x left ≡ owners_dealt (map own_of ws) x + times x left0)
-      → IsDealtOut (length input.callers) (map (λ (worker : Worker). dealt_to worker.taker) ws) left0 → (x : ℕ)
-      → sum_by (λ (worker : Worker). had worker.taker x) ws + times x left ≡ once_below x (length input.callers)
-  each_once left0 left settled dealt x = omega (
+      → IsDealtOut (length input.callers) (map (λ (worker : Worker). dealt_to worker.queue) ws) left0 → (x : ℕ)
+      → sum_by (λ (worker : Worker). had worker.queue x) ws + times x left ≡ once_below x (length input.callers)
+  each_once left0 left left_taken dealt x = omega (
     arith,
-    settled x,
+    left_taken x,
     dealt x,
-    sum_both (λ (worker : Worker). times x (worker_view worker.taker.own).taken) (λ (worker : Worker). stolen worker.taker.passes.items x) ws,
+    sum_both (λ (worker : Worker). times x (worker_view worker.queue.own).taken) (λ (worker : Worker). stolen worker.queue.passes.items x) ws,
     sum_over (λ (w : OwnerOf). times x (worker_view w).taken) own_of ws,
     sum_over (λ (row : RowOf). stolen row.items x) row_of ws,
     sum_over (λ (w : OwnerOf). times x (worker_view w).dealt) own_of ws,
-    sum_over (λ (l : List ℕ). times x l) (λ (worker : Worker). dealt_to worker.taker) ws,
+    sum_over (λ (l : List ℕ). times x l) (λ (worker : Worker). dealt_to worker.queue) ws,
   )
 
-abbrev tally_of : Worker → Tally
-tally_of worker = record { share = worker.share; had = had worker.taker }
+abbrev counted_of : Worker → CountedShare
+counted_of worker = record { share = worker.share; had = had worker.queue }
 
-shares_of_tallies : (ws : List Worker) → map share_of (map tally_of ws) ≡ map worker_share ws
-shares_of_tallies [] = refl
-shares_of_tallies (w ∷ ws) = λ i. w.share ∷ shares_of_tallies ws i
+shares_of_counted : (ws : List Worker) → map share_of (map counted_of ws) ≡ map worker_share ws
+shares_of_counted [] = refl
+shares_of_counted (w ∷ ws) = λ i. w.share ∷ shares_of_counted ws i
 
 -- a share that is done, and those of workers of whom none took a caller twice
-done_at : {thieves : Thieves} {desk : DeskView BooksShape} {input : ClearingInput} (tally : Tally)
-    → IsDone desk input tally → (ws : List Worker) → All (HasDoneItsPart thieves desk input) ws
-    → ((k : ℕ) (d : Worker) → k < length ws → (x : ℕ) → had (get_or ws k d).taker x ≤ 1) → All (IsDone desk input) (tally ∷ map tally_of ws)
-done_at tally first ws each few zero d lt = first
-done_at {desk = desk} {input = input} tally first ws each few (suc k) d lt =
-    all_map (IsDone desk input) tally_of ws (λ i e within. record {
+done_at : {stealers : Stealers} {desk : DeskView BooksShape} {input : ClearingInput} (counted : CountedShare)
+    → IsDone desk input counted → (ws : List Worker) → All (HasDoneItsPart stealers desk input) ws
+    → ((k : ℕ) (d : Worker) → k < length ws → (x : ℕ) → had (get_or ws k d).queue x ≤ 1) → All (IsDone desk input) (counted ∷ map counted_of ws)
+done_at counted first ws each few zero d lt = first
+done_at {desk = desk} {input = input} counted first ws each few (suc k) d lt =
+    all_map (IsDone desk input) counted_of ws (λ i e within. record {
       made = (each i e within).made;
       run =
           (each i e within).run (few i e within);
     }) k d (omega arith)
 
 -- the first share has run what was left, and the others are as the workers left them
-pub last_done : (thieves : Thieves) (desk : DeskView BooksShape) (input : ClearingInput) (ws : List Worker)
-    → All (HasDoneItsPart thieves desk input) ws → map number_of ws ≡ range_with_len 0 desk.seats → 0 < length ws
-    → (left : List ℕ) → ((x : ℕ) → sum_by (λ (worker : Worker). had worker.taker x) ws + times x left ≡ once_below x (length input.callers))
+pub last_done : (stealers : Stealers) (desk : DeskView BooksShape) (input : ClearingInput) (ws : List Worker)
+    → All (HasDoneItsPart stealers desk input) ws → map number_of ws ≡ range_with_len 0 desk.seats → 0 < length ws
+    → (left : List ℕ) → ((x : ℕ) → sum_by (λ (worker : Worker). had worker.queue x) ws + times x left ≡ once_below x (length input.callers))
     → (shares : List Share) (first last : Share) → shares ≡ map worker_share ws → first ≡ get_or shares 0 first
     → HasMade desk input (seat_of first) last.pass last.done.items → seat_of last ≡ seat_of first
     → ((h more : ℕ → ℕ) → ((x : ℕ) → more x ≡ h x + times x left) → RunsEach input h first.done.items → RunsEach input more last.done.items)
     → AreAllDone desk input (set shares 0 last)
-last_done thieves desk input [] each numbers some left once shares first last are is made number run = absurd (omega arith)
-last_done thieves desk input (w ∷ ws) each numbers some left once shares first last are is made number run =
+last_done stealers desk input [] each numbers some left once shares first last are is made number run = absurd (omega arith)
+last_done stealers desk input (w ∷ ws) each numbers some left once shares first last are is made number run =
     let mine : first ≡ w.share = is ∙ ap (λ l. get_or l 0 first) are in
-    let more : ℕ → ℕ = λ x. had w.taker x + times x left in
-    let sum : (x : ℕ) → sum_by (λ (worker : Worker). had worker.taker x) (w ∷ ws)
-    ≡ had w.taker x + sum_by (λ (worker : Worker). had worker.taker x) ws = λ x. sum_by-cons (λ (worker : Worker). had worker.taker x) w ws in
-    let tally : Tally = record { share = last; had = more } in
+    let more : ℕ → ℕ = λ x. had w.queue x + times x left in
+    let sum : (x : ℕ) → sum_by (λ (worker : Worker). had worker.queue x) (w ∷ ws)
+    ≡ had w.queue x + sum_by (λ (worker : Worker). had worker.queue x) ws = λ x. sum_by-cons (λ (worker : Worker). had worker.queue x) w ws in
+    let counted : CountedShare = record { share = last; had = more } in
     let few_more : (x : ℕ) → more x ≤ 1 = λ x. omega (arith, once x, sum x, once_at_most x (length input.callers)) in
     let ran : RanScripts input more 0 0 last.done.items =
-    run (had w.taker) more (λ x. refl) (subst (λ (s : Share). RunsEach input (had w.taker) s.done.items) (sym mine)
+    run (had w.queue) more (λ x. refl) (subst (λ (s : Share). RunsEach input (had w.queue) s.done.items) (sym mine)
     (each 0 w (omega arith)).run) few_more in
     record {
-      tallies = tally ∷ map tally_of ws;
-      are = (λ i. last ∷ shares_of_tallies ws i) ∙ ap (λ l. set l 0 last) (sym are);
+      counted_shares = counted ∷ map counted_of ws;
+      are = (λ i. last ∷ shares_of_counted ws i) ∙ ap (λ l. set l 0 last) (sym are);
       numbers = ap (λ l. map seat_of (set l 0 last)) are ∙ (λ i. (number ∙ ap seat_of mine) i ∷ map-map seat_of worker_share ws i) ∙ numbers;
-      each = done_at tally (record { made = subst (λ n. HasMade desk input n last.pass last.done.items) (sym number) made; run = ran }) ws
+      each = done_at counted (record { made = subst (λ n. HasMade desk input n last.pass last.done.items) (sym number) made; run = ran }) ws
           (λ k d lt. each (suc k) d (omega arith))
           (λ k d lt x. omega (
             arith,
             once x,
             sum x,
             once_at_most x (length input.callers),
-            get_or-le-sum_by (λ (worker : Worker). had worker.taker x) ws k d lt,
+            get_or-le-sum_by (λ (worker : Worker). had worker.queue x) ws k d lt,
           ));
       once = λ x. omega (
         arith,
         once x,
         sum x,
-        sum_by-cons (λ (t : Tally). t.had x) tally (map tally_of ws),
-        sum_over (λ (t : Tally). t.had x) tally_of ws,
+        sum_by-cons (λ (t : CountedShare). t.had x) counted (map counted_of ws),
+        sum_over (λ (t : CountedShare). t.had x) counted_of ws,
       );
     }
 
 -- all that the workers leave, as it was gathered
-module _ (thieves : Thieves) (desk : DeskView BooksShape) (input : ClearingInput) (ws : List Worker)
-    (ended : All (HasEndedItsPart thieves desk input) ws) (none_failed : All (λ (worker : Worker). worker.failed ≡ false) ws)
-    (numbers : map number_of ws ≡ range_with_len 0 desk.seats) (long : length thieves ≡ length ws) (some : 0 < length ws)
+module _ (stealers : Stealers) (desk : DeskView BooksShape) (input : ClearingInput) (ws : List Worker)
+    (ended : All (HasEndedItsPart stealers desk input) ws) (none_failed : All (λ (worker : Worker). worker.failed ≡ false) ws)
+    (numbers : map number_of ws ≡ range_with_len 0 desk.seats) (long : length stealers ≡ length ws) (some : 0 < length ws)
     (owners : List OwnerOf) (rows : List RowOf) (shares : List Share) (owners_are : owners ≡ map own_of ws)
     (rows_are : rows ≡ map row_of ws) (shares_are : shares ≡ map worker_share ws) where
-  all_worked : All (HasDoneItsPart thieves desk input) ws
+  all_worked : All (HasDoneItsPart stealers desk input) ws
   all_worked k d lt = ended k d lt (none_failed k d lt)
 
   owners_back : All (IsReturning (length rows)) owners
   owners_back =
       let many : length ws ≡ length rows = sym (ap (λ l. length l) rows_are ∙ length-map ws row_of) in
       subst (λ n. All (IsReturning n) owners) many (subst (λ l. All (IsReturning (length ws)) l) (sym owners_are)
-      (owners_return thieves desk input ws ended none_failed numbers long))
+      (owners_return stealers desk input ws ended none_failed numbers long))
 
   rows_back : All (λ (row : RowOf). IsWholeRow owners row.items) rows
   rows_back =
       subst (λ (l : List RowOf). All (λ (row : RowOf). IsWholeRow owners row.items) l) (sym rows_are)
       (subst (λ (l : List OwnerOf). All (λ (row : RowOf). IsWholeRow l row.items) (map row_of ws)) (sym owners_are)
-      (rows_whole thieves desk input ws ended none_failed numbers long))
+      (rows_whole stealers desk input ws ended none_failed numbers long))
 
   -- every owner may take back its passes, and every row has one for each owner
   pub all_back : All (IsReturning (length rows)) owners × All (λ (row : RowOf). IsWholeRow owners row.items) rows
@@ -240,12 +241,12 @@ module _ (thieves : Thieves) (desk : DeskView BooksShape) (input : ClearingInput
   first_few first is = let w = first_worker first is in
       subst (λ (s : Share). length s.done.items ≤ MOST_CALLERS * MOST_SCRIPTS) (sym w.1) (all_worked 0 w.0 some).few
 
-  module _ (left0 left : List ℕ) (settled : (x : ℕ) → owners_took owners x + rows_stole rows x + times x left ≡ owners_dealt owners x + times x left0)
-      (dealt : IsDealtOut (length input.callers) (map (λ (worker : Worker). dealt_to worker.taker) ws) left0) where
-    once : (x : ℕ) → sum_by (λ (worker : Worker). had worker.taker x) ws + times x left ≡ once_below x (length input.callers)
-    once = each_once thieves desk input ws ended none_failed numbers long left0 left
+  module _ (left0 left : List ℕ) (left_taken : (x : ℕ) → owners_took owners x + rows_stole rows x + times x left ≡ owners_dealt owners x + times x left0)
+      (dealt : IsDealtOut (length input.callers) (map (λ (worker : Worker). dealt_to worker.queue) ws) left0) where
+    once : (x : ℕ) → sum_by (λ (worker : Worker). had worker.queue x) ws + times x left ≡ once_below x (length input.callers)
+    once = each_once stealers desk input ws ended none_failed numbers long left0 left
         (λ x. subst (λ (y : List OwnerOf × List RowOf). owners_took y.0 x + rows_stole y.1 x + times x left
-        ≡ owners_dealt y.0 x + times x left0) (λ i. (owners_are i, rows_are i)) (settled x)) dealt
+        ≡ owners_dealt y.0 x + times x left0) (λ i. (owners_are i, rows_are i)) (left_taken x)) dealt
 
     pub few_left : IsInput input → length left ≤ MOST_CALLERS
     few_left valid = omega (arith, few_once (length input.callers) left (λ x. omega (arith, once x)), valid.callers.few)
@@ -254,15 +255,15 @@ module _ (thieves : Thieves) (desk : DeskView BooksShape) (input : ClearingInput
         → HasMade desk input (seat_of first) last.pass last.done.items → seat_of last ≡ seat_of first
         → ((h more : ℕ → ℕ) → ((x : ℕ) → more x ≡ h x + times x left) → RunsEach input h first.done.items → RunsEach input more last.done.items)
         → AreAllDone desk input (set shares 0 last)
-    all_done first last is made number run = last_done thieves desk input ws all_worked numbers some left once shares first last shares_are is made number run
+    all_done first last is made number run = last_done stealers desk input ws all_worked numbers some left once shares first last shares_are is made number run
 
--- what was dealt to the owners was dealt to the workers' ends
+-- what was dealt to the owners was dealt to the workers' queues
 pub dealt_to_all : (callers : ℕ) (ws : List Worker) (owners : List OwnerOf) (left : List ℕ) → map own_of ws ≡ owners
-    → 0 < length owners → AreDealtInTurn callers owners left → IsDealtOut callers (map (λ (worker : Worker). dealt_to worker.taker) ws) left
+    → 0 < length owners → AreDealtInTurn callers owners left → IsDealtOut callers (map (λ (worker : Worker). dealt_to worker.queue) ws) left
 dealt_to_all callers ws owners left are some h x = omega (
   arith,
   dealt_all callers owners left some h x,
   ap (λ l. owners_dealt l x) are,
   sum_over (λ (w : OwnerOf). times x (worker_view w).dealt) own_of ws,
-  sum_over (λ (l : List ℕ). times x l) (λ (worker : Worker). dealt_to worker.taker) ws,
+  sum_over (λ (l : List ℕ). times x l) (λ (worker : Worker). dealt_to worker.queue) ws,
 )

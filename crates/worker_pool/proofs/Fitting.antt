@@ -22,23 +22,23 @@ module _ {A P : Type 0} where
     fifo = h.fifo;
   }
 
-  pub fits_set : (thieves : List (Stealer ℕ A Deal P)) (ps : List (Pass ℕ Deal A)) (k : ℕ) (q : Pass ℕ Deal A) → AreAtEach thieves ps → k < length thieves
-      → ((s : Stealer ℕ A Deal P) → IsPassAt (get_or thieves k s) q) → AreAtEach thieves (set ps k q)
-  fits_set thieves ps k q h lt at = record {
+  pub fits_set : (stealers : List (Stealer ℕ A Deal P)) (ps : List (Pass ℕ Deal A)) (k : ℕ) (q : Pass ℕ Deal A) → AreAtEach stealers ps → k < length stealers
+      → ((s : Stealer ℕ A Deal P) → IsPassAt (get_or stealers k s) q) → AreAtEach stealers (set ps k q)
+  fits_set stealers ps k q h lt at = record {
     count = length-set ps k q ∙ h.count;
     each = λ j s p less. dite (ℕ_discrete j k)
-        (λ e. subst (λ (i : ℕ). IsPassAt (get_or thieves i s) (get_or (set ps k q) i p)) (sym e)
-        (subst (λ (x : Pass ℕ Deal A). IsPassAt (get_or thieves k s) x) (sym (get_or-set_same ps k q p (omega (arith, h.count, lt)))) (at s)))
-        (λ n. subst (λ (x : Pass ℕ Deal A). IsPassAt (get_or thieves j s) x) (sym (get_or-set_other ps k j q p n)) (h.each j s p less));
+        (λ e. subst (λ (i : ℕ). IsPassAt (get_or stealers i s) (get_or (set ps k q) i p)) (sym e)
+        (subst (λ (x : Pass ℕ Deal A). IsPassAt (get_or stealers k s) x) (sym (get_or-set_same ps k q p (omega (arith, h.count, lt)))) (at s)))
+        (λ n. subst (λ (x : Pass ℕ Deal A). IsPassAt (get_or stealers j s) x) (sym (get_or-set_other ps k j q p n)) (h.each j s p less));
   }
 
 module _ {A P : Type 0} where
-  pub fits_after : (thieves : List (Stealer ℕ A Deal P)) (ps : List (Pass ℕ Deal A)) (k : ℕ) (p q : Pass ℕ Deal A)
-      → AreAtEach thieves ps → k < length thieves → p ≡ get_or ps k p
-      → SamePass p q → (view q).parts ≡ (view p).parts → (view q).dealt ≡ (view p).dealt → AreAtEach thieves (set ps k q)
-  fits_after thieves ps k p q h lt is same parts dealt =
-      fits_set thieves ps k q h lt (λ s.
-      still_at (get_or thieves k s) p q (subst (λ (r : Pass ℕ Deal A). IsPassAt (get_or thieves k s) r) (sym is) (h.each k s p lt)) same parts dealt)
+  pub fits_after : (stealers : List (Stealer ℕ A Deal P)) (ps : List (Pass ℕ Deal A)) (k : ℕ) (p q : Pass ℕ Deal A)
+      → AreAtEach stealers ps → k < length stealers → p ≡ get_or ps k p
+      → SamePass p q → (view q).parts ≡ (view p).parts → (view q).dealt ≡ (view p).dealt → AreAtEach stealers (set ps k q)
+  fits_after stealers ps k p q h lt is same parts dealt =
+      fits_set stealers ps k q h lt (λ s.
+      still_at (get_or stealers k s) p q (subst (λ (r : Pass ℕ Deal A). IsPassAt (get_or stealers k s) r) (sym is) (h.each k s p lt)) same parts dealt)
 
 module _ {A : Type 0} where
   stolen_set : (ps : List (Pass ℕ Deal A)) (k : ℕ) (p q : Pass ℕ Deal A) (x : ℕ) → k < length ps → p ≡ get_or ps k p

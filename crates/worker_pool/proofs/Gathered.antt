@@ -21,17 +21,17 @@ use Rattle.worker_pool.specs.Days.{Done}
 use Rattle.worker_pool.specs.Counting.{once_below}
 use Rattle.worker_pool.specs.Days.{place_of_item, places_of_items}
 use Rattle.txn_commit.specs.Ordered.{spot_of}
-use Rattle.worker_pool.specs.Inner.Makers.{AreMadeBy, IsMadeBy}
-use Rattle.worker_pool.specs.Inner.Workers.{tally_number, IsDone, Tally}
+use Rattle.worker_pool.specs.Inner.Makers.{AreMadeBy, IsScriptEntry}
+use Rattle.worker_pool.specs.Inner.Workers.{counted_number, IsDone, CountedShare}
 use Rattle.txn_commit.proofs.Flattened.{beside_flat, in_flat, into_flat, of_in, AreBeside}
 use Rattle.txn_commit.proofs.Orders.Rebuilt.{apart_places, AreApart, Readings}
 use Rattle.worker_pool.proofs.Running.{among_had, one_if}
 
-abbrev pub items_of : Tally → List Done
-items_of tally = tally.share.done.items
+abbrev pub items_of : CountedShare → List Done
+items_of counted = counted.share.done.items
 
-abbrev pub pass_of : Tally → PassView
-pass_of tally = tally.share.pass
+abbrev pub pass_of : CountedShare → PassView
+pass_of counted = counted.share.pass
 
 -- two lists of which each is in pairs, and each of the first with each of the second
 pairs-append : {X : Type 0} (R : X → X → Type 0) (xs ys : List X) → AllPairs R xs → AllPairs R ys → All (λ x. All (R x) ys) xs → AllPairs R (xs ++ ys)
@@ -77,35 +77,35 @@ abbrev pub InOrder : Done → Done → Type 0
 InOrder x y = x.caller ≡ y.caller → (x.index < y.index) × ((x.seat ≡ y.seat) × (x.call < y.call))
 
 -- a caller of whom the workers took all scripts once stands in one worker's list alone
-abbrev pub total_had : List Tally → ℕ → ℕ
-total_had ws x = sum_by (λ (w : Tally). w.had x) ws
+abbrev pub total_had : List CountedShare → ℕ → ℕ
+total_had ws x = sum_by (λ (w : CountedShare). w.had x) ws
 
-pub among_total : (ws : List Tally)
-    → All (λ (w : Tally). All (λ (item : Done). 0 < w.had item.caller) w.share.done.items) ws
+pub among_total : (ws : List CountedShare)
+    → All (λ (w : CountedShare). All (λ (item : Done). 0 < w.had item.caller) w.share.done.items) ws
     → All (λ (item : Done). 0 < total_had ws item.caller) (flat_map items_of ws)
 among_total [] each = All-nil (λ (item : Done). 0 < total_had [] item.caller)
 among_total (w ∷ ws) each =
-    let more : (x : ℕ) → total_had (w ∷ ws) x ≡ w.had x + total_had ws x = λ x. sum_by-cons (λ (v : Tally). v.had x) w ws in
+    let more : (x : ℕ) → total_had (w ∷ ws) x ≡ w.had x + total_had ws x = λ x. sum_by-cons (λ (v : CountedShare). v.had x) w ws in
     let own : All (λ (item : Done). 0 < total_had (w ∷ ws) item.caller) w.share.done.items =
     All-weaker (λ (item : Done). 0 < w.had item.caller) (λ (item : Done). 0 < total_had (w ∷ ws) item.caller)
     (λ item lt. omega (arith, more item.caller, lt)) w.share.done.items
-    (All-head (λ (v : Tally). All (λ (item : Done). 0 < v.had item.caller) v.share.done.items) w ws each) in
+    (All-head (λ (v : CountedShare). All (λ (item : Done). 0 < v.had item.caller) v.share.done.items) w ws each) in
     let others : All (λ (item : Done). 0 < total_had (w ∷ ws) item.caller) (flat_map items_of ws) =
     All-weaker (λ (item : Done). 0 < total_had ws item.caller) (λ (item : Done). 0 < total_had (w ∷ ws) item.caller)
     (λ item lt. omega (arith, more item.caller, lt)) (flat_map items_of ws)
-    (among_total ws (All-tail (λ (v : Tally). All (λ (item : Done). 0 < v.had item.caller) v.share.done.items) w ws each)) in
+    (among_total ws (All-tail (λ (v : CountedShare). All (λ (item : Done). 0 < v.had item.caller) v.share.done.items) w ws each)) in
     subst (λ l. All (λ (item : Done). 0 < total_had (w ∷ ws) item.caller) l) (sym (flat_map-cons items_of w ws))
     (All-append (λ (item : Done). 0 < total_had (w ∷ ws) item.caller) w.share.done.items (flat_map items_of ws) own others)
 
-in_order_all : (ws : List Tally) → All (λ (w : Tally). AllPairs InOrder w.share.done.items) ws
-    → All (λ (w : Tally). All (λ (item : Done). 0 < w.had item.caller) w.share.done.items) ws
+in_order_all : (ws : List CountedShare) → All (λ (w : CountedShare). AllPairs InOrder w.share.done.items) ws
+    → All (λ (w : CountedShare). All (λ (item : Done). 0 < w.had item.caller) w.share.done.items) ws
     → ((x : ℕ) → total_had ws x ≤ 1) → AllPairs InOrder (flat_map items_of ws)
 in_order_all [] pairs among once = λ i j d lt short. absurd (omega arith)
 in_order_all (w ∷ ws) pairs among once =
-    let more : (x : ℕ) → total_had (w ∷ ws) x ≡ w.had x + total_had ws x = λ x. sum_by-cons (λ (v : Tally). v.had x) w ws in
+    let more : (x : ℕ) → total_had (w ∷ ws) x ≡ w.had x + total_had ws x = λ x. sum_by-cons (λ (v : CountedShare). v.had x) w ws in
     let own : All (λ (item : Done). 0 < w.had item.caller) w.share.done.items =
-    All-head (λ (v : Tally). All (λ (item : Done). 0 < v.had item.caller) v.share.done.items) w ws among in
-    let rest = All-tail (λ (v : Tally). All (λ (item : Done). 0 < v.had item.caller) v.share.done.items) w ws among in
+    All-head (λ (v : CountedShare). All (λ (item : Done). 0 < v.had item.caller) v.share.done.items) w ws among in
+    let rest = All-tail (λ (v : CountedShare). All (λ (item : Done). 0 < v.had item.caller) v.share.done.items) w ws among in
     let others : All (λ (item : Done). 0 < total_had ws item.caller) (flat_map items_of ws) = among_total ws rest in
     let cross : All (λ x. All (InOrder x) (flat_map items_of ws)) w.share.done.items = λ k d lt j e short same.
     absurd (omega (
@@ -117,26 +117,26 @@ in_order_all (w ∷ ws) pairs among once =
       ap (total_had ws) same,
     )) in
     subst (AllPairs InOrder) (sym (flat_map-cons items_of w ws))
-    (pairs-append InOrder w.share.done.items (flat_map items_of ws) (All-head (λ (v : Tally). AllPairs InOrder v.share.done.items) w ws pairs)
-    (in_order_all ws (All-tail (λ (v : Tally). AllPairs InOrder v.share.done.items) w ws pairs) rest (λ x. omega (arith, once x, more x))) cross)
+    (pairs-append InOrder w.share.done.items (flat_map items_of ws) (All-head (λ (v : CountedShare). AllPairs InOrder v.share.done.items) w ws pairs)
+    (in_order_all ws (All-tail (λ (v : CountedShare). AllPairs InOrder v.share.done.items) w ws pairs) rest (λ x. omega (arith, once x, more x))) cross)
 
-abbrev pub seen_by : Tally → List Entry
-seen_by tally = tally.share.pass.view.seen
+abbrev pub seen_by : CountedShare → List Entry
+seen_by counted = counted.share.pass.view.seen
 
 -- all items beside their entries
-made_flat : (shape : BooksShape) (input : ClearingInput) (ws : List Tally)
-    → All (λ (w : Tally). AreMadeBy shape input (seen_by w) (items_of w)) ws
+made_flat : (shape : BooksShape) (input : ClearingInput) (ws : List CountedShare)
+    → All (λ (w : CountedShare). AreMadeBy shape input (seen_by w) (items_of w)) ws
     → AreMadeBy shape input (flat_map seen_by ws) (flat_map items_of ws)
 made_flat shape input ws all = record { as_many = beside.as_many; each = beside.each }
   where
-    beside : AreBeside (λ item e. IsMadeBy shape input e item) (flat_map items_of ws) (flat_map seen_by ws)
-    beside = beside_flat (λ item e. IsMadeBy shape input e item) items_of seen_by ws ws refl (λ k v w at_v at_w.
-        let made = of_in (λ (x : Tally). AreMadeBy shape input (seen_by x) (items_of x)) ws all v (k, at_v) in
-        subst (λ (x : Tally). AreBeside (λ item e. IsMadeBy shape input e item) (items_of v) (seen_by x)) (same_Some v w (sym at_v ∙ at_w))
+    beside : AreBeside (λ item e. IsScriptEntry shape input e item) (flat_map items_of ws) (flat_map seen_by ws)
+    beside = beside_flat (λ item e. IsScriptEntry shape input e item) items_of seen_by ws ws refl (λ k v w at_v at_w.
+        let made = of_in (λ (x : CountedShare). AreMadeBy shape input (seen_by x) (items_of x)) ws all v (k, at_v) in
+        subst (λ (x : CountedShare). AreBeside (λ item e. IsScriptEntry shape input e item) (items_of v) (seen_by x)) (same_Some v w (sym at_v ∙ at_w))
         (record { as_many = made.as_many; each = made.each }))
 
--- an entry is among those of all shares exactly where some pass has seen it
-pub seen_flat : (ws : List Tally) (e : Entry) → IsIn e (flat_map seen_by ws) ↔ ((pass : PassView) × (IsIn pass (map pass_of ws) × IsIn e pass.view.seen))
+-- an entry is among those of all shares exactly if some pass has seen it
+pub seen_flat : (ws : List CountedShare) (e : Entry) → IsIn e (flat_map seen_by ws) ↔ ((pass : PassView) × (IsIn pass (map pass_of ws) × IsIn e pass.view.seen))
 seen_flat ws e = (
   λ t. let r = in_flat seen_by ws e t in (r.1.share.pass, ((r.0, at_map pass_of ws r.0 r.1 r.2), r.3)),
   λ t.
@@ -144,7 +144,7 @@ seen_flat ws e = (
       into_flat seen_by ws e t.1.0.0 m.0 m.1 (subst (λ (pass : PassView). IsIn e pass.view.seen) (sym m.2) t.1.1),
 )
 
-module _ (desk : DeskView BooksShape) (input : ClearingInput) (ws : List Tally) (worked : All (IsDone desk input) ws) where
+module _ (desk : DeskView BooksShape) (input : ClearingInput) (ws : List CountedShare) (worked : All (IsDone desk input) ws) where
   abbrev pub all_items : List Done
   all_items = flat_map items_of ws
 
@@ -164,7 +164,7 @@ module _ (desk : DeskView BooksShape) (input : ClearingInput) (ws : List Tally) 
     pub once_all : (p : Place) → IsPlace input p → count_by (λ q. q.caller == p.caller && q.index == p.index) (places_of_items all_items) ≡ 1
     once_all p there =
         let test : Place → ℕ = λ q. cond (q.caller == p.caller && q.index == p.index) 1 0 in
-        let by_worker : Tally → ℕ = λ w. sum_by (λ item. test (place_of_item item)) w.share.done.items in
+        let by_worker : CountedShare → ℕ = λ w. sum_by (λ item. test (place_of_item item)) w.share.done.items in
         let one : once_below p.caller (length input.callers) ≡ 1 = grind (arith, there.0) in
         let none : one_if (p.caller == 0 && nat_lt p.index 0) ≡ zero = grind (arith, nat_tests) in
         let each : All (λ w. by_worker w ≡ w.had p.caller) ws = λ k d lt.
@@ -175,7 +175,7 @@ module _ (desk : DeskView BooksShape) (input : ClearingInput) (ws : List Tally) 
     pub keeps_all : AllPairs InOrder all_items
     keeps_all = in_order_all ws
         (λ k d lt i j e less short same.
-        let w : Tally = get_or ws k d in
+        let w : CountedShare = get_or ws k d in
         let items : List Done = w.share.done.items in
         let made = (worked k d lt).made in
         let early : i < length items = omega (arith, less, short) in
@@ -194,15 +194,15 @@ module _ (desk : DeskView BooksShape) (input : ClearingInput) (ws : List Tally) 
 abbrev LaterCall : Done → Done → Type 0
 LaterCall x y = x.seat ≡ y.seat → x.call < y.call
 
-calls_apart : (desk : DeskView BooksShape) (input : ClearingInput) (ws : List Tally) (a : ℕ)
-    → ((k : ℕ) (d : Tally) → k < length ws → tally_number (get_or ws k d) ≡ a + k) → All (IsDone desk input) ws
+calls_apart : (desk : DeskView BooksShape) (input : ClearingInput) (ws : List CountedShare) (a : ℕ)
+    → ((k : ℕ) (d : CountedShare) → k < length ws → counted_number (get_or ws k d) ≡ a + k) → All (IsDone desk input) ws
     → All (λ (item : Done). a ≤ item.seat) (flat_map items_of ws) × AllPairs LaterCall (flat_map items_of ws)
 calls_apart desk input [] a numbered each = (All-nil (λ (item : Done). a ≤ item.seat), λ i j d lt short. absurd (omega arith))
 calls_apart desk input (w ∷ ws) a numbered each =
     let its = (All-head (IsDone desk input) w ws each).made in
     let rest = calls_apart desk input ws (a + 1) (λ k d lt. omega (arith, numbered (suc k) d (omega arith)))
     (All-tail (IsDone desk input) w ws each) in
-    let here : tally_number w ≡ a = omega (arith, numbered 0 w (omega arith)) in
+    let here : counted_number w ≡ a = omega (arith, numbered 0 w (omega arith)) in
     let own : AllPairs LaterCall (items_of w) = λ i j d lt short seat.
     omega (
       arith,
@@ -222,8 +222,8 @@ calls_apart desk input (w ∷ ws) a numbered each =
 abbrev pub read : Readings Done
 read = record { spot = spot_of; seat = λ item. item.seat; call = λ item. item.call }
 
-pub no_two_calls : (desk : DeskView BooksShape) (input : ClearingInput) (ws : List Tally)
-    → ((k : ℕ) (d : Tally) → k < length ws → tally_number (get_or ws k d) ≡ 0 + k) → All (IsDone desk input) ws
+pub no_two_calls : (desk : DeskView BooksShape) (input : ClearingInput) (ws : List CountedShare)
+    → ((k : ℕ) (d : CountedShare) → k < length ws → counted_number (get_or ws k d) ≡ 0 + k) → All (IsDone desk input) ws
     → AreApart read (flat_map items_of ws)
 no_two_calls desk input ws numbered each = apart_places read (flat_map items_of ws) (λ i j d lt short seat call.
     absurd (omega (arith, (calls_apart desk input ws 0 numbered each).1 i j d lt short seat, call)))

@@ -1,4 +1,4 @@
--- sums over all views of a table, where one view changes, and where one view has all
+-- sums over all views of a table, if one view changes, and if one view has all
 pub mod Sums
 -- each kind of step keeps the rule of a deque
 pub mod Steps
@@ -14,7 +14,7 @@ pub mod Dealt
 pub mod Returning
 -- all rows are given back, and all deques are emptied
 pub mod Draining
--- the ends of all workers before they start, and what was dealt to all deques together
+-- the queues of all workers before they start, and what was dealt to all deques together
 pub mod Opening
 -- how many scripts one caller has
 pub mod Rooms

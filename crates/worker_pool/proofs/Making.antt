@@ -3,13 +3,14 @@ use Rattle.std.proofs.Common.{◌≡◌, ℕ, ◌+◌, ◌<◌, List, [], ◌∷
 use Rattle.std.proofs.Common.{length-append}
 use Rattle.std.proofs.lemmas.List.Elements.{All-nil, All-push}
 use Rattle.std.proofs.lemmas.Option.{slice_get_within}
+use Rattle.script_reader.specs.Gathered.{script_at}
 use Rattle.history_model.specs.declared.entry.Entry.{Entry}
 use Rattle.history_model.specs.declared.item.LockUse.{LockUse}
 use Rattle.history_model.specs.declared.view.Phase.TheVariants.{Idle}
 use Rattle.history_model.specs.Fitting.{IsGood}
 use Rattle.history_model.specs.Traces.{after}
 use Rattle.history_model.proofs.ListPlaces.{get_cases}
-use Rattle.script_reader.specs.Input.{ClearingInput, script_at}
+use Rattle.script_reader.specs.Input.{ClearingInput}
 use Rattle.txn_books.specs.declared.shape.BooksShape.{BooksShape}
 use Rattle.txn_books.specs.Layout.{words_of}
 use Rattle.txn_books.specs.Meaning.{ScriptMeans}
@@ -21,7 +22,7 @@ use Rattle.books_model.specs.declared.reply.Reply.{Reply}
 use Rattle.word_table.specs.Copies.{PassView}
 use Rattle.word_table.specs.Desks.{DeskView}
 use Rattle.worker_pool.specs.Days.{Done}
-use Rattle.worker_pool.specs.Inner.Makers.{AreMadeBy, HasMade, IsMadeBy}
+use Rattle.worker_pool.specs.Inner.Makers.{AreMadeBy, HasMade, IsScriptEntry}
 
 -- what stands at a place of two lists of one length, each with one more: what stood there, or what came last
 pub one_more : {X Y : Type 0} (xs : List X) (ys : List Y) (x u : X) (y v : Y) → length xs ≡ length ys → (k : ℕ)
@@ -43,8 +44,8 @@ module _ (desk : DeskView BooksShape) (input : ClearingInput) where
 
   module _ (who call : ℕ) (old new : List Entry) (receipt : Receipt Reply) (item : Done)
       (gets : GetsEntry (IsGood (words_of desk.shape) (IsGoodFor desk.shape))
-      (ScriptMeans desk.shape (script_at input item.caller item.index)) who call old new receipt) (its : IsReceipted who receipt item) where
-    made_now : IsMadeBy desk.shape input gets.entry item
+      (ScriptMeans desk.shape (script_at input.callers item.caller item.index)) who call old new receipt) (its : IsReceipted who receipt item) where
+    made_now : IsScriptEntry desk.shape input gets.entry item
     made_now = record {
       is_of = record {
         seat_is = gets.made_by ∙ sym its.seat;
@@ -53,7 +54,7 @@ module _ (desk : DeskView BooksShape) (input : ClearingInput) where
         uses_are = subst (λ (l : List LockUse). ListsUses gets.entry.uses l) (sym its.uses) gets.uses_are;
       };
       meaning = λ s good legal.
-          subst (λ (r : Reply). ScriptMeans desk.shape (script_at input item.caller item.index) s gets.entry.kept
+          subst (λ (r : Reply). ScriptMeans desk.shape (script_at input.callers item.caller item.index) s gets.entry.kept
           r (after gets.entry.trace s)) (sym its.reply) (gets.meaning s good legal);
     }
 
@@ -61,8 +62,8 @@ module _ (desk : DeskView BooksShape) (input : ClearingInput) where
     one_more_made done made = subst (λ (l : List Entry). AreMadeBy desk.shape input l (done ++ item ∷ [])) (sym gets.seen) (record {
       as_many = omega (arith, made.as_many, length-append done (item ∷ []), length-append old (gets.entry ∷ []));
       each = λ k x e at_x at_e. ⊎_elim (λ t. made.each k x e t.0 t.1)
-          (λ t. subst (λ (y : Done). IsMadeBy desk.shape input e y) t.1.0
-          (subst (λ (f : Entry). IsMadeBy desk.shape input f item) t.1.1 made_now))
+          (λ t. subst (λ (y : Done). IsScriptEntry desk.shape input e y) t.1.0
+          (subst (λ (f : Entry). IsScriptEntry desk.shape input f item) t.1.1 made_now))
           (one_more done old item x gets.entry e made.as_many k at_x at_e);
     })
 

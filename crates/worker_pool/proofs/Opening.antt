@@ -1,4 +1,4 @@
--- The ends of all workers before they start, and what was dealt to all deques together.
+-- The queues of all workers before they start, and what was dealt to all deques together.
 use Rattle.std.proofs.Common.{◌≡◌, ℕ, zero, suc, ◌+◌, ◌%◌, ◌<◌, ◌≤◌, ◌==◌, if◌then◌else◌, All, List, [], ◌∷◌, length, get_or, refl, sym, ap, ◌∙◌, subst, arith}
 use Rattle.std.proofs.Common.{Global, lt_of_not-le, zero-add}
 use Rattle.std.specs.Prelude.{sum_by}
@@ -12,11 +12,11 @@ use Rattle.crossbeam_deque.specs.Handles.{Pass, view, IsPassOf, worker_deque, wo
 use Rattle.worker_pool.specs.declared.rule.Deal.{Deal}
 use Rattle.worker_pool.specs.declared.rule.DealRule.{DealRule}
 use Rattle.worker_pool.specs.declared.rule.TheConstants.{ALL_PARTS}
-use Rattle.worker_pool.specs.declared.taker.Taker.{Taker}
+use Rattle.worker_pool.specs.declared.queue.Queue.{Queue}
 use Rattle.worker_pool.specs.Counting.{times, once_below}
 use Rattle.worker_pool.specs.Inner.Dealing.{AreDealtInTurn, AreShown, IsFree, IsNewRow}
 use Rattle.worker_pool.specs.Inner.Ends.{AreAtEach, owners_dealt, stolen}
-use Rattle.worker_pool.specs.Inner.Takers.{IsEndOf, HadNone, Thieves}
+use Rattle.worker_pool.specs.Inner.Queues.{IsQueueOf, HadNone, Stealers}
 use Rattle.std.proofs.Math.Nat.{mod-lt}
 
 abbrev pub OwnerOf : Type 0
@@ -26,52 +26,52 @@ sum_zero : {X : Type 0} (f : X → ℕ) (xs : List X) → ((k : ℕ) (d : X) →
 sum_zero f [] none = refl
 sum_zero f (x ∷ xs) none = omega (arith, sum_by-cons f x xs, none 0 x (omega arith), sum_zero f xs (λ k d lt. none (suc k) d (omega arith)))
 
-module _ (thieves : Thieves) (owners : List OwnerOf) (n j : ℕ) (taker : Taker) (shown : AreShown thieves owners)
-    (many : length owners ≡ n) (few : n < ALL_PARTS) (free : All (IsFree n) owners) (row : IsNewRow owners taker.passes.items)
-    (own : taker.own ≡ get_or owners j taker.own) (within : j < n) where
-  fits_new : AreAtEach thieves taker.passes.items
+module _ (stealers : Stealers) (owners : List OwnerOf) (n j : ℕ) (queue : Queue) (shown : AreShown stealers owners)
+    (many : length owners ≡ n) (few : n < ALL_PARTS) (free : All (IsFree n) owners) (row : IsNewRow owners queue.passes.items)
+    (own : queue.own ≡ get_or owners j queue.own) (within : j < n) where
+  fits_new : AreAtEach stealers queue.passes.items
   fits_new = record {
     count = row.count ∙ sym shown.count;
     each = λ k s p lt.
         let less : k < length owners = omega (arith, lt, shown.count) in
-        let it = row.each k taker.own p less in
-        let both = shown.each k s taker.own less in
+        let it = row.each k queue.own p less in
+        let both = shown.each k s queue.own less in
         record {
-          deque = subst (λ d. IsPassOf d (get_or taker.passes.items k p)) both.deque it.deque;
+          deque = subst (λ d. IsPassOf d (get_or queue.passes.items k p)) both.deque it.deque;
           part = ap (λ (v : Deal). v.parts) it.view_is;
           dealt = ap (λ (v : Deal). v.dealt) it.view_is;
           fifo = both.fifo;
         };
   }
 
-  pub new_end : taker.seat ≡ j → taker.count ≡ 0 → IsEndOf thieves j taker
-  new_end seat count =
+  pub new_queue : queue.seat ≡ j → queue.count ≡ 0 → IsQueueOf stealers j queue
+  new_queue seat count =
       let less : j < length owners = omega (arith, within, many) in
-      let its = free j taker.own less in
-      let parts : (worker_view taker.own).parts ≡ (worker_view (get_or owners j taker.own)).parts = ap (λ (w : OwnerOf). (worker_view w).parts) own in
+      let its = free j queue.own less in
+      let parts : (worker_view queue.own).parts ≡ (worker_view (get_or owners j queue.own)).parts = ap (λ (w : OwnerOf). (worker_view w).parts) own in
       record {
         seat_is = seat;
         within = omega (arith, within, many, shown.count);
         few = omega (arith, few, many, shown.count);
-        own = λ s. ap (λ (w : OwnerOf). worker_deque w) own ∙ (shown.each j s taker.own less).deque;
-        fifo = ap (λ (w : OwnerOf). worker_flavor w) own ∙ (shown.each j (first_thief thieves (omega (arith, less, shown.count))) taker.own less).own_fifo;
+        own = λ s. ap (λ (w : OwnerOf). worker_deque w) own ∙ (shown.each j s queue.own less).deque;
+        fifo = ap (λ (w : OwnerOf). worker_flavor w) own ∙ (shown.each j (first_stealer stealers (omega (arith, less, shown.count))) queue.own less).own_fifo;
         parts = omega (arith, parts, its.parts, shown.count, many);
         row = fits_new;
         count = omega (arith, count);
       }
     where
-      first_thief : (ts : Thieves) → 0 < length ts → Stealer ℕ Global Deal DealRule
-      first_thief [] lt = absurd (omega arith)
-      first_thief (t ∷ ts) lt = t
+      first_stealer : (ts : Stealers) → 0 < length ts → Stealer ℕ Global Deal DealRule
+      first_stealer [] lt = absurd (omega arith)
+      first_stealer (t ∷ ts) lt = t
 
-  pub new_unused : taker.count ≡ 0 → HadNone taker
+  pub new_unused : queue.count ≡ 0 → HadNone queue
   new_unused count =
       let less : j < length owners = omega (arith, within, many) in
-      let took : (worker_view taker.own).taken ≡ [] = ap (λ (w : OwnerOf). (worker_view w).taken) own ∙ (free j taker.own less).taken in
+      let took : (worker_view queue.own).taken ≡ [] = ap (λ (w : OwnerOf). (worker_view w).taken) own ∙ (free j queue.own less).taken in
       record {
         none = λ x.
-            let stole : stolen taker.passes.items x ≡ 0 = sum_zero (λ (p : Pass ℕ Deal Global). times x (view p).taken) taker.passes.items
-            (λ k p lt. ap (λ (v : Deal). times x v.taken) (row.each k taker.own p (omega (arith, lt, row.count))).view_is) in
+            let stole : stolen queue.passes.items x ≡ 0 = sum_zero (λ (p : Pass ℕ Deal Global). times x (view p).taken) queue.passes.items
+            (λ k p lt. ap (λ (v : Deal). times x v.taken) (row.each k queue.own p (omega (arith, lt, row.count))).view_is) in
             omega (arith, stole, ap (times x) took);
         count = count;
       }

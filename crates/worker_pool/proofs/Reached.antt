@@ -7,7 +7,7 @@ use Rattle.order_rebuild.proofs.Marks.{set_other}
 use Rattle.worker_pool.specs.declared.rule.Deal.{Deal}
 use Rattle.worker_pool.specs.declared.rule.TheConstants.{ALL_PARTS}
 use Rattle.worker_pool.specs.Counting.{times}
-use Rattle.worker_pool.specs.Deques.{IsReached, Begins, Deals, Takes, Gives, Joins, deal, has_dealt, has_taken, joined, with_part_less}
+use Rattle.worker_pool.specs.Deques.{IsDequeReached, Begins, Deals, Takes, Gives, Joins, deal, has_dealt, has_taken, joined, with_part_less}
 use Rattle.worker_pool.specs.Inner.Deals.{took, put, IsDealt}
 use Rattle.worker_pool.proofs.Steps.{begins, pushes, takes, forks, merges, took_of, put_of, no_took, no_put}
 use Rattle.worker_pool.proofs.Sums.{alone}
@@ -21,7 +21,7 @@ stands_at (x ∷ xs) zero v e = ap some (same_Some x v e)
 stands_at (x ∷ xs) (suc i) v e = stands_at xs i v e
 
 -- the rule holds
-keeps_rule : (items : List ℕ) (views : List Deal) → IsReached items views → IsDealt items views
+keeps_rule : (items : List ℕ) (views : List Deal) → IsDequeReached items views → IsDealt items views
 keeps_rule items views Begins = begins
 keeps_rule items views (Deals its xs vs k v r at part) =
     let new = pushes k v xs part its vs (keeps_rule its vs r) (stands_at vs k v at) in
@@ -34,16 +34,16 @@ keeps_rule items views (Joins its vs k j v w r at there differ part more) =
     merges k v j w part more its vs (keeps_rule its vs r) (stands_at vs k v at) (λ e. differ (sym e))
     (stands_at (slice_set vs k (joined v w)) j w (set_other vs k j (joined v w) (λ e. differ (sym e)) ∙ there))
 
--- a sum over all handles where one changes
+-- a sum over all handles if one changes
 changes : (f : Deal → ℕ) (views : List Deal) (k : ℕ) (v w : Deal) → slice_get views k ≡ Some v
     → sum_by f (slice_set views k w) + f v ≡ sum_by f views + f w
 changes f views k v w at =
     subst (λ (u : Deal). sum_by f (slice_set views k w) + f u ≡ sum_by f views + f w) (get_or_from_slice_get views k v v at)
     (sum_by-set f views k w v (slice_get_within views k v at))
 
--- sums that are the same where a handle has a part, and where it has nothing, are the same over all handles
+-- sums that are the same if a handle has a part, and if it has nothing, are the same over all handles
 module _ (f g : Deal → ℕ) (same : (v : Deal) → 0 < v.parts → g v ≡ f v) (nothing : g (deal 0 [] []) ≡ f (deal 0 [] [])) where
-  same_sum : (items : List ℕ) (views : List Deal) → IsReached items views → sum_by g views ≡ sum_by f views
+  same_sum : (items : List ℕ) (views : List Deal) → IsDequeReached items views → sum_by g views ≡ sum_by f views
   same_sum items views Begins =
       let b : Deal = deal ALL_PARTS [] [] in omega (arith, same b (omega arith), sum_by-cons f b [], sum_by-cons g b [])
   same_sum items views (Deals its xs vs k v r at part) =
@@ -85,10 +85,10 @@ module _ (f g : Deal → ℕ) (same : (v : Deal) → 0 < v.parts → g v ≡ f v
         nothing,
       )
 
-pub parts_are : (items : List ℕ) (views : List Deal) → IsReached items views → sum_by (λ (v : Deal). v.parts) views ≡ ALL_PARTS
+pub parts_are : (items : List ℕ) (views : List Deal) → IsDequeReached items views → sum_by (λ (v : Deal). v.parts) views ≡ ALL_PARTS
 parts_are items views r = (keeps_rule items views r).parts
 
-pub once_each : (items : List ℕ) (views : List Deal) → IsReached items views → (x : ℕ)
+pub once_each : (items : List ℕ) (views : List Deal) → IsDequeReached items views → (x : ℕ)
     → times x items + sum_by (λ (v : Deal). times x v.taken) views ≡ sum_by (λ (v : Deal). times x v.dealt) views
 once_each items views r x = omega (
   arith,
@@ -97,7 +97,7 @@ once_each items views r x = omega (
   same_sum (λ (v : Deal). times x v.dealt) (put x) (put_of x) refl items views r,
 )
 
-pub by_owner : (items : List ℕ) (views : List Deal) → IsReached items views → (k : ℕ) (v : Deal) → slice_get views k ≡ Some v → v.parts ≡ ALL_PARTS
+pub by_owner : (items : List ℕ) (views : List Deal) → IsDequeReached items views → (k : ℕ) (v : Deal) → slice_get views k ≡ Some v → v.parts ≡ ALL_PARTS
     → (x : ℕ) → times x items + times x v.taken ≡ times x v.dealt
 by_owner items views r k v at all x =
     let h = keeps_rule items views r in

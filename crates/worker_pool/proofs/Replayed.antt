@@ -1,6 +1,7 @@
 -- The interpreter, run down the items of a day: by the lemma for every store it replies what they reply, and the words before
 -- and after each stand for its books.
 use Rattle.std.proofs.Common.{◌≡◌, ◌≢◌, ℕ, ◌≤◌, Bool, true, false, List, [], ◌∷◌, map, length, take, refl, sym, ap, ◌∙◌, subst, true≢false}
+use Rattle.script_reader.specs.Gathered.{script_at}
 use Rattle.history_model.specs.Fitting.{IsGood}
 use Rattle.history_model.specs.Histories.{replay}
 use Rattle.books_model.specs.declared.reply.Reply.{Reply}
@@ -9,13 +10,14 @@ use Rattle.books_model.specs.declared.reply.Reply.TheVariants as reply
 use Rattle.books_model.specs.Books.{ClearingBooks}
 use Rattle.books_model.specs.Interpreter.{outcome_of}
 use Rattle.books_model.specs.Laws.{RefusedChangesNothing}
-use Rattle.script_reader.specs.Input.{ClearingInput, script_at}
+use Rattle.script_reader.specs.Input.{ClearingInput}
 use Rattle.books_report.specs.Output.{replies_of, books_after}
 use Rattle.txn_books.specs.declared.shape.BooksShape.{BooksShape}
 use Rattle.txn_books.specs.Layout.{words_of}
 use Rattle.txn_books.specs.Standing.{IsGoodFor, Stands}
 use Rattle.txn_books.specs.Meaning.{is_done, ScriptMeans}
-use Rattle.txn_commit.specs.Ordered.{answers_down, state_down, IsRunInOrder, IsStep}
+use Rattle.txn_commit.proofs.Orders.Interpreters.{answers_down, state_down, IsInterpreterStep}
+use Rattle.txn_commit.specs.Ordered.{IsRunInOrder}
 use Rattle.txn_commit.proofs.Orders.Stores.{all_answers, at_the_end, runs_to}
 use Rattle.word_table.specs.Closing.{ClosedView}
 use Rattle.worker_pool.specs.Days.{Done}
@@ -26,21 +28,21 @@ not_done answer refusal r same values e = let done : is_done answer ≡ true = a
 
 module _ (input : ClearingInput) (shape : BooksShape) where
   abbrev pub Means : ℕ → ℕ → List ℕ → Bool → Reply → List ℕ → Type 0
-  Means c i = ScriptMeans shape (script_at input c i)
+  Means c i = ScriptMeans shape (script_at input.callers c i)
 
   abbrev replied : ℕ → ℕ → ClearingBooks → Reply
-  replied c i books = (outcome_of (script_at input c i) books).0
+  replied c i books = (outcome_of (script_at input.callers c i) books).0
 
   abbrev left : ℕ → ℕ → ClearingBooks → ClearingBooks
-  left c i books = (outcome_of (script_at input c i) books).1
+  left c i books = (outcome_of (script_at input.callers c i) books).1
 
   -- a script is a step of the interpreter
-  is_step : RefusedChangesNothing → IsStep Means (Stands shape) replied left
+  is_step : RefusedChangesNothing → IsInterpreterStep Means (Stands shape) replied left
   is_step refused = record {
     replies = λ c i s t kept answer books means stands. means.replies books stands;
     keeps = λ c i s t kept answer books means stands is. means.leaves is books stands;
     reverts = λ c i s t kept answer books means stands is.
-        refused (script_at input c i) books (not_done answer (sym means.kept_where_done ∙ is) (replied c i books) (means.replies books stands));
+        refused (script_at input.callers c i) books (not_done answer (sym means.kept_where_done ∙ is) (replied c i books) (means.replies books stands));
   }
 
   replies_down : (done : List Done) (books : ClearingBooks) → answers_down replied left done books ≡ replies_of input books (places_of_items done)

@@ -6,14 +6,15 @@ use Rattle.std.proofs.lemmas.List.{map_push}
 use Rattle.std.proofs.lemmas.List.Elements.{All-nil, All-push, All-weaker}
 use Rattle.std.proofs.lemmas.List.Quantifiers.{all_pairs_push}
 use Rattle.std.proofs.lemmas.List.Sums.{sum_by_push}
-use Rattle.script_reader.specs.Input.{ClearingInput, caller_at}
+use Rattle.script_reader.specs.Gathered.{caller_at}
+use Rattle.script_reader.specs.Input.{ClearingInput}
 use Rattle.script_reader.specs.Journal.{Place, IsPlace}
 use Rattle.worker_pool.specs.Counting.{HadOneMore}
 use Rattle.worker_pool.specs.Days.{Done}
 use Rattle.worker_pool.specs.Days.{place_of_item, places_of_items}
 use Rattle.worker_pool.specs.Inner.Makers.{RanScripts, RunsEach}
 
--- 1 where the test says so, and else 0
+-- 1 if the test says so, and else 0
 abbrev pub one_if : Bool → ℕ
 one_if b = if b then 1 else 0
 
@@ -83,7 +84,7 @@ module _ (input : ClearingInput) (h : ℕ → ℕ) (c : ℕ) where
 
   -- all scripts of a caller
   pub ran_caller : (more : ℕ → ℕ) (done : List Done) → HadOneMore h more c
-      → RanScripts input h c (length (caller_at input c).scripts) done → RanScripts input more c 0 done
+      → RanScripts input h c (length (caller_at input.callers c).scripts) done → RanScripts input more c 0 done
   ran_caller more done one r = record {
     only = r.only;
     each = λ p there. omega (
@@ -91,7 +92,7 @@ module _ (input : ClearingInput) (h : ℕ → ℕ) (c : ℕ) where
       r.each p there,
       one p.caller,
       none_yet c p,
-      whole_caller c (length (caller_at input c).scripts) p (λ e. subst (λ x. p.index < length (caller_at input x).scripts) e there.1),
+      whole_caller c (length (caller_at input.callers c).scripts) p (λ e. subst (λ x. p.index < length (caller_at input.callers x).scripts) e there.1),
     );
     rising = r.rising;
     among = λ k d lt none.
@@ -118,7 +119,8 @@ other_caller n c p past there = grind (arith, nat_tests, past, there)
 module _ (input : ClearingInput) (h more : ℕ → ℕ) (c : ℕ) (one : HadOneMore h more c) where
   -- all scripts of one caller more
   pub runs_caller : (old new : List Done)
-      → (h c ≡ 0 → RanScripts input h c 0 old → RanScripts input h c (length (caller_at input c).scripts) new) → RunsEach input h old → RunsEach input more new
+      → (h c ≡ 0 → RanScripts input h c 0 old → RanScripts input h c (length (caller_at input.callers c).scripts) new) → RunsEach input h old
+      → RunsEach input more new
   runs_caller old new ran before few =
       let less = few_before h more c one few in
       next_caller input more 0 c new (ran_caller input h c more new one (ran less.1 (next_caller input h c 0 old (before less.0))))
@@ -134,7 +136,7 @@ module _ (input : ClearingInput) (h more : ℕ → ℕ) (c : ℕ) (one : HadOneM
         among = λ k d lt none. r.among k d lt (omega (arith, one (get_or done k d).caller, none));
       }
 
--- the same items, where the same callers were had
+-- the same items, if the same callers were had
 pub same_had : (input : ClearingInput) (h same : ℕ → ℕ) (done : List Done) → ((x : ℕ) → same x ≡ h x) → RunsEach input h done → RunsEach input same done
 same_had input h same done is before few =
     let r = before (λ x. omega (arith, few x, is x)) in

@@ -11,7 +11,7 @@ use Rattle.word_table.specs.Copies.{fresh_pass, PassView}
 use Rattle.word_table.specs.Desks.{DeskView}
 use Rattle.worker_pool.specs.declared.worker.Worker.{Worker}
 use Rattle.worker_pool.specs.Days.{AreAllNew}
-use Rattle.worker_pool.specs.Inner.Takers.{IsEndOf, HadNone, Thieves}
+use Rattle.worker_pool.specs.Inner.Queues.{IsQueueOf, HadNone, Stealers}
 use Rattle.worker_pool.specs.Inner.Workers.{number_of, IsSeated}
 use Rattle.worker_pool.proofs.Opening.{OwnerOf}
 use Rattle.worker_pool.proofs.Yielded.{one_given}
@@ -48,12 +48,12 @@ module _ (desk : DeskView BooksShape) (passes : List PassView) (all_new : AreAll
       ∙ ap (λ l. slice_get l (length given)) whole ∙ all_new.each (length given) within in
       cc
 
--- a new pass and an unused end are a worker that did nothing
-pub seated_at : (thieves : Thieves) (desk : DeskView BooksShape) (j : ℕ) (worker : Worker)
-    → IsEndOf thieves j worker.taker → HadNone worker.taker → worker.share.pass ≡ new_pass desk j → worker.share.done.items ≡ []
-    → worker.failed ≡ false → IsSeated thieves desk worker
-seated_at thieves desk j worker end unused pass done going = record {
-  end = subst (λ n. IsEndOf thieves n worker.taker) (sym (ap (λ (p : PassView). number p.view) pass)) end;
+-- a new pass and an unused queue are a worker that did nothing
+pub seated_at : (stealers : Stealers) (desk : DeskView BooksShape) (j : ℕ) (worker : Worker)
+    → IsQueueOf stealers j worker.queue → HadNone worker.queue → worker.share.pass ≡ new_pass desk j → worker.share.done.items ≡ []
+    → worker.failed ≡ false → IsSeated stealers desk worker
+seated_at stealers desk j worker queue unused pass done going = record {
+  queue = subst (λ n. IsQueueOf stealers n worker.queue) (sym (ap (λ (p : PassView). number p.view) pass)) queue;
   unused = unused;
   fresh = record {
     of_table = ap (λ (p : PassView). p.table) pass;
@@ -68,7 +68,7 @@ seated_at thieves desk j worker end unused pass done going = record {
 
 -- the owner that stands last of those turned round is the next one
 abbrev pub own_of : Worker → OwnerOf
-own_of worker = worker.taker.own
+own_of worker = worker.queue.own
 
 pub owner_seated : (workers : List Worker) (given : List PassView)
     → map number_of workers ≡ map (λ (p : PassView). number p.view) given → length workers ≡ length given
@@ -89,11 +89,11 @@ next_owner workers left after owners own is whole =
     ∙ ap (λ l. get_or l (length (map own_of workers)) own) all ∙ ap (λ n. get_or owners n own) (length-map workers own_of)
 
 pub owners_more : (workers more : List Worker) (left after owners : List OwnerOf) (worker : Worker)
-    → left ≡ after ++ worker.taker.own ∷ [] → more ≡ workers ++ worker ∷ [] → map own_of workers ++ reverse left ≡ owners
+    → left ≡ after ++ worker.queue.own ∷ [] → more ≡ workers ++ worker ∷ [] → map own_of workers ++ reverse left ≡ owners
     → map own_of more ++ reverse after ≡ owners
 owners_more workers more left after owners worker is more_is whole =
     ap (λ l. map own_of l ++ reverse after) more_is ∙ ap (λ l. l ++ reverse after) (map_push own_of workers worker)
-    ∙ one_given (map own_of workers) (reverse left) (reverse after) owners worker.taker.own (turned left after worker.taker.own is) whole
+    ∙ one_given (map own_of workers) (reverse left) (reverse after) owners worker.queue.own (turned left after worker.queue.own is) whole
 
 pub owners_all : (workers : List Worker) (left owners : List OwnerOf) → length left ≡ 0
     → map own_of workers ++ reverse left ≡ owners → map own_of workers ≡ owners

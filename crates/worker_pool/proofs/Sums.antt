@@ -1,4 +1,4 @@
--- Sums over all views of a table, where one view changes, and where one view has all; and a count as such a sum.
+-- Sums over all views of a table, if one view changes, and if one view has all; and a count as such a sum.
 use Rattle.std.proofs.Common.{◌≡◌, ℕ, zero, suc, ◌+◌, ◌<◌, ◌≤◌, ◌==◌, if◌then◌else◌, List, [], ◌∷◌, set, length, get_or, sym, refl, ap, subst, arith}
 use Rattle.std.specs.Prelude.{sum_by}
 use Rattle.std.proofs.lemmas.List.Sums.{sum_by-cons, sum_by-set}
@@ -23,14 +23,14 @@ module _ {X : Type 0} where
   at_sum_le f (x ∷ xs) zero v at = let s : f x ≡ f v = ap f (some-injective x v at) in omega (arith, sum_by-cons f x xs, s)
   at_sum_le f (x ∷ xs) (suc i) v at = omega (arith, sum_by-cons f x xs, at_sum_le f xs i v at)
 
-  -- where g is nothing in all views together, so is f, which is nothing where g is
+  -- if g is nothing in all views together, so is f, which is nothing if g is
   nothing_at_all : (f g : X → ℕ) → ((u : X) → g u ≡ 0 → f u ≡ 0) → (views : List X) → sum_by g views ≡ 0 → sum_by f views ≡ 0
   nothing_at_all f g none [] e = refl
   nothing_at_all f g none (x ∷ xs) e =
       let c = sum_by-cons g x xs in
       omega (arith, sum_by-cons f x xs, none x (omega (arith, c, e)), nothing_at_all f g none xs (omega (arith, c, e)))
 
-  -- where one view has all of g, it has all of f
+  -- if one view has all of g, it has all of f
   pub alone : (f g : X → ℕ) → ((u : X) → g u ≡ 0 → f u ≡ 0) → (views : List X) (i : ℕ) (v : X) → get_elem? views i ≡ some v
       → sum_by g views ≡ g v → sum_by f views ≡ f v
   alone f g none [] i v at all = absurd (some-ne-none v (sym at))

@@ -17,7 +17,7 @@ pub joined_push : {X Y : Type 0} (f : X → List Y) (given : List X) (joined mor
 joined_push f given joined more x is was = is ∙ ap (λ l. l ++ f x) was
     ∙ ap (λ l. flat_map f given ++ l) (sym (append-nil (f x))) ∙ sym (flat_map-append f given (x ∷ []))
 
--- items that are alike, each where the other is
+-- items that are alike, each if the other is
 pub map_same : {X Y : Type 0} (f : X → Y) (xs ys : List X) → length ys ≡ length xs
     → ((k : ℕ) (d : X) → k < length xs → f (get_or ys k d) ≡ f (get_or xs k d)) → map f ys ≡ map f xs
 map_same f [] [] e h = refl

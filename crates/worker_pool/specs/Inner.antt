@@ -3,6 +3,6 @@ pub mod Deals
 pub mod Ends
 pub mod Dealing
 pub mod Finishing
-pub mod Takers
+pub mod Queues
 pub mod Makers
 pub mod Workers

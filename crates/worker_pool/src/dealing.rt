@@ -7,7 +7,7 @@ ghost use Rattle.worker_pool.specs.Inner.Dealing.{AreDealtInTurn, AreShown, AreS
 ghost use Rattle.worker_pool.specs.Inner.Ends.{HasOver};
 
 use crate::ends::{pass_of, put};
-use crate::rule::{ALL_PARTS, DequePass, Owner, Thief};
+use crate::rule::{ALL_PARTS, DequePass, Owner, Stealer};
 use io_ends::OutOfMemory;
 use std::alloc::Global;
 
@@ -17,7 +17,7 @@ pub(crate) struct Deques {
     /// The owner of each deque.
     pub owners: Vec<Owner>,
     /// What threads share of each deque.
-    pub thieves: Vec<Thief>,
+    pub stealers: Vec<Stealer>,
     /// A row of passes for each worker, one at each deque.
     pub rows: Vec<Vec<DequePass>>,
     /// The callers that were refused by their deque.
@@ -29,23 +29,23 @@ fn make_deques(
     alloc: Global,
     count: usize,
     room: usize,
-) -> Result<(Vec<Owner>, Vec<Thief>), OutOfMemory>
+) -> Result<(Vec<Owner>, Vec<Stealer>), OutOfMemory>
     ensures count { IfOk result (λ made. length made.0.items ≡ count) }
     ensures shown { IfOk result (λ made. AreShown made.1.items made.0.items) }
     ensures new { IfOk result (λ made.
         All (λ owner. worker_view owner ≡ deal ALL_PARTS [] []) made.0.items) }
 {
     let mut owners: Vec<Owner> = Vec::new(alloc);
-    let mut thieves: Vec<Thief> = Vec::new(alloc);
+    let mut stealers: Vec<Stealer> = Vec::new(alloc);
     for _deque in 0..count {
         let owner = Owner::fifo_as(alloc, room)?;
-        thieves.push(owner.stealer()?)?;
+        stealers.push(owner.stealer()?)?;
         owners.push(owner)?;
     }
-    Ok((owners, thieves))
+    Ok((owners, stealers))
 }
 
-// Deals a caller to the deque whose turn it is. Where it is refused, it joins the list.
+// Deals a caller to the deque whose turn it is. If it is refused, it joins the list.
 fn deal_one(owners: &mut Vec<Owner>, left: &mut Vec<u32>, caller: u32) -> Result<(), OutOfMemory>
     requires some { 0 < length owners.old.items }
     requires parts { All (HasOver 0) owners.old.items }
@@ -118,7 +118,7 @@ pub(crate) fn deal_out(
     requires workers { (1 ≤ workers) × (workers < ALL_PARTS) }
     ensures count { IfOk result (λ deques. (length deques.owners.items ≡ workers)
         × (length deques.rows.items ≡ workers)) }
-    ensures shown { IfOk result (λ deques. AreShown deques.thieves.items deques.owners.items) }
+    ensures shown { IfOk result (λ deques. AreShown deques.stealers.items deques.owners.items) }
     ensures free { IfOk result (λ deques. All (IsFree workers) deques.owners.items) }
     ensures rows { IfOk result (λ deques. All (λ row. IsNewRow deques.owners.items row.items)
         deques.rows.items) }
@@ -126,12 +126,12 @@ pub(crate) fn deal_out(
         AreDealtInTurn callers deques.owners.items deques.left.items) }
 {
     let mut left = Vec::with_capacity(alloc, callers as usize)?;
-    let (mut owners, thieves) = make_deques(alloc, workers as usize, room)?;
+    let (mut owners, stealers) = make_deques(alloc, workers as usize, room)?;
     deal_all(&mut owners, &mut left, callers)?;
     let rows = rows_of(alloc, &mut owners, workers as usize)?;
     Ok(Deques {
         owners,
-        thieves,
+        stealers,
         rows,
         left,
     })

@@ -5,11 +5,11 @@ ghost use Rattle.crossbeam_deque.specs.Handles.{view, IsPassOf, SamePass, steale
 ghost use Rattle.worker_pool.specs.Inner.Deals.{IsAllTaken};
 ghost use Rattle.worker_pool.specs.Deques.{deal};
 
-use crate::rule::{ALL_PARTS, Both, Cut, DequePass, Owner, Put, Thief, Took};
+use crate::rule::{ALL_PARTS, Both, Cut, DequePass, Owner, Put, Stealer, Took};
 use crossbeam_deque::Steal;
 use std::sync::Wait;
 
-/// Deals a caller to the deque. Where the deque has no room for it, it comes back, and is not dealt.
+/// Deals a caller to the deque. If the deque has no room for it, it comes back, and is not dealt.
 pub(crate) fn put(owner: &mut Owner, caller: u32) -> Result<(), u32>
     requires part { 0 < (worker_view owner.old).parts }
     ensures same { SameWorker owner.old owner.new }
@@ -35,11 +35,11 @@ pub(crate) fn take_own(owner: &mut Owner) -> Option<u32>
     owner.pop_as::<Took>()
 }
 
-/// Takes a caller from another's deque. Where others are in the way, it tries again.
-pub(crate) fn steal<R: Wait>(rt: &R, thief: &Thief, pass: &mut DequePass) -> Option<u32>
-    requires deque { IsPassOf (stealer_deque thief.now) pass.old }
+/// Takes a caller from another's deque. If others are in the way, it tries again.
+pub(crate) fn steal<R: Wait>(rt: &R, stealer: &Stealer, pass: &mut DequePass) -> Option<u32>
+    requires deque { IsPassOf (stealer_deque stealer.now) pass.old }
     requires part { 0 < (view pass.old).parts }
-    requires fifo { stealer_flavor thief.now ≡ 0 }
+    requires fifo { stealer_flavor stealer.now ≡ 0 }
     ensures same { SamePass pass.old pass.new }
     ensures kept { ((view pass.new).parts ≡ (view pass.old).parts)
         × ((view pass.new).dealt ≡ (view pass.old).dealt) }
@@ -49,7 +49,7 @@ pub(crate) fn steal<R: Wait>(rt: &R, thief: &Thief, pass: &mut DequePass) -> Opt
     ensures none { IfNone result (view pass.new ≡ view pass.old) }
 {
     for _ in rt.forever() {
-        match thief.steal_as::<Took>(pass) {
+        match stealer.steal_as::<Took>(pass) {
             Steal::Success(caller) => return Some(caller),
             Steal::Empty => return None,
             Steal::Retry => {}

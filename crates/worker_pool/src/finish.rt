@@ -67,7 +67,7 @@ fn drain_all<R: Wait>(rt: &R, owners: Vec<Owner>, left: &mut Vec<u32>) -> Result
 }
 
 /// Every pass goes back to its owner, and every owner takes what its deque still holds: it joins the list.
-pub(crate) fn settle<R: Wait>(
+pub(crate) fn take_what_is_left<R: Wait>(
     rt: &R,
     mut owners: Vec<Owner>,
     rows: Vec<Vec<DequePass>>,

@@ -1,7 +1,7 @@
 //! The workers of a day: they share its callers by stealing, and each caller is run once.
 //!
 //! `run_callers` runs all scripts of an input, with a thread for each pass of a table. Each worker owns a deque, and the
-//! callers are dealt to the deques in turn before any worker starts. A worker takes callers from its own deque, and where
+//! callers are dealt to the deques in turn before any worker starts. A worker takes callers from its own deque, and if
 //! that is empty it steals them from the others. `IsDealt` in `specs/Inner/Deals` says what holds of a deque between any
 //! two steps of any workers. What no worker took is run at the end by the calling thread.
 #![tactic(auto)]
@@ -12,11 +12,11 @@ mod ends;
 mod finish;
 pub mod heap;
 pub mod laws;
+mod queue;
 mod rule;
 pub mod run;
-mod taker;
+mod work;
 mod worker;
-mod workshop;
 
 pub use done::{DayEnd, Done};
 pub use rule::ALL_PARTS;

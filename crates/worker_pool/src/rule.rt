@@ -86,7 +86,7 @@ impl Join<Deal> for Both {
 pub(crate) type Owner = crossbeam_deque::Worker<u32, Global, Deal, DealRule>;
 
 /// What threads share of a deque.
-pub(crate) type Thief = crossbeam_deque::Stealer<u32, Global, Deal, DealRule>;
+pub(crate) type Stealer = crossbeam_deque::Stealer<u32, Global, Deal, DealRule>;
 
 /// What a thread needs beside to take callers from another's deque.
 pub(crate) type DequePass = crossbeam_deque::Pass<u32, Deal>;

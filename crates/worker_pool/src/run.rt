@@ -13,17 +13,17 @@ ghost use Rattle.worker_pool.specs.Days.{AreAllNew, AreCallersWhole, IsDay};
 ghost use Rattle.word_table.specs.Closing.{AreRecords, IsCoherent, IsLegalInEachOrder};
 ghost use Rattle.worker_pool.specs.Inner.Dealing.{AreDealtInTurn, AreShown, IsFree, IsNewRow};
 ghost use Rattle.worker_pool.specs.Inner.Makers.{HasMade, RunsEach};
-ghost use Rattle.worker_pool.specs.Inner.Takers.{dealt_to, IsDealtOut};
-ghost use Rattle.worker_pool.specs.Inner.Workers.{number_of, seat_of, workers_of, AreAllDone, FitTogether, HasEndedItsPart, IsSeated};
+ghost use Rattle.worker_pool.specs.Inner.Queues.{dealt_to, IsDealtOut};
+ghost use Rattle.worker_pool.specs.Inner.Workers.{number_of, seat_of, workers_of, AreAllDone, IsTableFor, HasEndedItsPart, IsSeated};
 
 use crate::dealing::{Deques, deal_out};
 use crate::done::{DayEnd, Done};
-use crate::finish::settle;
+use crate::finish::take_what_is_left;
 use crate::heap::keep_blocks;
+use crate::queue::Queue;
 use crate::rule::{DequePass, Owner};
-use crate::taker::Taker;
+use crate::work::Work;
 use crate::worker::{Share, Worker, run_caller};
-use crate::workshop::Workshop;
 use books_model::laws::refused_changes_nothing;
 use crossbeam_utils::CachePadded;
 use io_ends::OutOfMemory;
@@ -42,26 +42,26 @@ use worker_gate::Gate;
 // They stand apart: each writes what it has at every step, and a cache line that two of them shared
 // would go to and fro between their threads.
 fn seat_workers<R: Wait, G: Gate>(
-    shop: &Workshop<R, G>,
+    work: &Work<R, G>,
     passes: Vec<Pass<BooksShape>>,
     mut owners: Vec<Owner>,
     mut rows: Vec<Vec<DequePass>>,
 ) -> Result<Vec<CachePadded<Worker>>, OutOfMemory>
-    requires passes { AreAllNew shop.now.desk.now passes.items }
+    requires passes { AreAllNew work.now.desk.now passes.items }
     requires count { (length owners.items ≡ length passes.items)
         × (length rows.items ≡ length passes.items) }
     requires few { length passes.items < ALL_PARTS }
-    requires shown { AreShown shop.now.thieves.now owners.items }
+    requires shown { AreShown work.now.stealers.now owners.items }
     requires free { All (IsFree (length passes.items)) owners.items }
     requires rows { All (λ row. IsNewRow owners.items row.items) rows.items }
     ensures seated { IfOk result (λ workers.
-        All (IsSeated shop.now.thieves.now shop.now.desk.now) (workers_of workers.items)) }
+        All (IsSeated work.now.stealers.now work.now.desk.now) (workers_of workers.items)) }
     ensures numbers { IfOk result (λ workers.
-        map number_of (workers_of workers.items) ≡ range_with_len 0 shop.now.desk.now.seats) }
+        map number_of (workers_of workers.items) ≡ range_with_len 0 work.now.desk.now.seats) }
     ensures owners { IfOk result (λ workers.
-        map (λ worker. worker.taker.own) (workers_of workers.items) ≡ owners.items) }
+        map (λ worker. worker.queue.own) (workers_of workers.items) ≡ owners.items) }
 {
-    let mut workers = Vec::new(shop.alloc);
+    let mut workers = Vec::new(work.alloc);
     // They are taken from the end.
     owners.reverse();
     for pass in passes {
@@ -71,10 +71,10 @@ fn seat_workers<R: Wait, G: Gate>(
         let Some(row) = rows.pop() else {
             unreachable!()
         };
-        let done = Vec::new(shop.alloc);
-        let readers = Readers::new(shop.alloc)?;
+        let done = Vec::new(work.alloc);
+        let readers = Readers::new(work.alloc)?;
         workers.push(CachePadded::new(Worker {
-            taker: Taker {
+            queue: Queue {
                 own,
                 passes: row,
                 seat: workers.len(),
@@ -93,69 +93,69 @@ fn seat_workers<R: Wait, G: Gate>(
 
 // Each worker on a thread of its own.
 fn work_all<R: Threads + Wait + Sync, G: Gate + Sync>(
-    shop: &Workshop<R, G>,
+    work: &Work<R, G>,
     workers: &mut [CachePadded<Worker>],
 )
     requires some { 0 < length workers.old }
-    requires fit { FitTogether shop.now.desk.now shop.now.shape shop.now.input.now }
-    requires seated { All (IsSeated shop.now.thieves.now shop.now.desk.now)
+    requires fit { IsTableFor work.now.desk.now work.now.shape work.now.input.now }
+    requires seated { All (IsSeated work.now.stealers.now work.now.desk.now)
         (workers_of workers.old) }
-    ensures ended { All (HasEndedItsPart shop.now.thieves.now shop.now.desk.now shop.now.input.now)
+    ensures ended { All (HasEndedItsPart work.now.stealers.now work.now.desk.now work.now.input.now)
         (workers_of workers.new) }
     ensures numbers { map number_of (workers_of workers.new)
         ≡ map number_of (workers_of workers.old) }
-    ensures dealt { map (λ worker. dealt_to worker.taker) (workers_of workers.new)
-        ≡ map (λ worker. dealt_to worker.taker) (workers_of workers.old) }
+    ensures dealt { map (λ worker. dealt_to worker.queue) (workers_of workers.new)
+        ≡ map (λ worker. dealt_to worker.queue) (workers_of workers.old) }
 {
     thread::for_each_mut(
-        shop.rt,
+        work.rt,
         workers,
         workers.len(),
         &|_, worker: &mut CachePadded<Worker>|
-            requires { FitTogether shop.now.desk.now shop.now.shape shop.now.input.now
-                × IsSeated shop.now.thieves.now shop.now.desk.now (padded_value worker.now) }
-            ensures { HasEndedItsPart shop.entry.now.thieves.now shop.entry.now.desk.now
-                shop.entry.now.input.now (padded_value worker.exit.now)
+            requires { IsTableFor work.now.desk.now work.now.shape work.now.input.now
+                × IsSeated work.now.stealers.now work.now.desk.now (padded_value worker.now) }
+            ensures { HasEndedItsPart work.entry.now.stealers.now work.entry.now.desk.now
+                work.entry.now.input.now (padded_value worker.exit.now)
                 × (number_of (padded_value worker.exit.now)
                 ≡ number_of (padded_value worker.entry.now))
-                × (dealt_to (padded_value worker.exit.now).taker
-                ≡ dealt_to (padded_value worker.entry.now).taker) }
-        { worker.work(shop) },
+                × (dealt_to (padded_value worker.exit.now).queue
+                ≡ dealt_to (padded_value worker.entry.now).queue) }
+        { worker.work(work) },
     );
 }
 
 /// What all workers leave, each list in their order.
 #[derive(Drop)]
-pub(crate) struct Leavings {
+pub(crate) struct Results {
     pub owners: Vec<Owner>,
     pub rows: Vec<Vec<DequePass>>,
     pub shares: Vec<Share>,
 }
 
 // What one worker leaves, behind what others left, unless it found no memory.
-fn add_worker(worker: Worker, all: &mut Leavings) -> Result<(), OutOfMemory>
+fn add_worker(worker: Worker, all: &mut Results) -> Result<(), OutOfMemory>
     ensures not_failed { OnOk result (worker.failed ≡ false) }
     ensures owner { OnOk result (all.new.owners.items
-        ≡ all.old.owners.items ++ worker.taker.own ∷ []) }
+        ≡ all.old.owners.items ++ worker.queue.own ∷ []) }
     ensures row { OnOk result (all.new.rows.items
-        ≡ all.old.rows.items ++ worker.taker.passes ∷ []) }
+        ≡ all.old.rows.items ++ worker.queue.passes ∷ []) }
     ensures share { OnOk result (all.new.shares.items
         ≡ all.old.shares.items ++ worker.share ∷ []) }
 {
     let Worker {
-        taker,
+        queue,
         share,
         failed,
     } = worker;
     if failed {
         return Err(OutOfMemory);
     }
-    let Taker {
+    let Queue {
         own,
         passes,
         seat: _,
         count: _,
-    } = taker;
+    } = queue;
     all.owners.push(own)?;
     all.rows.push(passes)?;
     all.shares.push(share)?;
@@ -163,17 +163,17 @@ fn add_worker(worker: Worker, all: &mut Leavings) -> Result<(), OutOfMemory>
 }
 
 // What all workers leave, unless one of them found no memory.
-fn gather(alloc: Global, workers: Vec<CachePadded<Worker>>) -> Result<Leavings, OutOfMemory>
+fn results_of(alloc: Global, workers: Vec<CachePadded<Worker>>) -> Result<Results, OutOfMemory>
     ensures none_failed { IfOk result (λ _.
         All (λ worker. worker.failed ≡ false) (workers_of workers.items)) }
     ensures owners { IfOk result (λ all.
-        all.owners.items ≡ map (λ worker. worker.taker.own) (workers_of workers.items)) }
+        all.owners.items ≡ map (λ worker. worker.queue.own) (workers_of workers.items)) }
     ensures rows { IfOk result (λ all.
-        all.rows.items ≡ map (λ worker. worker.taker.passes) (workers_of workers.items)) }
+        all.rows.items ≡ map (λ worker. worker.queue.passes) (workers_of workers.items)) }
     ensures shares { IfOk result (λ all.
         all.shares.items ≡ map (λ worker. worker.share) (workers_of workers.items)) }
 {
-    let mut all = Leavings {
+    let mut all = Results {
         owners: Vec::new(alloc),
         rows: Vec::new(alloc),
         shares: Vec::new(alloc),
@@ -186,80 +186,80 @@ fn gather(alloc: Global, workers: Vec<CachePadded<Worker>>) -> Result<Leavings, 
 
 // Runs all callers of the list.
 fn run_left<R: Wait, G: Gate>(
-    shop: &Workshop<R, G>,
+    work: &Work<R, G>,
     share: &mut Share,
     left: Vec<u32>,
 ) -> Result<(), OutOfMemory>
-    requires fit { FitTogether shop.now.desk.now shop.now.shape shop.now.input.now }
-    requires made { HasMade shop.now.desk.now shop.now.input.now (seat_of share.old)
+    requires fit { IsTableFor work.now.desk.now work.now.shape work.now.input.now }
+    requires made { HasMade work.now.desk.now work.now.input.now (seat_of share.old)
         share.old.pass share.old.done.items }
     requires few { length share.old.done.items ≤ MOST_CALLERS * MOST_SCRIPTS }
     requires left { length left.items ≤ MOST_CALLERS }
-    ensures made { OnOk result (HasMade shop.now.desk.now shop.now.input.now (seat_of share.old)
+    ensures made { OnOk result (HasMade work.now.desk.now work.now.input.now (seat_of share.old)
         share.new.pass share.new.done.items) }
     ensures number { OnOk result (seat_of share.new ≡ seat_of share.old) }
     ensures run { OnOk result ((h more : ℕ → ℕ) → ((x : ℕ) → more x ≡ h x + times x left.items)
-        → RunsEach shop.now.input.now h share.old.done.items
-        → RunsEach shop.now.input.now more share.new.done.items) }
+        → RunsEach work.now.input.now h share.old.done.items
+        → RunsEach work.now.input.now more share.new.done.items) }
 {
     for caller in left {
-        run_caller(shop, share, caller)?;
+        run_caller(work, share, caller)?;
     }
     Ok(())
 }
 
 // What no worker took is run by the calling thread, with the first pass.
 fn last_round<R: Wait, G: Gate>(
-    shop: &Workshop<R, G>,
+    work: &Work<R, G>,
     workers: Vec<CachePadded<Worker>>,
     mut left: Vec<u32>,
 ) -> Result<Vec<Share>, OutOfMemory>
     requires some { 0 < length (workers_of workers.items) }
-    requires fit { FitTogether shop.now.desk.now shop.now.shape shop.now.input.now }
-    requires ended { All (HasEndedItsPart shop.now.thieves.now shop.now.desk.now shop.now.input.now)
+    requires fit { IsTableFor work.now.desk.now work.now.shape work.now.input.now }
+    requires ended { All (HasEndedItsPart work.now.stealers.now work.now.desk.now work.now.input.now)
         (workers_of workers.items) }
     requires numbers { map number_of (workers_of workers.items)
-        ≡ range_with_len 0 shop.now.desk.now.seats }
-    requires thieves { length shop.now.thieves.now ≡ length (workers_of workers.items) }
-    requires dealt { IsDealtOut (length shop.now.input.now.callers)
-        (map (λ worker. dealt_to worker.taker) (workers_of workers.items)) left.items }
+        ≡ range_with_len 0 work.now.desk.now.seats }
+    requires stealers { length work.now.stealers.now ≡ length (workers_of workers.items) }
+    requires dealt { IsDealtOut (length work.now.input.now.callers)
+        (map (λ worker. dealt_to worker.queue) (workers_of workers.items)) left.items }
     ensures { IfOk result (λ shares.
-        AreAllDone shop.now.desk.now shop.now.input.now shares.items) }
+        AreAllDone work.now.desk.now work.now.input.now shares.items) }
 {
-    let Leavings {
+    let Results {
         owners,
         rows,
         mut shares,
-    } = gather(shop.alloc, workers)?;
-    settle(shop.rt, owners, rows, &mut left)?;
-    run_left(shop, &mut shares[0], left)?;
+    } = results_of(work.alloc, workers)?;
+    take_what_is_left(work.rt, owners, rows, &mut left)?;
+    run_left(work, &mut shares[0], left)?;
     Ok(shares)
 }
 
 // All scripts of the day, each run once.
 fn run_all<R: Threads + Wait + Sync, G: Gate + Sync>(
-    shop: &Workshop<R, G>,
+    work: &Work<R, G>,
     passes: Vec<Pass<BooksShape>>,
     owners: Vec<Owner>,
     rows: Vec<Vec<DequePass>>,
     left: Vec<u32>,
 ) -> Result<Vec<Share>, OutOfMemory>
-    requires fit { FitTogether shop.now.desk.now shop.now.shape shop.now.input.now }
-    requires passes { AreAllNew shop.now.desk.now passes.items }
+    requires fit { IsTableFor work.now.desk.now work.now.shape work.now.input.now }
+    requires passes { AreAllNew work.now.desk.now passes.items }
     requires some { 0 < length passes.items }
     requires count { (length owners.items ≡ length passes.items)
         × (length rows.items ≡ length passes.items) }
     requires few { length passes.items < ALL_PARTS }
-    requires shown { AreShown shop.now.thieves.now owners.items }
+    requires shown { AreShown work.now.stealers.now owners.items }
     requires free { All (IsFree (length passes.items)) owners.items }
     requires rows { All (λ row. IsNewRow owners.items row.items) rows.items }
-    requires dealt { AreDealtInTurn (length shop.now.input.now.callers) owners.items left.items }
+    requires dealt { AreDealtInTurn (length work.now.input.now.callers) owners.items left.items }
     ensures { IfOk result (λ shares.
-        AreAllDone shop.now.desk.now shop.now.input.now shares.items) }
+        AreAllDone work.now.desk.now work.now.input.now shares.items) }
 {
-    let mut workers = seat_workers(shop, passes, owners, rows)?;
-    work_all(shop, workers.as_mut_slice());
-    last_round(shop, workers, left)
+    let mut workers = seat_workers(work, passes, owners, rows)?;
+    work_all(work, workers.as_mut_slice());
+    last_round(work, workers, left)
 }
 
 // One share behind others.
@@ -333,7 +333,7 @@ fn end_day(
 
 /// Runs all scripts of the input, each as one transaction on the table, with a thread for each pass.
 ///
-/// Each caller is run whole by one worker, its scripts in their order. Where a worker finds no memory, the others go on
+/// Each caller is run whole by one worker, its scripts in their order. If a worker finds no memory, the others go on
 /// to their end, and there is no day; the table is dropped then. A worker may wait for others: that a wait ends, no
 /// clause says.
 pub fn run_callers<R: Threads + Wait + Sync, G: Gate + Sync>(
@@ -366,20 +366,20 @@ pub fn run_callers<R: Threads + Wait + Sync, G: Gate + Sync>(
     let room = callers as usize / workers as usize + 1;
     let Deques {
         owners,
-        thieves,
+        stealers,
         rows,
         left,
     } = deal_out(alloc, callers, workers, room)?;
-    let shop = Workshop {
+    let work = Work {
         rt,
         alloc,
         desk: &desk,
         shape: BooksShape::of(input.books()),
-        thieves: thieves.as_slice(),
+        stealers: stealers.as_slice(),
         input,
         gate,
     };
     keep_blocks(alloc);
-    let shares = run_all(&shop, passes, owners, rows, left)?;
+    let shares = run_all(&work, passes, owners, rows, left)?;
     end_day(alloc, desk, input, shares)
 }

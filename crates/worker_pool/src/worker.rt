@@ -1,21 +1,21 @@
 //! One worker: it takes callers and runs their scripts, until it finds none.
 
 ghost use Rattle.std.specs.Prelude.{◌≡◌, ℕ, ◌+◌, ◌*◌, ◌<◌, ◌≤◌, List, [], ◌∷◌, ◌++◌, length, IfOk, OnOk};
+ghost use Rattle.script_reader.specs.Gathered.{caller_at};
 ghost use Rattle.history_model.specs.declared.view.Phase.TheVariants.{Idle};
 ghost use Rattle.history_model.specs.Views.{number};
-ghost use Rattle.script_reader.specs.Input.{caller_at};
 ghost use Rattle.script_reader.specs.declared.limits.TheConstants.{MOST_SCRIPTS};
 ghost use Rattle.word_table.specs.declared.limits.TheConstants.{LAST_CALL};
 ghost use Rattle.worker_pool.specs.Counting.{HadOneMore};
 ghost use Rattle.worker_pool.specs.Days.{Done};
 ghost use Rattle.worker_pool.specs.Inner.Makers.{HasMade, RanScripts, RunsEach};
-ghost use Rattle.worker_pool.specs.Inner.Takers.{dealt_to};
-ghost use Rattle.worker_pool.specs.Inner.Workers.{number_of, FitTogether, HasEndedItsPart, HasDoneItsPart, IsSeated};
+ghost use Rattle.worker_pool.specs.Inner.Queues.{dealt_to};
+ghost use Rattle.worker_pool.specs.Inner.Workers.{number_of, IsTableFor, HasEndedItsPart, HasDoneItsPart, IsSeated};
 
 use crate::done::Done;
 use crate::heap::enlarge;
-use crate::taker::Taker;
-use crate::workshop::Workshop;
+use crate::queue::Queue;
+use crate::work::Work;
 use books_model::laws::scripts_go_by_instruments;
 use io_ends::OutOfMemory;
 use order_rebuild::Readers;
@@ -38,7 +38,7 @@ pub(crate) struct Share {
 /// What a worker has for its own.
 #[derive(Drop)]
 pub(crate) struct Worker {
-    pub taker: Taker,
+    pub queue: Queue,
     pub share: Share,
     /// It found no memory, and ended before its work was done.
     pub failed: bool,
@@ -53,29 +53,29 @@ fn tag_of(caller: u32, index: u32) -> u64
 
 // The script of a caller as one transaction: its item.
 fn run_script<R: Wait, G: Gate>(
-    shop: &Workshop<R, G>,
+    work: &Work<R, G>,
     pass: &mut Pass<BooksShape>,
     caller: u32,
     index: u32,
 ) -> Result<Done, OutOfMemory>
-    requires fit { FitTogether shop.now.desk.now shop.now.shape shop.now.input.now }
-    requires caller { caller < length shop.now.input.now.callers }
-    requires index { index < length (caller_at shop.now.input.now caller).scripts }
-    requires desk { pass.old.table ≡ shop.now.desk.now.table }
+    requires fit { IsTableFor work.now.desk.now work.now.shape work.now.input.now }
+    requires caller { caller < length work.now.input.now.callers }
+    requires index { index < length (caller_at work.now.input.now.callers caller).scripts }
+    requires desk { pass.old.table ≡ work.now.desk.now.table }
     requires idle { pass.old.view.phase ≡ Idle }
     requires room { pass.old.view.call < LAST_CALL }
     ensures who { pass.new.view.who ≡ pass.old.view.who }
     ensures made { IfOk result (λ item. (done : List Done)
-        → HasMade shop.now.desk.now shop.now.input.now (number pass.old.view) pass.old done
-        → HasMade shop.now.desk.now shop.now.input.now (number pass.old.view)
+        → HasMade work.now.desk.now work.now.input.now (number pass.old.view) pass.old done
+        → HasMade work.now.desk.now work.now.input.now (number pass.old.view)
         pass.new (done ++ item ∷ [])) }
     ensures place { IfOk result (λ item. (item.caller ≡ caller) × (item.index ≡ index)) }
 {
     // A script for the opening books is one for these sizes.
     scripts_go_by_instruments();
-    let script = shop.input.script(caller, index);
-    let job = ScriptJob::new(shop.alloc, shop.shape, script, tag_of(caller, index));
-    let receipt = transact(shop.rt, shop.alloc, shop.desk, pass, &job, shop.gate)?;
+    let script = work.input.script(caller, index);
+    let job = ScriptJob::new(work.alloc, work.shape, script, tag_of(caller, index));
+    let receipt = transact(work.rt, work.alloc, work.desk, pass, &job, work.gate)?;
     Ok(Done {
         caller,
         index,
@@ -88,39 +88,39 @@ fn run_script<R: Wait, G: Gate>(
 }
 
 // Counts what an item read. One worker alone leaves its items in their order, and nothing is counted.
-fn count_readers<R: Wait, G: Gate>(shop: &Workshop<R, G>, readers: &mut Readers, item: &Done) {
-    if shop.thieves.len() > 1 {
+fn count_readers<R: Wait, G: Gate>(work: &Work<R, G>, readers: &mut Readers, item: &Done) {
+    if work.stealers.len() > 1 {
         readers.count(&item.uses);
     }
 }
 
 // All scripts of one caller of the input, in their order.
 fn run_scripts<R: Wait, G: Gate>(
-    shop: &Workshop<R, G>,
+    work: &Work<R, G>,
     pass: &mut Pass<BooksShape>,
     done: &mut Vec<Done>,
     readers: &mut Readers,
     caller: u32,
 ) -> Result<(), OutOfMemory>
-    requires fit { FitTogether shop.now.desk.now shop.now.shape shop.now.input.now }
-    requires caller { caller < length shop.now.input.now.callers }
-    requires made { HasMade shop.now.desk.now shop.now.input.now (number pass.old.view)
+    requires fit { IsTableFor work.now.desk.now work.now.shape work.now.input.now }
+    requires caller { caller < length work.now.input.now.callers }
+    requires made { HasMade work.now.desk.now work.now.input.now (number pass.old.view)
         pass.old done.old.items }
-    requires room { length done.old.items + length (caller_at shop.now.input.now caller).scripts
+    requires room { length done.old.items + length (caller_at work.now.input.now.callers caller).scripts
         ≤ LAST_CALL }
     ensures who { pass.new.view.who ≡ pass.old.view.who }
-    ensures made { OnOk result (HasMade shop.now.desk.now shop.now.input.now
+    ensures made { OnOk result (HasMade work.now.desk.now work.now.input.now
         (number pass.old.view) pass.new done.new.items) }
     ensures run { OnOk result ((h : ℕ → ℕ) → h caller ≡ 0
-        → RanScripts shop.now.input.now h caller 0 done.old.items
-        → RanScripts shop.now.input.now h caller
-        (length (caller_at shop.now.input.now caller).scripts) done.new.items) }
+        → RanScripts work.now.input.now h caller 0 done.old.items
+        → RanScripts work.now.input.now h caller
+        (length (caller_at work.now.input.now.callers caller).scripts) done.new.items) }
     ensures count { OnOk result (length done.new.items
-        ≡ length done.old.items + length (caller_at shop.now.input.now caller).scripts) }
+        ≡ length done.old.items + length (caller_at work.now.input.now.callers caller).scripts) }
 {
-    for index in 0..shop.input.scripts_of(caller) {
-        let item = run_script(shop, pass, caller, index)?;
-        count_readers(shop, readers, &item);
+    for index in 0..work.input.scripts_of(caller) {
+        let item = run_script(work, pass, caller, index)?;
+        count_readers(work, readers, &item);
         done.push(item)?;
     }
     Ok(())
@@ -128,26 +128,26 @@ fn run_scripts<R: Wait, G: Gate>(
 
 /// All scripts of one caller, in their order. A number that is no caller's is passed over.
 pub(crate) fn run_caller<R: Wait, G: Gate>(
-    shop: &Workshop<R, G>,
+    work: &Work<R, G>,
     share: &mut Share,
     caller: u32,
 ) -> Result<(), OutOfMemory>
-    requires fit { FitTogether shop.now.desk.now shop.now.shape shop.now.input.now }
-    requires made { HasMade shop.now.desk.now shop.now.input.now (number share.old.pass.view)
+    requires fit { IsTableFor work.now.desk.now work.now.shape work.now.input.now }
+    requires made { HasMade work.now.desk.now work.now.input.now (number share.old.pass.view)
         share.old.pass share.old.done.items }
     requires room { length share.old.done.items + MOST_SCRIPTS ≤ LAST_CALL }
     ensures who { share.new.pass.view.who ≡ share.old.pass.view.who }
-    ensures made { OnOk result (HasMade shop.now.desk.now shop.now.input.now
+    ensures made { OnOk result (HasMade work.now.desk.now work.now.input.now
         (number share.old.pass.view) share.new.pass share.new.done.items) }
     ensures run { OnOk result ((h more : ℕ → ℕ) → HadOneMore h more caller
-        → RunsEach shop.now.input.now h share.old.done.items
-        → RunsEach shop.now.input.now more share.new.done.items) }
+        → RunsEach work.now.input.now h share.old.done.items
+        → RunsEach work.now.input.now more share.new.done.items) }
     ensures count { OnOk result (length share.new.done.items
         ≤ length share.old.done.items + MOST_SCRIPTS) }
 {
-    if caller < shop.input.callers() {
+    if caller < work.input.callers() {
         run_scripts(
-            shop,
+            work,
             &mut share.pass,
             &mut share.done,
             &mut share.readers,
@@ -159,34 +159,34 @@ pub(crate) fn run_caller<R: Wait, G: Gate>(
 
 impl Worker {
     // Takes callers until it finds none.
-    fn run<R: Wait, G: Gate>(&mut self, shop: &Workshop<R, G>) -> Result<(), OutOfMemory>
-        requires fit { FitTogether shop.now.desk.now shop.now.shape shop.now.input.now }
-        requires seated { IsSeated shop.now.thieves.now shop.now.desk.now self.old }
+    fn run<R: Wait, G: Gate>(&mut self, work: &Work<R, G>) -> Result<(), OutOfMemory>
+        requires fit { IsTableFor work.now.desk.now work.now.shape work.now.input.now }
+        requires seated { IsSeated work.now.stealers.now work.now.desk.now self.old }
         ensures who { self.new.share.pass.view.who ≡ self.old.share.pass.view.who }
-        ensures dealt { dealt_to self.new.taker ≡ dealt_to self.old.taker }
+        ensures dealt { dealt_to self.new.queue ≡ dealt_to self.old.queue }
         ensures worked { OnOk result
-            (HasDoneItsPart shop.now.thieves.now shop.now.desk.now shop.now.input.now self.new) }
+            (HasDoneItsPart work.now.stealers.now work.now.desk.now work.now.input.now self.new) }
     {
-        enlarge(shop.alloc);
-        for _ in shop.rt.forever() {
-            let Some(caller) = self.taker.next(shop.rt, shop.thieves) else {
+        enlarge(work.alloc);
+        for _ in work.rt.forever() {
+            let Some(caller) = self.queue.next(work.rt, work.stealers) else {
                 return Ok(());
             };
-            run_caller(shop, &mut self.share, caller)?;
+            run_caller(work, &mut self.share, caller)?;
         }
         unreachable!()
     }
 
     /// Takes callers and runs their scripts, until it finds none or there is no memory.
-    pub(crate) fn work<R: Wait, G: Gate>(&mut self, shop: &Workshop<R, G>)
-        requires fit { FitTogether shop.now.desk.now shop.now.shape shop.now.input.now }
-        requires seated { IsSeated shop.now.thieves.now shop.now.desk.now self.old }
+    pub(crate) fn work<R: Wait, G: Gate>(&mut self, work: &Work<R, G>)
+        requires fit { IsTableFor work.now.desk.now work.now.shape work.now.input.now }
+        requires seated { IsSeated work.now.stealers.now work.now.desk.now self.old }
         ensures number { number_of self.new ≡ number_of self.old }
-        ensures dealt { dealt_to self.new.taker ≡ dealt_to self.old.taker }
-        ensures ended { HasEndedItsPart shop.now.thieves.now shop.now.desk.now shop.now.input.now
+        ensures dealt { dealt_to self.new.queue ≡ dealt_to self.old.queue }
+        ensures ended { HasEndedItsPart work.now.stealers.now work.now.desk.now work.now.input.now
             self.new }
     {
-        if self.run(shop).is_err() {
+        if self.run(work).is_err() {
             self.failed = true;
         }
     }

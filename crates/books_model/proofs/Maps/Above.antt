@@ -50,7 +50,7 @@ module _ {K : Type 0} {R : K → K → Ordering} (o : IsTotalOrder R) (later : K
           let least = rw first at range.2 in
           ((rw first at range.1).0.0, get-tree e.0 ∙ (rw first at range.1).1, λ k more there. least k (more, tt) (subst IsSome (get-tree k) there))
 
-      -- no key is above the given one where the range is empty
+      -- no key is above the given one if the range is empty
       pub none_above : above ≡ [] → (k : K) → IsSome (map.get m k) → IsLeBy R k a
       none_above empty k there = elim (R a k) as (λ r. R a k ≡ r → IsLeBy R k a) [
         | Less ↦ λ more.
@@ -69,6 +69,6 @@ module _ (a : ℕ) (values : tree.BTreeMap ℕ ℕ) (m : map.FinMap nat_cmp ℕ)
       let least = least_above nat_cmp_total nat_lt is_lt-nat_cmp a values m from above range e rest first in
       (ranked a e.0 Less (sym least.0), least.1, λ k more there. le_from_not_gt e.0 k (least.2 k (sym (nat_cmp_is a k Less more)) there))
 
-  -- no number is above the given one where the range is empty
+  -- no number is above the given one if the range is empty
   pub no_number_above : above ≡ [] → (k : ℕ) → IsSome (map.get m k) → k ≤ a
   no_number_above empty k there = le_from_not_gt k a (none_above nat_cmp_total nat_lt is_lt-nat_cmp a values m from above range empty k there)

@@ -16,7 +16,12 @@ use Rattle.std.proofs.lemmas.Map.Views.{tells_apart}
 use Rattle.books_model.proofs.Maps.Comparing.{none_of}
 use Rattle.books_model.proofs.Maps.Trees.{stays_after_insert}
 use Rattle.books_model.specs.declared.overlay.Change.{Change}
-use Rattle.books_model.specs.Inner.Changes.{set_at, changed, change_at, new_value, now_or, KnowBefore, HasRoomFor, IsRoomier}
+use Rattle.books_model.specs.Inner.Changes.{set_at, changed, change_at, new_value, KnowBefore, HasRoomFor, IsRoomier}
+
+-- what a change leaves at its key, or what was there if nothing is changed
+abbrev pub now_or : Option Change → Option ℕ → Option ℕ
+now_or None was = was
+now_or (Some change) was = change.now
 
 -- a change in front of others
 now_or-cond : (b : Bool) (change : Change) (others : Option Change) (was : Option ℕ)
@@ -67,13 +72,13 @@ module _ {K : Type 0} {R : K → K → Ordering} (o : IsTotalOrder R) where
   pub change_at_first : (e : K × Change) (es : List (K × Change)) → change_at R (e ∷ es) e.0 ≡ Some e.1
   change_at_first e es = lookup_head (is_at (R e.0)) e es (ap is_eq (tied_itself o e.0))
 
-  -- where keys rise, nothing further on is changed at the first one
+  -- if keys rise, nothing further on is changed at the first one
   pub none_further : (e : K × Change) (es : List (K × Change)) (q : K) → IsStrictlySortedBy R (keys_of (e ∷ es))
       → eq_by_cmp R q e.0 ≡ true → change_at R es q ≡ None
   none_further e es q sorted at =
       lookup-none (is_at (R q)) es (none_past_head (eq_by_cmp_equiv o) q e es (IsDistinct-from_sorted R (keys_of (e ∷ es)) sorted) at)
 
-  -- where keys rise, a key that is changed further on is not the first one
+  -- if keys rise, a key that is changed further on is not the first one
   pub apart_further : (e : K × Change) (es : List (K × Change)) (q : K) (change : Change)
       → IsStrictlySortedBy R (keys_of (e ∷ es)) → change_at R es q ≡ Some change → eq_by_cmp R q e.0 ≡ false
   apart_further e es q change sorted there = elim (eq_by_cmp R q e.0) as (λ b. eq_by_cmp R q e.0 ≡ b → eq_by_cmp R q e.0 ≡ false) [
@@ -81,7 +86,7 @@ module _ {K : Type 0} {R : K → K → Ordering} (o : IsTotalOrder R) where
     | false ↦ λ apart. apart
   ] refl
 
-  -- where keys rise, a change further on is one of all
+  -- if keys rise, a change further on is one of all
   pub change_further : (e : K × Change) (es : List (K × Change)) (q : K) (change : Change)
       → IsStrictlySortedBy R (keys_of (e ∷ es)) → change_at R es q ≡ Some change → change_at R (e ∷ es) q ≡ Some change
   change_further e es q change sorted there = ap (λ b. cond b (Some e.1) (change_at R es q)) (apart_further e es q change sorted there) ∙ there
@@ -229,7 +234,7 @@ module _ {K : Type 0} {R : K → K → Ordering} (o : IsTotalOrder R) where
       room = λ q change there some. inr there;
     }
 
-    -- where no change is left there is room for all
+    -- if no change is left there is room for all
     pub making-done : (before : FinMap R ℕ) (all : List (K × Change)) (now : FinMap R ℕ) → IsMaking before all now [] → HasRoomFor now all
     making-done before all now h = λ q change there some. elim (h.room q change there some) [
       | inl was ↦ was

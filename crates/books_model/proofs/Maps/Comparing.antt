@@ -18,7 +18,7 @@ not_apart a b same test = grind (arith, nat_tests, same, test)
 pub enough : (have want : ℕ) → nat_lt have want ≡ false → want ≤ have
 enough have want test = grind (arith, nat_tests, test)
 
--- nothing was found where the test says so
+-- nothing was found if the test says so
 pub none_of : {X : Type 0} (x : Option X) → is_some x ≡ false → x ≡ None
 none_of None _ = refl
 none_of (Some v) none = absurd (cc)

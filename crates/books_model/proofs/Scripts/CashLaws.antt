@@ -20,7 +20,7 @@ use Rattle.books_model.proofs.Maps.Entries.{weigh, sum_by-set_at}
 use Rattle.books_model.proofs.Drafts.{put_position-apart}
 use Rattle.books_model.proofs.Scripts.Outcomes.{WhereDone, choice, gives, declines, finds_no_block}
 
--- all cash, where one account has other cash
+-- all cash, if one account has other cash
 all_cash-put_cash : (books : ClearingBooks) (a cash : ℕ) → all_cash (put_cash books a cash) + cash_of books a ≡ all_cash books + cash
 all_cash-put_cash books a cash =
     let e = sum_by-set_at nat_cmp_total exact_unsigned (λ e. e.1) books.accounts a (Some cash) in
@@ -89,7 +89,7 @@ traded_cash books a b i q = traded _ books a b i q (λ apart _ pays.
     let exchanged = put_position (put_position books b i (position_of books b i - q)) a i (position_of books a i + q) in
     given exchanged a b (q * price_of books i) apart pays)
 
--- what is held of an instrument, where one account holds another quantity
+-- what is held of an instrument, if one account holds another quantity
 all_held-put_position : (books : ClearingBooks) (a i quantity j : ℕ)
     → all_held (put_position books a i quantity) j + cond (i == j) (position_of books a i) 0 ≡ all_held books j + cond (i == j) quantity 0
 all_held-put_position books a i quantity j =

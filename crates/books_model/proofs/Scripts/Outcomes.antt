@@ -40,7 +40,7 @@ pub choice : (C : Value → ClearingBooks → Type 0) (b : Bool) (x y : Step) �
 choice C true x y p q = p refl
 choice C false x y p q = q refl
 
--- what holds where a step is done holds of its books
+-- what holds if a step is done holds of its books
 pub done : (C : Value → ClearingBooks → Type 0) (s : Step) (v : Value) (after : ClearingBooks) → WhereDone C s → s ≡ Gives v after → C v after
 unfolding WhereDone
 done C s v after h is = subst (WhereDone C) is h
@@ -85,18 +85,18 @@ pub either_holds : (C : List Value → ClearingBooks → Type 0) (r s : Run) →
 either_holds C (Ends values after) s h k = h
 either_holds C (Stops stop) s h k = value_first C (λ values after. C (value.Second ∷ values) after) value.Second s (λ values after d. d) k
 
--- what follows from what holds where a run ends holds there
+-- what follows from what holds if a run ends holds there
 pub weaker : (C D : List Value → ClearingBooks → Type 0) (r : Run)
     → ((values : List Value) (after : ClearingBooks) → C values after → D values after) → WhereEnds C r → WhereEnds D r
 weaker C D (Ends values after) f h = f values after h
 weaker C D (Stops stop) f h = tt
 
--- two facts where a run ends
+-- two facts if a run ends
 pub both : (C D : List Value → ClearingBooks → Type 0) (r : Run) → WhereEnds C r → WhereEnds D r → WhereEnds (λ values after. C values after × D values after) r
 both C D (Ends values after) h k = (h, k)
 both C D (Stops stop) h k = tt
 
--- the books after a run, where they were before if it stops
+-- the books after a run, or those before it if it stops
 pub outcome_holds : (C : ClearingBooks → Type 0) (before : ClearingBooks) (r : Run) → C before → WhereEnds (λ _ after. C after) r → C (outcome_from before r).1
 outcome_holds C before (Ends values after) h k = k
 outcome_holds C before (Stops stop) h k = h
@@ -107,7 +107,7 @@ pub stops_refused : (before : ClearingBooks) (r : Run)
 stops_refused before (Ends values after) refused = absurd (refused values refl)
 stops_refused before (Stops stop) refused = refl
 
--- what holds where a run ends holds where its reply is Done, if no stop is
+-- what holds if a run ends holds if its reply is Done, if no stop is
 pub ends_done : (C : List Value → ClearingBooks → Type 0) (before : ClearingBooks) (r : Run) (values : List Value)
     (after : ClearingBooks) → WhereEnds C r → ((stop : Reply) → r ≡ Stops stop → stop ≢ reply.Done values)
     → outcome_from before r ≡ (reply.Done values, after) → C values after

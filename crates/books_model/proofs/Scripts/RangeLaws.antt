@@ -50,7 +50,7 @@ held_most books a i h = of_found (map.get books.positions (a, i)) refl where
   of_found None is = omega arith
   of_found (Some v) is = (h.positions a i v is).2.1
 
--- books stay in range when an account holds another quantity, or none, with a block for it where it held none
+-- books stay in range when an account holds another quantity, or none, with a block for it if it held none
 positioned : (books : ClearingBooks) (a i quantity : ℕ) → AreInRange books → IsSome (map.get books.accounts a)
     → IsSome (map.get books.prices i) → quantity ≤ GREATEST_QUANTITY → (map.get books.positions (a, i) ≡ None → used books < books.blocks)
     → AreInRange (put_position books a i quantity)

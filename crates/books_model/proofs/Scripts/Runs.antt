@@ -53,7 +53,7 @@ module _ (op : Op) (rest : List Op) (whole : Run) (values : List Value) (k : ℕ
   pub finds_no_block : step_of op books ≡ FindsNoBlock → whole ≡ Stops (reply.Full k)
   finds_no_block is = sym (from_step FindsNoBlock is) ∙ after_values-stops values _
 
--- the run ends where no operation is left
+-- the run ends if no operation is left
 pub ends : (whole : Run) (values : List Value) (k : ℕ) (books : ClearingBooks) → after_values values (run_from k [] books) ≡ whole → whole ≡ Ends values books
 ends whole values k books so_far = sym so_far ∙ after_values-ends values books
 
@@ -73,7 +73,7 @@ module _ (p : Part) (rest : List Part) (whole : Run) (values : List Value) (k : 
   pub part_stops : (stop : Reply) → run_part k p books ≡ Stops stop → whole ≡ Stops stop
   part_stops stop is = sym (from_part (Stops stop) is)
 
--- the run ends where no part is left
+-- the run ends if no part is left
 pub parts_end : (whole : Run) (values : List Value) (k : ℕ) (books : ClearingBooks)
     → after_values values (run_parts k [] books) ≡ whole → whole ≡ Ends values books
 parts_end whole values k books so_far = sym so_far ∙ after_values-ends values books

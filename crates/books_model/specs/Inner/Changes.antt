@@ -24,11 +24,6 @@ changed m (e ∷ es) = set_at (changed m es) e.0 e.1.now
 abbrev pub change_at : {K : Type 0} → (K → K → Ordering) → List (K × Change) → K → Option Change
 change_at R es k = lookup (is_at (R k)) es
 
--- what a change leaves at its key, or what was there where nothing is changed
-abbrev pub now_or : Option Change → Option ℕ → Option ℕ
-now_or None was = was
-now_or (Some change) was = change.now
-
 -- the value that a change gives a key that had none
 abbrev pub new_value : Change → Option ℕ
 new_value change = if is_some change.before then None else change.now

@@ -9,7 +9,7 @@ use Rattle.script_reader.specs.declared.fault.Fault.TheVariants as fault
 use Rattle.script_reader.specs.Forms.{Form, Words, are_in_range, are_numbers, form_of, is_only, is_script_line, ranges_of}
 use Rattle.script_reader.specs.Lines.{word_at}
 use Rattle.script_reader.specs.Faults.{first_reason, is_beyond}
-use Rattle.script_reader.specs.ListLanguage.{ListLanguage, IsFirstFaultIn, LinePlace, BetweenScripts, WithinScript, is_head, judge}
+use Rattle.script_reader.specs.ListLanguage.{ListLanguage, IsFirstFaultIn, LinePlace, BetweenScripts, WithinScript, is_head_with, judge}
 use Rattle.script_reader.specs.ListLanguage.{operation_fault, place_behind, script_line_fault, size_words, sizes_at}
 use Rattle.books_report.specs.Stores.Faults.{IsListReason}
 
@@ -53,7 +53,7 @@ module _ {O S : Type 0} (g : ListLanguage O S) where
   -- what is wrong with a line beside those before it
   judged : (before : List Words) (words : Words) (why : Fault) → judge g before words ≡ Some why → IsListReason why
   judged [] words why found = first_is (
-      (not (is_head g words), fault.Header)
+      (not (is_head_with g.title g.sizes words), fault.Header)
       ∷ (not (are_numbers (size_words words)), fault.Number)
       ∷ (not (are_in_range (size_words words) (map (λ s. s.range) g.sizes)), fault.Limit)
       ∷ []

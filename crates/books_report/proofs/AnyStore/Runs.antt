@@ -62,7 +62,7 @@ module _ {O V X : Type 0} (step : O → X → Step V X) where
     pub is_full : step op state ≡ Full → whole ≡ Stops (reply.Full k)
     is_full is = sym (from_step Full is)
 
-  -- the run ends where no operation is left
+  -- the run ends if no operation is left
   pub ends : (ops : List O) → ops ≡ [] → (whole : Run V X) (values : List V) (k : ℕ) (state : X)
       → after_values values (run_from step k ops state) ≡ whole → whole ≡ Ends values state
   ends ops none whole values k state so_far =

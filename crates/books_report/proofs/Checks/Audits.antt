@@ -3,19 +3,21 @@ use Rattle.std.proofs.Common.{◌≡◌, ℕ, ◌+◌, ◌<◌, ◌==◌, cond, 
 use Rattle.std.specs.List.{join_with_byte}
 use Rattle.std.proofs.lemmas.Bool.Decides.{eqb_tells}
 use Rattle.std.proofs.lemmas.List.{get_or-set_same, get_or-set_other, map_push}
+use Rattle.script_reader.specs.Gathered.{caller_at, script_at}
 use Rattle.books_model.specs.declared.reply.Reply.{Reply}
 use Rattle.books_model.specs.declared.reply.Reply.TheVariants as reply
 use Rattle.books_model.specs.Books.{ClearingBooks}
 use Rattle.books_model.specs.Interpreter.{outcome_of}
-use Rattle.script_reader.specs.declared.words.TheConstants.{SPACE, LINE_FEED}
+use Rattle.script_reader.specs.declared.text.words.TheConstants.{SPACE, LINE_FEED}
 use Rattle.script_reader.specs.Text.{line, number}
-use Rattle.script_reader.specs.Input.{ClearingInput, caller_at, script_at}
+use Rattle.script_reader.specs.Input.{ClearingInput}
 use Rattle.script_reader.specs.Journal.{IsPlace}
-use Rattle.script_reader.proofs.Tokens.Cutting.{line-append}
+use Rattle.script_reader.proofs.text.Tokens.Cutting.{line-append}
 use Rattle.books_report.specs.declared.limits.TheConstants.{RESTARTS_BELOW}
 use Rattle.books_report.specs.declared.line.Line.{Line}
 use Rattle.books_report.specs.Words.{reply_words}
-use Rattle.books_report.specs.Output.{Ran, places_run, reply_to, books_left, books_after, journal_line}
+use Rattle.books_report.specs.Journals.{places_run, journal_line}
+use Rattle.books_report.specs.Output.{Ran, reply_to, books_left, books_after}
 use Rattle.books_report.specs.Lines.{place_of_line, ran_of_line}
 use Rattle.books_report.specs.Checking.{MayFollow}
 use Rattle.books_report.specs.Inner.Audit.{HasRun, BeginsWithLine, four_words}
@@ -41,7 +43,8 @@ line_words a b c d w words after =
 
 -- so does the line of a script
 pub words_of_line : (serial : ℕ) (name : List ℕ) (ran : Ran) (after : List ℕ)
-    → (rest : List ℕ) × (journal_line serial name ran ++ after ≡ four_words (number serial) name (number (ran.place.index + 1)) (number ran.restarts) rest)
+    → (rest : List ℕ) × (journal_line reply_words serial name ran ++ after
+    ≡ four_words (number serial) name (number (ran.place.index + 1)) (number ran.restarts) rest)
 words_of_line serial name ran after =
     let w = some_words ran.reply in (
       join_with_byte SPACE (w.0 ∷ w.1.0) ++ LINE_FEED ∷ after,
@@ -57,22 +60,22 @@ module _ (input : ClearingInput) (scripts : List Ran) (books : ClearingBooks) (d
   -- what a text that begins with the line of a script that may follow names
   pub record Named (text : List ℕ) (ran : Ran) : Type 0 where
     pub within : ran.place.caller < length input.callers
-    pub left : slice_index done ran.place.caller < length (caller_at input ran.place.caller).scripts
+    pub left : slice_index done ran.place.caller < length (caller_at input.callers ran.place.caller).scripts
     pub below : ran.restarts < RESTARTS_BELOW
     pub rest : List ℕ
-    pub text_is : text ≡ four_words (number (length scripts + 1)) (caller_at input ran.place.caller).name
+    pub text_is : text ≡ four_words (number (length scripts + 1)) (caller_at input.callers ran.place.caller).name
         (number (ran.place.index + 1)) (number ran.restarts) rest
 
   pub named : (text : List ℕ) (ran : Ran) (after : List ℕ) → MayFollow input RESTARTS_BELOW scripts ran
-      → text ≡ journal_line (length scripts + 1) (caller_at input ran.place.caller).name ran ++ after → Named text ran
+      → text ≡ journal_line reply_words (length scripts + 1) (caller_at input.callers ran.place.caller).name ran ++ after → Named text ran
   named text ran after m is =
-      let words = words_of_line (length scripts + 1) (caller_at input ran.place.caller).name ran after in
+      let words = words_of_line (length scripts + 1) (caller_at input.callers ran.place.caller).name ran after in
       record { within = m.next.left.0; left = omega (arith, done_of ran m, m.next.left.1); below = m.below; rest = words.0; text_is = is ∙ words.1 }
 
   module _ (l : Line) (answer : Reply) (after : ClearingBooks) (new : List ℕ) (even : length done
       ≡ length input.callers) (found : IsPlace input (place_of_line l)) (index_is : l.index ≡ slice_index done l.caller)
-      (replied : answer ≡ (outcome_of (script_at input l.caller l.index) books).0) (left_are : after
-      ≡ (outcome_of (script_at input l.caller l.index) books).1) (new_are : new ≡ set done l.caller (l.index + 1)) where
+      (replied : answer ≡ (outcome_of (script_at input.callers l.caller l.index) books).0) (left_are : after
+      ≡ (outcome_of (script_at input.callers l.caller l.index) books).1) (new_are : new ≡ set done l.caller (l.index + 1)) where
     -- a script that may follow, and that the line names, is the line's
     same_ran : (ran : Ran) → MayFollow input RESTARTS_BELOW scripts ran
         → l ≡ record { caller = ran.place.caller; index = slice_index done ran.place.caller; restarts = ran.restarts } → ran ≡ ran_of_line l answer
@@ -90,16 +93,16 @@ module _ (input : ClearingInput) (scripts : List Ran) (books : ClearingBooks) (d
 
     -- so the text begins with the line that is expected
     pub expected_begins : (serial : ℕ) (text name expected : List ℕ) (ran : Ran) (behind : List ℕ)
-        → length scripts + 1 ≡ serial → name ≡ (caller_at input l.caller).name → expected ≡ journal_line serial name (ran_of_line l answer)
+        → length scripts + 1 ≡ serial → name ≡ (caller_at input.callers l.caller).name → expected ≡ journal_line reply_words serial name (ran_of_line l answer)
         → MayFollow input RESTARTS_BELOW scripts ran
         → l ≡ record { caller = ran.place.caller; index = slice_index done ran.place.caller; restarts = ran.restarts }
-        → text ≡ journal_line (length scripts + 1) (caller_at input ran.place.caller).name ran ++ behind → text ≡ expected ++ behind
+        → text ≡ journal_line reply_words (length scripts + 1) (caller_at input.callers ran.place.caller).name ran ++ behind → text ≡ expected ++ behind
     expected_begins serial text name expected ran behind at named written m is e =
         let same = same_ran ran m is in
-        e ∙ ap (λ l. l ++ behind) ((λ i. journal_line (at i) (caller_at input (same i).place.caller).name (same i))
-        ∙ ap (λ n. journal_line serial n (ran_of_line l answer)) (sym named) ∙ sym written)
+        e ∙ ap (λ l. l ++ behind) ((λ i. journal_line reply_words (at i) (caller_at input.callers (same i).place.caller).name (same i))
+        ∙ ap (λ n. journal_line reply_words serial n (ran_of_line l answer)) (sym named) ∙ sym written)
 
-    -- where it begins with the line that is expected, one more script was run
+    -- if it begins with the line that is expected, one more script was run
     done_after : (c : ℕ) → c < length input.callers → slice_index new c ≡ turns (places_run scripts) c + cond (l.caller == c) 1 0
     done_after c within = elim (eqb_tells l.caller c) [
       | inl same ↦ ap (λ xs. slice_index xs c) new_are ∙ ap (λ k. slice_index (set done k (l.index + 1)) c) same.1
@@ -111,12 +114,12 @@ module _ (input : ClearingInput) (scripts : List Ran) (books : ClearingBooks) (d
     ]
 
     pub begins_with_line : (serial : ℕ) (text name expected behind : List ℕ) → length scripts + 1 ≡ serial
-        → name ≡ (caller_at input l.caller).name → expected ≡ journal_line serial name (ran_of_line l answer)
+        → name ≡ (caller_at input.callers l.caller).name → expected ≡ journal_line reply_words serial name (ran_of_line l answer)
         → l.restarts < RESTARTS_BELOW → text ≡ expected ++ behind → BeginsWithLine input scripts text behind after new
     begins_with_line serial text name expected behind at named written below e = record {
       ran = ran_of_line l answer;
       may_follow = may;
-      text_is = e ∙ ap (λ l. l ++ behind) (written ∙ (λ i. journal_line (sym at i) (named i) (ran_of_line l answer)));
+      text_is = e ∙ ap (λ l. l ++ behind) (written ∙ (λ i. journal_line reply_words (sym at i) (named i) (ran_of_line l answer)));
       has_run = record {
         in_turn = turns_more input RESTARTS_BELOW [] scripts (ran_of_line l answer) run.in_turn may;
         books_are = left_are ∙ ap (λ b. books_left input b (place_of_line l)) run.books_are ∙ sym (books_after_ran input scripts (ran_of_line l answer));

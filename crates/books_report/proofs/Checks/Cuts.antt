@@ -1,8 +1,8 @@
 -- The first words of a text.
 use Rattle.std.proofs.Common.{◌≡◌, ℕ, List, ◌∷◌, ◌++◌, sym, ◌∙◌, subst}
-use Rattle.script_reader.specs.declared.words.TheConstants.{SPACE}
+use Rattle.script_reader.specs.declared.text.words.TheConstants.{SPACE}
 use Rattle.script_reader.specs.Lines.{IsFreeOf}
-use Rattle.script_reader.proofs.Tokens.Cutting.{cut_once, not_free}
+use Rattle.script_reader.proofs.text.Tokens.Cutting.{cut_once, not_free}
 
 -- what a text is cut into is its first word, and what stands behind it
 pub cut_is : (text word rest first after : List ℕ) → (text ≡ first ++ SPACE ∷ after) × IsFreeOf SPACE first

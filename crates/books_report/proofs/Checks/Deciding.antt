@@ -4,16 +4,19 @@ use Rattle.std.proofs.Common.{append-nil, length-append, arith}
 use Rattle.std.specs.List.{concat}
 use Rattle.std.proofs.lemmas.Bool.{cases_lt}
 use Rattle.std.proofs.lemmas.Bool.Decides.{eqb_tells}
+use Rattle.script_reader.specs.Gathered.{caller_at}
 use Rattle.script_reader.specs.Text.{line}
-use Rattle.script_reader.specs.Input.{ClearingInput, IsInput, caller_at, count_scripts}
+use Rattle.script_reader.specs.Input.{ClearingInput, IsInput, count_scripts}
 use Rattle.script_reader.specs.Journal.{Place}
-use Rattle.books_report.specs.Output.{Ran, places_run, reply_to, books_after, journal_line, IsOutput}
-use Rattle.books_report.specs.Checking.{MayFollow, FollowInTurn, lines_of, closing_lines}
+use Rattle.books_report.specs.Journals.{places_run, journal_line}
+use Rattle.books_report.specs.Output.{Ran, reply_to, books_after, IsOutput}
+use Rattle.books_report.specs.Checking.{MayFollow, FollowInTurn, journal_as_lines, closing_lines}
 use Rattle.books_report.specs.Statements.{HasWrongLine}
 use Rattle.books_report.specs.Inner.Audit.{StopsBefore, StopsAfter}
 use Rattle.books_report.proofs.Order.Turns.{turns, turns_more}
 use Rattle.books_report.proofs.Order.Histories.{journal_so_far}
 use Rattle.books_report.proofs.Checks.Wrong.{wrong_title, wrong_script, wrong_closing, is_output}
+use Rattle.books_report.specs.Words.{reply_words}
 
 -- a text begins with another, or does not
 pub begins_or_not : (p s : List ℕ) → ((after : List ℕ) × (s ≡ p ++ after)) ⊎ ((after : List ℕ) → s ≢ p ++ after)
@@ -49,7 +52,7 @@ stops_later line lines text left count is s = record {
   count_is = omega (arith, s.count_is);
 }
 
--- a text stops at once where it does not begin with the first line, or goes on behind the last
+-- a text stops at once if it does not begin with the first line, or goes on behind the last
 pub stops_here : (lines : List (List ℕ)) (text : List ℕ) → StopsBefore lines text → StopsAfter lines text 0
 stops_here lines text stops = record { done = []; rest = lines; left = text; lines_are = refl; text_is = refl; stops = stops; count_is = refl }
 
@@ -77,23 +80,23 @@ module _ (input : ClearingInput) (limit : ℕ) (ours : List Ran) (left : List �
       record { place = place; restarts = r; reply = reply_to input (books_after input input.books (places_run ours)) place }
 
   abbrev its_line : Ran → List ℕ
-  its_line ran = journal_line (length ours + 1) (caller_at input ran.place.caller).name ran
+  its_line ran = journal_line reply_words (length ours + 1) (caller_at input.callers ran.place.caller).name ran
 
   -- what is left begins with its line
   abbrev Begins : ℕ → ℕ → Type 0
   Begins c r = (after : List ℕ) × (left ≡ its_line (next_of c r) ++ after)
 
   abbrev HasLine : ℕ → Type 0
-  HasLine c = (turns (places_run ours) c < length (caller_at input c).scripts) × ((r : ℕ) × (r < limit) × Begins c r)
+  HasLine c = (turns (places_run ours) c < length (caller_at input.callers c).scripts) × ((r : ℕ) × (r < limit) × Begins c r)
 
   begins_tells : (c r : ℕ) → Begins c r ⊎ ¬ Begins c r
   begins_tells c r = elim (begins_or_not (its_line (next_of c r)) left) [ inl begins ↦ inl begins | inr none ↦ inr (λ b. none b.0 b.1) ]
 
   line_tells : (c : ℕ) → HasLine c ⊎ ¬ HasLine c
-  line_tells c = by (cases_lt (turns (places_run ours) c) (length (caller_at input c).scripts)) (some_below (Begins c) (begins_tells c) limit)
+  line_tells c = by (cases_lt (turns (places_run ours) c) (length (caller_at input.callers c).scripts)) (some_below (Begins c) (begins_tells c) limit)
     where
-      by : (turns (places_run ours) c < length (caller_at input c).scripts)
-          ⊎ (length (caller_at input c).scripts ≤ turns (places_run ours) c) → ((r : ℕ) × (r < limit) × Begins c r)
+      by : (turns (places_run ours) c < length (caller_at input.callers c).scripts)
+          ⊎ (length (caller_at input.callers c).scripts ≤ turns (places_run ours) c) → ((r : ℕ) × (r < limit) × Begins c r)
           ⊎ ((r : ℕ) → r < limit → Begins c r → ⊥) → HasLine c ⊎ ¬ HasLine c
       by (inl less) (inl found) = inl (less, found)
       by (inl less) (inr none) = inr (λ h. none h.1.0 h.1.1 h.1.2)
@@ -111,7 +114,7 @@ module _ (input : ClearingInput) (limit : ℕ) (ours : List Ran) (left : List �
   follows_or_not = by (some_below HasLine line_tells (length input.callers))
     where
       same_line : (ran : Ran) → MayFollow input limit ours ran → its_line ran ≡ its_line (next_of ran.place.caller ran.restarts)
-      same_line ran m = λ i. journal_line (length ours + 1) (caller_at input ran.place.caller).name (record {
+      same_line ran m = λ i. journal_line reply_words (length ours + 1) (caller_at input.callers ran.place.caller).name (record {
         place = record { caller = ran.place.caller; index = m.next.next i };
         restarts = ran.restarts;
         reply = (m.reply ∙ ap (λ n. reply_to input (books_after input input.books (places_run ours))
@@ -128,47 +131,51 @@ module _ (input : ClearingInput) (limit : ℕ) (ours : List Ran) (left : List �
       })
       by (inr none) = inr (λ ran after m is.
           none ran.place.caller m.next.left.0 (
-            subst (λ n. n < length (caller_at input ran.place.caller).scripts) m.next.next m.next.left.1,
+            subst (λ n. n < length (caller_at input.callers ran.place.caller).scripts) m.next.next m.next.left.1,
             (ran.restarts, m.below, (after, is ∙ ap (λ l. l ++ after) (same_line ran m))),
           ))
 
 -- the journal with one line more
 pub journal_more : (input : ClearingInput) (ours : List Ran) (ran : Ran)
     → concat (journal_so_far input (ours ++ ran ∷ [])) ≡ concat (journal_so_far input ours)
-    ++ journal_line (length ours + 1) (caller_at input ran.place.caller).name ran
+    ++ journal_line reply_words (length ours + 1) (caller_at input.callers ran.place.caller).name ran
 journal_more input ours ran =
     ap (λ l. line (codes "journal" ∷ []) ++ l) (behind ours 1)
-    ∙ sym (append_assoc (line (codes "journal" ∷ [])) (concat (lines_of input 1 ours))
-    (journal_line (1 + length ours) (caller_at input ran.place.caller).name ran))
-    ∙ ap (λ n. concat (journal_so_far input ours) ++ journal_line n (caller_at input ran.place.caller).name ran) number
+    ∙ sym (append_assoc (line (codes "journal" ∷ [])) (concat (journal_as_lines input 1 ours))
+    (journal_line reply_words (1 + length ours) (caller_at input.callers ran.place.caller).name ran))
+    ∙ ap (λ n. concat (journal_so_far input ours) ++ journal_line reply_words n (caller_at input.callers ran.place.caller).name ran) number
   where
     number : 1 + length ours ≡ length ours + 1
     number = omega arith
 
-    behind : (scripts : List Ran) (serial : ℕ) → concat (lines_of input serial (scripts ++ ran ∷ []))
-        ≡ concat (lines_of input serial scripts) ++ journal_line (serial + length scripts) (caller_at input ran.place.caller).name ran
-    behind [] serial = append-nil (journal_line serial (caller_at input ran.place.caller).name ran)
-        ∙ ap (λ n. journal_line n (caller_at input ran.place.caller).name ran) nothing
+    behind : (scripts : List Ran) (serial : ℕ) → concat (journal_as_lines input serial (scripts ++ ran ∷ []))
+        ≡ concat (journal_as_lines input serial scripts) ++ journal_line reply_words (serial + length scripts)
+        (caller_at input.callers ran.place.caller).name ran
+    behind [] serial = append-nil (journal_line reply_words serial (caller_at input.callers ran.place.caller).name ran)
+        ∙ ap (λ n. journal_line reply_words n (caller_at input.callers ran.place.caller).name ran) nothing
       where
         nothing : serial ≡ serial + 0
         nothing = omega arith
     behind (r ∷ scripts) serial =
-        let first = journal_line serial (caller_at input r.place.caller).name r in
+        let first = journal_line reply_words serial (caller_at input.callers r.place.caller).name r in
         ap (λ l. first ++ l) (behind scripts (serial + 1))
-        ∙ sym (append_assoc first (concat (lines_of input (serial + 1) scripts))
-        (journal_line (serial + 1 + length scripts) (caller_at input ran.place.caller).name ran))
-        ∙ ap (λ n. (first ++ concat (lines_of input (serial + 1) scripts)) ++ journal_line n (caller_at input ran.place.caller).name ran) later
+        ∙ sym (append_assoc first (concat (journal_as_lines input (serial + 1) scripts))
+        (journal_line reply_words (serial + 1 + length scripts) (caller_at input.callers ran.place.caller).name ran))
+        ∙ ap (λ n. (first ++ concat (journal_as_lines input (serial + 1) scripts))
+        ++ journal_line reply_words n (caller_at input.callers ran.place.caller).name ran) later
       where
         later : serial + 1 + length scripts ≡ serial + length (r ∷ scripts)
         later = omega arith
 
 -- and what is left behind it
 pub text_more : (input : ClearingInput) (ours : List Ran) (ran : Ran) (text left after : List ℕ)
-    → text ≡ concat (journal_so_far input ours) ++ left → left ≡ journal_line (length ours + 1) (caller_at input ran.place.caller).name ran ++ after
+    → text ≡ concat (journal_so_far input ours) ++ left → left ≡ journal_line reply_words (length ours + 1)
+    (caller_at input.callers ran.place.caller).name ran ++ after
     → text ≡ concat (journal_so_far input (ours ++ ran ∷ [])) ++ after
 text_more input ours ran text left after e is =
     e ∙ ap (λ l. concat (journal_so_far input ours) ++ l) is
-    ∙ sym (append_assoc (concat (journal_so_far input ours)) (journal_line (length ours + 1) (caller_at input ran.place.caller).name ran) after)
+    ∙ sym (append_assoc (concat (journal_so_far input ours))
+    (journal_line reply_words (length ours + 1) (caller_at input.callers ran.place.caller).name ran) after)
     ∙ ap (λ l. l ++ after) (sym (journal_more input ours ran))
 
 module _ (input : ClearingInput) (limit : ℕ) (valid : IsInput input) (text : List ℕ) where
@@ -192,7 +199,7 @@ module _ (input : ClearingInput) (limit : ℕ) (valid : IsInput input) (text : L
           → text ≡ concat (journal_so_far input scripts) ++ left → fuel + length scripts ≡ count_scripts input.callers
           → IsOutput input limit text ⊎ HasWrongLine input limit text)
           → Follows input limit ours left ⊎ ((ran : Ran) (after : List ℕ) → MayFollow input limit ours ran
-          → left ≢ journal_line (length ours + 1) (caller_at input ran.place.caller).name ran ++ after)
+          → left ≢ journal_line reply_words (length ours + 1) (caller_at input.callers ran.place.caller).name ran ++ after)
           → IsOutput input limit text ⊎ HasWrongLine input limit text
       by more (inl f) = more (ours ++ f.ran ∷ []) f.after (turns_more input limit [] ours f.ran t f.may)
           (text_more input ours f.ran text left f.after e f.is) (omega (arith, all, length-append ours (f.ran ∷ [])))

@@ -8,12 +8,12 @@ use Rattle.std.proofs.lemmas.List.{length-map}
 use Rattle.std.proofs.lemmas.List.Sums.{sum_by-append, sum_by-cons}
 use Rattle.books_model.specs.Books.{ClearingBooks}
 use Rattle.books_model.specs.Ranges.{AreInRange}
-use Rattle.script_reader.specs.declared.words.TheConstants.{SPACE, LINE_FEED}
+use Rattle.script_reader.specs.declared.text.words.TheConstants.{SPACE, LINE_FEED}
 use Rattle.script_reader.specs.Lines.{IsFreeOf}
 use Rattle.script_reader.specs.Text.{account_line, price_line, position_line, call_line, finish_line}
-use Rattle.script_reader.proofs.Tokens.Cutting.{join-free}
+use Rattle.script_reader.proofs.text.Tokens.Cutting.{join-free}
 use Rattle.script_reader.proofs.Judging.{count_line}
-use Rattle.script_reader.proofs.Texts.Counting.{few_entries}
+use Rattle.script_reader.proofs.books.Texts.Counting.{few_entries}
 use Rattle.books_report.specs.declared.limits.TheConstants.{MOST_CLOSING_LINES}
 use Rattle.books_report.specs.Checking.{closing_lines}
 use Rattle.books_report.specs.Inner.Audit.{StopsAfter, in_common}

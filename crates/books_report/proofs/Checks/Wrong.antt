@@ -4,15 +4,18 @@ use Rattle.std.proofs.Common.{arith}
 use Rattle.std.specs.List.{AllByRecursion, concat}
 use Rattle.std.proofs.lemmas.List.{append_cancel_left, length-map}
 use Rattle.std.proofs.lemmas.List.Elements.{All-from_recursion}
+use Rattle.script_reader.specs.Gathered.{caller_at}
 use Rattle.script_reader.specs.Text.{line}
-use Rattle.script_reader.specs.Input.{ClearingInput, IsInput, caller_at, count_scripts}
-use Rattle.books_report.specs.Output.{Ran, places_run, books_after, journal_line, IsOutput}
-use Rattle.books_report.specs.Checking.{MayFollow, FollowInTurn, lines_of, closing_lines, lines_behind, output_lines, CanBegin, IsFirstWrongLine}
+use Rattle.script_reader.specs.Input.{ClearingInput, IsInput, count_scripts}
+use Rattle.books_report.specs.Journals.{places_run, journal_line}
+use Rattle.books_report.specs.Output.{Ran, books_after, IsOutput}
+use Rattle.books_report.specs.Checking.{MayFollow, FollowInTurn, journal_as_lines, closing_lines, lines_behind, output_lines, CanBegin, IsFirstWrongLine}
 use Rattle.books_report.specs.Inner.Audit.{StopsBefore, StopsAfter}
 use Rattle.books_report.proofs.Order.Turns.{gone_of, journal_of_turns, length_of_journal, turns_of_journal, below_of_turns, replies_of_turns}
 use Rattle.books_report.proofs.Outputs.Rows.{IsRow, row_some, all_first, concat-both, output_rows, output_text, behind_all, behind_some}
 use Rattle.books_report.proofs.Checks.Comparing.{Compared, AreSame, IsShorter, IsLonger, compared}
 use Rattle.books_report.proofs.Order.Histories.{journal_so_far, length-lines_of, follows_others, GoesOn, goes_on_behind, length_of_same, closing_of_all}
+use Rattle.books_report.specs.Words.{reply_words}
 
 -- the first line behind others is one line
 row_behind : (xs : List (List ℕ)) (y : List ℕ) (ys : List (List ℕ)) → AllByRecursion IsRow (xs ++ y ∷ ys) → IsRow y
@@ -110,7 +113,8 @@ module _ (input : ClearingInput) (limit : ℕ) (valid : IsInput input) where
     -- behind scripts in turn, a script is left, and no line of one that may come next
     pub wrong_script : length ours < count_scripts input.callers
         → ((ran : Ran) (after : List ℕ) → MayFollow input limit ours ran
-        → left ≢ journal_line (length ours + 1) (caller_at input ran.place.caller).name ran ++ after) → IsFirstWrongLine input limit text (length ours + 2)
+        → left ≢ journal_line reply_words (length ours + 1) (caller_at input.callers ran.place.caller).name ran ++ after)
+        → IsFirstWrongLine input limit text (length ours + 2)
     wrong_script less none = record {
       before = journal_so_far input ours;
       left = left;
@@ -120,7 +124,7 @@ module _ (input : ClearingInput) (limit : ℕ) (valid : IsInput input) where
         in_turn = t;
         more = [];
         lines_are =
-            ap (λ l. line (codes "journal" ∷ []) ∷ (lines_of input 1 ours ++ l)) (behind_some input ours less);
+            ap (λ l. line (codes "journal" ∷ []) ∷ (journal_as_lines input 1 ours ++ l)) (behind_some input ours less);
       };
       wrong = λ next after h e. next_is next h.scripts h.in_turn h.more (h.lines_are ∙ append_assoc (journal_so_far input ours) (next ∷ []) h.more) after e;
       unfinished = λ h. absurd (omega (
@@ -128,7 +132,7 @@ module _ (input : ClearingInput) (limit : ℕ) (valid : IsInput input) where
         less,
         h.run,
         ap length h.lines_are,
-        length-append (lines_of input 1 h.scripts) (lines_behind input h.scripts),
+        length-append (journal_as_lines input 1 h.scripts) (lines_behind input h.scripts),
         length-lines_of input 1 h.scripts,
         length-lines_of input 1 ours,
       ));
@@ -143,16 +147,16 @@ module _ (input : ClearingInput) (limit : ℕ) (valid : IsInput input) where
             g = goes_on_behind input limit valid ours theirs (next ∷ more) t u (omega (arith, less)) e
 
             by : (rest : List Ran) → FollowInTurn input limit g.same rest → theirs ≡ g.same ++ rest
-                → lines_of input (1 + length ours) rest ++ lines_behind input theirs ≡ next ∷ more → ⊥
+                → journal_as_lines input (1 + length ours) rest ++ lines_behind input theirs ≡ next ∷ more → ⊥
             by [] turns parts lines =
                 let few : length theirs ≡ length ours = ap length (parts ∙ append-nil g.same)
                 ∙ length_of_same input limit valid ours theirs (next ∷ more) (lines_behind input theirs) g in
                 omega (arith, ap length lines, ap length (behind_some input theirs (omega (arith, few, less))))
             by (ran ∷ rest) turns parts lines =
                 let number : 1 + length ours ≡ length ours + 1 = omega arith in
-                let line_is : journal_line (1 + length ours) (caller_at input ran.place.caller).name ran ≡ next = cc in
+                let line_is : journal_line reply_words (1 + length ours) (caller_at input.callers ran.place.caller).name ran ≡ next = cc in
                 none ran after (follows_others input limit g.same ours ran g.places turns.0)
-                (is ∙ ap (λ l. l ++ after) (sym line_is ∙ ap (λ n. journal_line n (caller_at input ran.place.caller).name ran) number))
+                (is ∙ ap (λ l. l ++ after) (sym line_is ∙ ap (λ n. journal_line reply_words n (caller_at input.callers ran.place.caller).name ran) number))
 
     -- behind all scripts, the lines of the books and the last one
     pub is_output : length ours ≡ count_scripts input.callers

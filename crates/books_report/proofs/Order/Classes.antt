@@ -31,7 +31,7 @@ pub sums-le : (k : ℕ) (g h : ℕ → ℕ) → ((i : ℕ) → i < k → g i ≤
 sums-le zero g h each = omega arith
 sums-le (suc k) g h each = omega (arith, sums-le k g h (λ i less. each i (omega arith)), each k (omega arith))
 
--- numbers of which none is above another's have its sum only where all are the same
+-- numbers of which none is above another's have its sum only if all are the same
 pub sums-tight : (k : ℕ) (g h : ℕ → ℕ) → ((i : ℕ) → i < k → g i ≤ h i) → sums k g ≡ sums k h → (i : ℕ) → i < k → g i ≡ h i
 sums-tight zero g h each same i less = absurd (omega arith)
 sums-tight (suc k) g h each same i less =

@@ -6,21 +6,24 @@ use Rattle.std.proofs.lemmas.Bool.{cases_lt}
 use Rattle.std.proofs.lemmas.List.{get_or-map, length-map, map_push}
 use Rattle.std.proofs.lemmas.Map.Keys.{apart_from_distinct}
 use Rattle.std.proofs.lemmas.Slice.Eq.{bytes_eq-Decides}
+use Rattle.script_reader.specs.Gathered.{caller_at}
 use Rattle.script_reader.specs.Lines.{word_at}
 use Rattle.script_reader.specs.Text.{line}
-use Rattle.script_reader.specs.Input.{Caller, ClearingInput, IsInput, IsName, caller_at, count_scripts}
-use Rattle.script_reader.proofs.Tokens.Cutting.{line_once}
-use Rattle.books_report.specs.Output.{Ran, places_run, reply_to, books_after, journal_line}
-use Rattle.books_report.specs.Checking.{IsNext, MayFollow, FollowInTurn, lines_of, closing_lines, lines_behind, output_lines}
+use Rattle.script_reader.specs.Input.{Caller, ClearingInput, IsInput, IsName, count_scripts}
+use Rattle.script_reader.proofs.text.Tokens.Cutting.{line_once}
+use Rattle.books_report.specs.Journals.{places_run, journal_line}
+use Rattle.books_report.specs.Output.{Ran, reply_to, books_after}
+use Rattle.books_report.specs.Checking.{IsNext, MayFollow, FollowInTurn, journal_as_lines, closing_lines, lines_behind, output_lines}
 use Rattle.books_report.proofs.Order.Turns.{turns, gone_of, none_left}
 use Rattle.books_report.proofs.Outputs.Rows.{journal_words, journal-AreWords, caller_named, behind_all, behind_some}
+use Rattle.books_report.specs.Words.{reply_words}
 
 -- the first line of an output, and those of scripts behind it
 abbrev pub journal_so_far : ClearingInput → List Ran → List (List ℕ)
-journal_so_far input scripts = line (codes "journal" ∷ []) ∷ lines_of input 1 scripts
+journal_so_far input scripts = line (codes "journal" ∷ []) ∷ journal_as_lines input 1 scripts
 
 -- each script has a line
-pub length-lines_of : (input : ClearingInput) (serial : ℕ) (scripts : List Ran) → length (lines_of input serial scripts) ≡ length scripts
+pub length-lines_of : (input : ClearingInput) (serial : ℕ) (scripts : List Ran) → length (journal_as_lines input serial scripts) ≡ length scripts
 length-lines_of input serial [] = refl
 length-lines_of input serial (ran ∷ scripts) = ap suc (length-lines_of input (serial + 1) scripts)
 
@@ -35,11 +38,11 @@ follows_others input limit before other ran same m = record {
 
 -- lines with the same serial number name the same caller
 same_name : (serial : ℕ) (name other : List ℕ) (ran ran' : Ran) → IsName name → IsName other
-    → journal_line serial name ran ≡ journal_line serial other ran' → name ≡ other
+    → journal_line reply_words serial name ran ≡ journal_line reply_words serial other ran' → name ≡ other
 same_name serial name other ran ran' named also e =
     ap (λ w. word_at w 1) (line_once (journal_words serial name ran) (journal_words serial other ran') [] []
     (journal-AreWords serial name ran named) (journal-AreWords serial other ran' also)
-    (append-nil (journal_line serial name ran) ∙ e ∙ sym (append-nil (journal_line serial other ran')))).0
+    (append-nil (journal_line reply_words serial name ran) ∙ e ∙ sym (append-nil (journal_line reply_words serial other ran')))).0
 
 -- how scripts go on behind others of which they have the lines
 pub record GoesOn (input : ClearingInput) (limit : ℕ) (before other ours theirs : List Ran) (serial : ℕ) (left behind : List (List ℕ)) : Type 0 where
@@ -48,7 +51,7 @@ pub record GoesOn (input : ClearingInput) (limit : ℕ) (before other ours their
   pub parts : theirs ≡ same ++ more
   pub places : places_run (other ++ same) ≡ places_run (before ++ ours)
   pub in_turn : FollowInTurn input limit (other ++ same) more
-  pub lines : lines_of input (serial + length ours) more ++ behind ≡ left
+  pub lines : journal_as_lines input (serial + length ours) more ++ behind ≡ left
 
 -- so they do behind one script less
 goes_on_later : (input : ClearingInput) (limit : ℕ) (before other : List Ran) (ran ran' : Ran) (ours theirs : List Ran)
@@ -61,25 +64,26 @@ goes_on_later input limit before other ran ran' ours theirs serial left behind g
   parts = ap (λ l. ran' ∷ l) g.parts;
   places = ap places_run (sym (append_assoc other (ran' ∷ []) g.same)) ∙ g.places ∙ ap places_run (append_assoc before (ran ∷ []) ours);
   in_turn = subst (λ l. FollowInTurn input limit l g.more) (append_assoc other (ran' ∷ []) g.same) g.in_turn;
-  lines = subst (λ n. lines_of input n g.more ++ behind ≡ left) number g.lines;
+  lines = subst (λ n. journal_as_lines input n g.more ++ behind ≡ left) number g.lines;
 }
   where
     number : serial + 1 + length ours ≡ serial + length (ran ∷ ours)
     number = omega arith
 
 module _ (input : ClearingInput) (valid : IsInput input) where
-  name_at : (c : ℕ) → c < length input.callers → get_or (map (λ (x : Caller). x.name) input.callers) c [] ≡ (caller_at input c).name
+  name_at : (c : ℕ) → c < length input.callers → get_or (map (λ (x : Caller). x.name) input.callers) c [] ≡ (caller_at input.callers c).name
   name_at c within = get_or-map (λ (x : Caller). x.name) input.callers c (record { name = []; scripts = [] }) [] within
 
   -- names of callers below another differ from its name
-  apart : (c c' : ℕ) → c < c' → c' < length input.callers → (caller_at input c).name ≡ (caller_at input c').name → ⊥
+  apart : (c c' : ℕ) → c < c' → c' < length input.callers → (caller_at input.callers c).name ≡ (caller_at input.callers c').name → ⊥
   apart c c' less within same =
       let differ = apart_from_distinct bytes_eq (map (λ (x : Caller). x.name) input.callers) c c' []
       valid.callers.names_differ less (omega (arith, within, length-map input.callers (λ (x : Caller). x.name))) in
       true≢false (sym ((bytes_eq-Decides _ _).1 (name_at c (omega arith) ∙ same ∙ sym (name_at c' within))) ∙ differ)
 
   -- a name is that of one caller
-  pub one_caller : (c c' : ℕ) → c < length input.callers → c' < length input.callers → (caller_at input c).name ≡ (caller_at input c').name → c ≡ c'
+  pub one_caller : (c c' : ℕ) → c < length input.callers → c' < length input.callers → (caller_at input.callers c).name ≡ (caller_at input.callers c').name
+      → c ≡ c'
   one_caller c c' within also same = elim (cases_lt c c') [
     | inl less ↦ absurd (apart c c' less also same)
     | inr up ↦ elim (cases_lt c' c) [ inl less ↦ absurd (apart c' c less within (sym same)) | inr down ↦ omega (arith, up, down) ]
@@ -89,13 +93,13 @@ module _ (input : ClearingInput) (limit : ℕ) (valid : IsInput input) where
   -- equal lines, behind scripts at the same places, are of one script
   same_place : (before other : List Ran) (ran ran' : Ran) (serial : ℕ) → places_run before ≡ places_run other
       → MayFollow input limit before ran → MayFollow input limit other ran'
-      → journal_line serial (caller_at input ran.place.caller).name ran
-      ≡ journal_line serial (caller_at input ran'.place.caller).name ran' → ran.place ≡ ran'.place
+      → journal_line reply_words serial (caller_at input.callers ran.place.caller).name ran
+      ≡ journal_line reply_words serial (caller_at input.callers ran'.place.caller).name ran' → ran.place ≡ ran'.place
   same_place before other ran ran' serial places m m' e = λ i. record { caller = caller i; index = index i }
     where
       caller : ran.place.caller ≡ ran'.place.caller
       caller = one_caller input valid ran.place.caller ran'.place.caller m.next.left.0 m'.next.left.0
-          (same_name serial (caller_at input ran.place.caller).name (caller_at input ran'.place.caller).name ran ran'
+          (same_name serial (caller_at input.callers ran.place.caller).name (caller_at input.callers ran'.place.caller).name ran ran'
           (caller_named input valid ran.place.caller m.next.left.0) (caller_named input valid ran'.place.caller m'.next.left.0) e)
 
       index : ran.place.index ≡ ran'.place.index
@@ -104,7 +108,7 @@ module _ (input : ClearingInput) (limit : ℕ) (valid : IsInput input) where
   -- scripts that have the lines of others go on behind them
   goes_on : (before other ours theirs : List Ran) (serial : ℕ) (left behind : List (List ℕ))
       → places_run before ≡ places_run other → FollowInTurn input limit before ours → FollowInTurn input limit other theirs
-      → length ours ≤ length theirs → lines_of input serial theirs ++ behind ≡ lines_of input serial ours ++ left
+      → length ours ≤ length theirs → journal_as_lines input serial theirs ++ behind ≡ journal_as_lines input serial ours ++ left
       → GoesOn input limit before other ours theirs serial left behind
   goes_on before other [] theirs serial left behind same t u le e = record {
     same = [];
@@ -112,14 +116,15 @@ module _ (input : ClearingInput) (limit : ℕ) (valid : IsInput input) where
     parts = refl;
     places = ap places_run (append-nil other) ∙ sym same ∙ ap places_run (sym (append-nil before));
     in_turn = subst (λ l. FollowInTurn input limit l theirs) (sym (append-nil other)) u;
-    lines = subst (λ n. lines_of input n theirs ++ behind ≡ left) nothing e;
+    lines = subst (λ n. journal_as_lines input n theirs ++ behind ≡ left) nothing e;
   }
     where
       nothing : serial ≡ serial + 0
       nothing = omega arith
   goes_on before other (ran ∷ ours) [] serial left behind same t u le e = absurd (omega arith)
   goes_on before other (ran ∷ ours) (ran' ∷ theirs) serial left behind same t u le e =
-      let first : journal_line serial (caller_at input ran.place.caller).name ran ≡ journal_line serial (caller_at input ran'.place.caller).name ran' = cc in
+      let first : journal_line reply_words serial (caller_at input.callers ran.place.caller).name ran
+      ≡ journal_line reply_words serial (caller_at input.callers ran'.place.caller).name ran' = cc in
       let place : ran.place ≡ ran'.place = same_place before other ran ran' serial same t.0 u.0 first in
       let both : places_run (before ++ ran ∷ []) ≡ places_run (other ++ ran' ∷ []) =
       map_push (λ (r : Ran). r.place) before ran ∙ (λ i. same i ++ place i ∷ []) ∙ sym (map_push (λ (r : Ran). r.place) other ran') in
@@ -132,7 +137,7 @@ module _ (input : ClearingInput) (limit : ℕ) (valid : IsInput input) where
       → output_lines input theirs ≡ journal_so_far input ours ++ left → GoesOn input limit [] [] ours theirs 1 left (lines_behind input theirs)
   goes_on_behind ours theirs left t u few e = goes_on [] [] ours theirs 1 left (lines_behind input theirs) refl t u longer rest
     where
-      rest : lines_of input 1 theirs ++ lines_behind input theirs ≡ lines_of input 1 ours ++ left
+      rest : journal_as_lines input 1 theirs ++ lines_behind input theirs ≡ journal_as_lines input 1 ours ++ left
       rest = cc
 
       longer : length ours ≤ length theirs
@@ -142,8 +147,8 @@ module _ (input : ClearingInput) (limit : ℕ) (valid : IsInput input) where
           less,
           ap length rest,
           ap length (behind_some input theirs (omega (arith, less, few))),
-          length-append (lines_of input 1 theirs) (lines_behind input theirs),
-          length-append (lines_of input 1 ours) left,
+          length-append (journal_as_lines input 1 theirs) (lines_behind input theirs),
+          length-append (journal_as_lines input 1 ours) left,
           length-lines_of input 1 theirs,
           length-lines_of input 1 ours,
         )
@@ -165,7 +170,8 @@ module _ (input : ClearingInput) (limit : ℕ) (valid : IsInput input) where
       g = goes_on_behind ours theirs left t u (omega (arith, all)) e
 
       by : (more : List Ran) → FollowInTurn input limit g.same more → theirs ≡ g.same ++ more
-          → lines_of input (1 + length ours) more ++ lines_behind input theirs ≡ left → closing_lines (books_after input input.books (places_run ours)) ≡ left
+          → journal_as_lines input (1 + length ours) more ++ lines_behind input theirs ≡ left
+          → closing_lines (books_after input input.books (places_run ours)) ≡ left
       by [] turns parts lines =
           let same : theirs ≡ g.same = parts ∙ append-nil g.same in
           ap (λ places. closing_lines (books_after input input.books places)) (sym g.places ∙ ap places_run (sym same))

@@ -8,11 +8,13 @@ use Rattle.std.proofs.lemmas.List.Elements.{All-nil, All-push, All-weaker, All-h
 use Rattle.std.proofs.lemmas.List.Quantifiers.{all_pairs_push}
 use Rattle.std.proofs.lemmas.Bool.{eqb-true, eq-eqb, ne_eqb}
 use Rattle.std.proofs.lemmas.Bool.Decides.{nat_tests, eqb_tells}
+use Rattle.script_reader.specs.Gathered.{caller_at}
 use Rattle.books_model.specs.Books.{ClearingBooks}
-use Rattle.script_reader.specs.Input.{Caller, ClearingInput, caller_at, count_scripts}
+use Rattle.script_reader.specs.Input.{Caller, ClearingInput, count_scripts}
 use Rattle.script_reader.specs.Journal.{Place, IsPlace, IsJournal}
-use Rattle.script_reader.proofs.Printing.Sections.{all_follow}
-use Rattle.books_report.specs.Output.{Ran, places_run, books_left, replies_of, books_after}
+use Rattle.script_reader.proofs.books.Printing.Sections.{all_follow}
+use Rattle.books_report.specs.Journals.{places_run}
+use Rattle.books_report.specs.Output.{Ran, books_left, replies_of, books_after}
 use Rattle.books_report.specs.Checking.{IsNext, MayFollow, FollowInTurn}
 use Rattle.books_report.proofs.Order.Classes.{sums, sums-same, sums-ones, sums-tight, by_classes, sum_by_all}
 
@@ -30,7 +32,7 @@ pub record Gone (input : ClearingInput) (done : List Place) : Type 0 where
   pub rising : AllPairs (λ p q. p.caller ≡ q.caller → p.index < q.index) done
   pub once : (c i : ℕ) → times done c i ≡ cond (nat_lt i (turns done c)) 1 0
   pub every : All (λ p. p.index < turns done p.caller) done
-  pub few : (c : ℕ) → turns done c ≤ length (caller_at input c).scripts
+  pub few : (c : ℕ) → turns done c ≤ length (caller_at input.callers c).scripts
 
 -- one more script of a caller
 pub turns-push : (done : List Place) (p : Place) (c : ℕ) → turns (done ++ p ∷ []) c ≡ turns done c + cond (p.caller == c) 1 0
@@ -40,15 +42,15 @@ turns-push done p c = sum_by_push (λ q. cond (q.caller == c) 1 0) done p
 its_turn : (done : List Place) (p : Place) → turns (done ++ p ∷ []) p.caller ≡ turns done p.caller + 1
 its_turn done p = turns-push done p p.caller ∙ ap {B = ℕ} (λ b. turns done p.caller + cond b 1 0) (eq-eqb p.caller p.caller refl)
 
--- an index is run once where it lies below those that were run
+-- an index is run once if it lies below those that were run
 once_more : (same : Bool) (pi i t : ℕ) → (same ≡ true → pi ≡ t) → cond (nat_lt i t) 1 0 + cond (same && pi == i) 1 0 ≡ cond (nat_lt i (t + cond same 1 0)) 1 0
 once_more false pi i t at = grind (arith, nat_tests)
 once_more true pi i t at = let is = at refl in grind (arith, nat_tests, is)
 
 few_more : (input : ClearingInput) (done : List Place) (p : Place) → Gone input done → IsNext input done p → (c : ℕ)
-    → turns (done ++ p ∷ []) c ≤ length (caller_at input c).scripts
+    → turns (done ++ p ∷ []) c ≤ length (caller_at input.callers c).scripts
 few_more input done p h n c = elim (eqb_tells p.caller c) [
-  | inl same ↦ subst (λ x. turns (done ++ p ∷ []) x ≤ length (caller_at input x).scripts) same.1 (omega (arith, its_turn done p, n.next, n.left.1))
+  | inl same ↦ subst (λ x. turns (done ++ p ∷ []) x ≤ length (caller_at input.callers x).scripts) same.1 (omega (arith, its_turn done p, n.next, n.left.1))
   | inr apart ↦ omega (arith, turns-push done p c, ap {B = ℕ} (λ b. cond b 1 0) apart.0, h.few c)
 ]
 
@@ -105,14 +107,14 @@ turns_together input done only =
     (recursion_from_All (λ p. true ≡ true → p.caller < length input.callers) done (λ k d less yes. (only k d less).0))
 
 -- and so are those of the input
-scripts_together : (input : ClearingInput) → count_scripts input.callers ≡ sums (length input.callers) (λ c. length (caller_at input c).scripts)
+scripts_together : (input : ClearingInput) → count_scripts input.callers ≡ sums (length input.callers) (λ c. length (caller_at input.callers c).scripts)
 scripts_together input = sum_by_all (λ (c : Caller). length c.scripts) (record { name = []; scripts = [] }) input.callers
 
--- where as many were run as there are, no caller has one left
+-- if as many were run as there are, no caller has one left
 pub finished : (input : ClearingInput) (done : List Place) → Gone input done → length done ≡ count_scripts input.callers
-    → (c : ℕ) → c < length input.callers → turns done c ≡ length (caller_at input c).scripts
+    → (c : ℕ) → c < length input.callers → turns done c ≡ length (caller_at input.callers c).scripts
 finished input done h all c within =
-    sums-tight (length input.callers) (turns done) (λ c. length (caller_at input c).scripts) (λ c less. h.few c)
+    sums-tight (length input.callers) (turns done) (λ c. length (caller_at input.callers c).scripts) (λ c less. h.few c)
     (sym (turns_together input done h.only) ∙ all ∙ scripts_together input) c within
 
 -- so none comes next
@@ -150,7 +152,7 @@ none_counts : {A : Type 0} (t : A → Bool) (xs : List A) → AllByRecursion (λ
 none_counts t [] all = refl
 none_counts t (x ∷ xs) all = sum_by-append (λ y. cond (t y) 1 0) (x ∷ []) xs ∙ omega (arith, ap {B = ℕ} (λ b. cond b 1 0) all.0, none_counts t xs all.1)
 
--- a test of two numbers fails where the second is another
+-- a test of two numbers fails if the second is another
 other_index : (c c' i i' : ℕ) → (c ≡ c' → i ≢ i') → (c == c' && i == i') ≡ false
 other_index c c' i i' apart = elim (eqb_tells c c') [
   | inl same ↦ ap (λ b. b && i == i') same.0 ∙ ne_eqb i i' (apart same.1)
@@ -194,16 +196,16 @@ next_of_journal input done p rest j = record { left = here; next = sym counted }
 pub length_of_journal : (input : ClearingInput) (order : List Place) → IsJournal input order → length order ≡ count_scripts input.callers
 length_of_journal input order j =
     turns_together input order j.only
-    ∙ sums-same (length input.callers) (turns order) (λ c. length (caller_at input c).scripts) each
+    ∙ sums-same (length input.callers) (turns order) (λ c. length (caller_at input.callers c).scripts) each
     ∙ sym (scripts_together input)
   where
-    each : (c : ℕ) → c < length input.callers → turns order c ≡ length (caller_at input c).scripts
+    each : (c : ℕ) → c < length input.callers → turns order c ≡ length (caller_at input.callers c).scripts
     each c within =
-        by_classes (λ q. q.caller == c) (λ q. q.index) (length (caller_at input c).scripts) order
-        (recursion_from_All (λ q. (q.caller == c) ≡ true → q.index < length (caller_at input c).scripts) order
-        (λ k d less same. subst (λ x. (get_or order k d).index < length (caller_at input x).scripts)
+        by_classes (λ q. q.caller == c) (λ q. q.index) (length (caller_at input.callers c).scripts) order
+        (recursion_from_All (λ q. (q.caller == c) ≡ true → q.index < length (caller_at input.callers c).scripts) order
+        (λ k d less same. subst (λ x. (get_or order k d).index < length (caller_at input.callers x).scripts)
         (eqb-true (get_or order k d).caller c same) (j.only k d less).1))
-        ∙ sums-ones (length (caller_at input c).scripts) (λ i. times order c i) (λ i less. j.once (record { caller = c; index = i }) (within, less))
+        ∙ sums-ones (length (caller_at input.callers c).scripts) (λ i. times order c i) (λ i less. j.once (record { caller = c; index = i }) (within, less))
 
 -- the books after one more script
 pub books_after-push : (input : ClearingInput) (books : ClearingBooks) (places : List Place) (p : Place)

@@ -2,11 +2,12 @@
 use Rattle.std.proofs.Common.{◌≡◌, ℕ, ◌<◌, List, [], ◌∷◌, length, refl, ◌∙◌}
 use Rattle.std.specs.List.{All, AllByRecursion}
 use Rattle.std.proofs.lemmas.List.Elements.{All-weaker, recursion_from_All}
+use Rattle.script_reader.specs.Gathered.{caller_at, script_at}
 use Rattle.books_model.specs.Books.{ClearingBooks}
 use Rattle.books_model.specs.Laws.{BooksStayInRange, ScriptsKeepSizes, ScriptsGoByInstruments}
 use Rattle.books_model.specs.Ranges.{AreInRange, IsScriptFor}
-use Rattle.script_reader.specs.Input.{Caller, ClearingInput, AreCallersFor, IsInput, caller_at, callers_of, script_at}
-use Rattle.script_reader.specs.declared.version.Version.TheVariants.{Two}
+use Rattle.script_reader.specs.Input.{Caller, ClearingInput, AreCallersFor, IsInput, callers_of}
+use Rattle.script_reader.specs.declared.books.version.Version.TheVariants.{Two}
 use Rattle.script_reader.specs.Statements.{EachInputIsWithinTwo}
 use Rattle.script_reader.specs.Journal.{Place, IsPlace}
 use Rattle.books_report.specs.Output.{books_left, books_after}
@@ -14,7 +15,7 @@ use Rattle.books_report.specs.Statements.{ClosingBooksOpen}
 
 -- the script of a place can be given to the opening books
 pub script_of_place : (input : ClearingInput) (caller index : ℕ) → IsInput input → caller < length input.callers
-    → index < length (caller_at input caller).scripts → IsScriptFor input.books (script_at input caller index)
+    → index < length (caller_at input.callers caller).scripts → IsScriptFor input.books (script_at input.callers caller index)
 script_of_place input caller index valid within at = valid.callers.scripts caller (record { name = []; scripts = [] }) within index [] at
 
 module _ (in_range : BooksStayInRange) (keep_sizes : ScriptsKeepSizes) (by_instruments : ScriptsGoByInstruments)
@@ -25,7 +26,7 @@ module _ (in_range : BooksStayInRange) (keep_sizes : ScriptsKeepSizes) (by_instr
       → AreInRange (books_after input books order) × ((books_after input books order).instruments ≡ input.books.instruments)
   along input valid [] each books range same = (range, same)
   along input valid (p ∷ order) each books range same =
-      let script = script_at input p.caller p.index in
+      let script = script_at input.callers p.caller p.index in
       let fits : IsScriptFor books script = by_instruments script input.books books same (script_of_place input p.caller p.index valid each.0.0 each.0.1) in
       along input valid order each.1 (books_left input books p) (in_range script books range fits) ((keep_sizes script books).instruments ∙ same)
 

@@ -3,12 +3,14 @@ use Rattle.std.proofs.Common.{◌≡◌, ◌+◌, ◌++◌, [], ◌∷◌, ℕ, 
 use Rattle.std.specs.List.{flat_map, join_with_byte, slice_get}
 use Rattle.std.proofs.lemmas.List.{take_more}
 use Rattle.std.proofs.lemmas.Option.{get_or_from_slice_get, slice_get_within}
+use Rattle.script_reader.specs.Gathered.{caller_at}
 use Rattle.books_model.specs.declared.reply.Reply.{Reply}
-use Rattle.script_reader.specs.declared.words.TheConstants.{SPACE}
-use Rattle.script_reader.specs.Input.{ClearingInput, caller_at}
+use Rattle.script_reader.specs.declared.text.words.TheConstants.{SPACE}
+use Rattle.script_reader.specs.Input.{ClearingInput}
 use Rattle.books_report.specs.declared.line.Line.{Line}
-use Rattle.books_report.specs.Output.{journal_line, journal_lines}
+use Rattle.books_report.specs.Journals.{journal_line, journal_lines}
 use Rattle.books_report.specs.Lines.{ran_of_line, scripts_of}
+use Rattle.books_report.specs.Words.{reply_words}
 
 -- one more element, by its place
 pub take_next : {A : Type 0} (xs : List A) (i : ℕ) (x : A) → slice_get xs i ≡ Some x → take (i + 1) xs ≡ take i xs ++ x ∷ []
@@ -48,10 +50,10 @@ module _ {V : Type 0} (word : V → List ℕ) where
 -- one more line is written, and the others are left
 pub line_next : (input : ClearingInput) (whole before now name : List ℕ) (serial : ℕ) (lines left : List Line)
     (replies others : List Reply) (l : Line) (answer : Reply)
-    → before ++ journal_lines input serial (scripts_of lines replies) ≡ whole → lines ≡ l ∷ left → replies ≡ answer ∷ others
-    → name ≡ (caller_at input l.caller).name → now ≡ before ++ journal_line serial name (ran_of_line l answer)
-    → now ++ journal_lines input (serial + 1) (scripts_of left others) ≡ whole
+    → before ++ journal_lines reply_words input.callers serial (scripts_of lines replies) ≡ whole → lines ≡ l ∷ left → replies ≡ answer ∷ others
+    → name ≡ (caller_at input.callers l.caller).name → now ≡ before ++ journal_line reply_words serial name (ran_of_line l answer)
+    → now ++ journal_lines reply_words input.callers (serial + 1) (scripts_of left others) ≡ whole
 line_next input whole before now name serial lines left replies others l answer so_far next answered named written =
-    piece_written whole before now (journal_line serial (caller_at input l.caller).name (ran_of_line l answer)) _
-    (sym (λ i. before ++ journal_lines input serial (scripts_of (next i) (answered i))) ∙ so_far)
-    (written ∙ ap (λ n. before ++ journal_line serial n (ran_of_line l answer)) named)
+    piece_written whole before now (journal_line reply_words serial (caller_at input.callers l.caller).name (ran_of_line l answer)) _
+    (sym (λ i. before ++ journal_lines reply_words input.callers serial (scripts_of (next i) (answered i))) ∙ so_far)
+    (written ∙ ap (λ n. before ++ journal_line reply_words serial n (ran_of_line l answer)) named)

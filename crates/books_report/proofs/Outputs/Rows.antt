@@ -6,6 +6,7 @@ use Rattle.std.specs.Fmt.{digits, digits_onto, digit_glyph}
 use Rattle.std.specs.FinMap as finmap
 use Rattle.std.proofs.lemmas.Bool.{eq-eqb, ne_eqb}
 use Rattle.std.proofs.lemmas.Bool.Decides.{nat_tests}
+use Rattle.script_reader.specs.Gathered.{caller_at}
 use Rattle.books_model.specs.declared.reply.Decline.{Decline}
 use Rattle.books_model.specs.declared.reply.Decline.TheVariants as decline
 use Rattle.books_model.specs.declared.reply.Value.{Value}
@@ -13,18 +14,19 @@ use Rattle.books_model.specs.declared.reply.Value.TheVariants as value
 use Rattle.books_model.specs.declared.reply.Reply.{Reply}
 use Rattle.books_model.specs.declared.reply.Reply.TheVariants as reply
 use Rattle.books_model.specs.Books.{ClearingBooks}
-use Rattle.books_model.specs.Words.{value_word, decline_word}
-use Rattle.script_reader.specs.declared.words.TheConstants.{SPACE, LINE_FEED}
-use Rattle.script_reader.specs.declared.version.Version.TheVariants.{Two}
+use Rattle.books_model.specs.Words.{word_of_value, decline_word}
+use Rattle.script_reader.specs.declared.text.words.TheConstants.{SPACE, LINE_FEED}
+use Rattle.script_reader.specs.declared.books.version.Version.TheVariants.{Two}
 use Rattle.script_reader.specs.Lines.{IsFreeOf, IsWord, AreWords}
 use Rattle.script_reader.specs.Text.{line, number, header_words, header_line, account_line, account_words, price_line, price_words, position_line}
 use Rattle.script_reader.specs.Text.{position_words, call_line, call_words, finish_line, books_lines}
-use Rattle.script_reader.specs.Input.{ClearingInput, IsInput, IsName, caller_at, count_scripts}
-use Rattle.script_reader.proofs.Tokens.Cutting.{free-append, line_once, word_from_test}
-use Rattle.script_reader.proofs.Grouped.Submitting.{caller-AreWords}
+use Rattle.script_reader.specs.Input.{ClearingInput, IsInput, IsName, count_scripts}
+use Rattle.script_reader.proofs.text.Tokens.Cutting.{free-append, line_once, word_from_test}
+use Rattle.script_reader.proofs.language.Grouped.Submitting.{caller-AreWords}
 use Rattle.books_report.specs.Words.{reply_words}
-use Rattle.books_report.specs.Output.{Ran, places_run, journal_line, journal_lines, books_after, output_of}
-use Rattle.books_report.specs.Checking.{FollowInTurn, lines_of, closing_lines, lines_behind, output_lines}
+use Rattle.books_report.specs.Journals.{places_run, journal_line, journal_lines}
+use Rattle.books_report.specs.Output.{Ran, books_after, output_of}
+use Rattle.books_report.specs.Checking.{FollowInTurn, journal_as_lines, closing_lines, lines_behind, output_lines}
 
 -- bytes that are one line
 abbrev pub IsRow : List ℕ → Type 0
@@ -59,7 +61,7 @@ unfolding digits
 number-word n = (digits_free SPACE 64 n [] (lit< tt) tt, digits_free LINE_FEED 64 n [] (lit< tt) tt)
 
 -- so is what an operation tells
-value-IsWord : (v : Value) → IsWord (value_word v)
+value-IsWord : (v : Value) → IsWord (word_of_value v)
 value-IsWord value.Done = word_from_test (codes "ok") refl
 value-IsWord (value.Number n) = number-word n
 value-IsWord (value.Call a d) = (
@@ -82,7 +84,7 @@ decline-IsWord decline.Price = word_from_test (codes "price") refl
 decline-IsWord decline.Quantity = word_from_test (codes "quantity") refl
 decline-IsWord decline.Queue = word_from_test (codes "queue") refl
 
-values-are_words : (values : List Value) → AllByRecursion IsWord (map value_word values)
+values-are_words : (values : List Value) → AllByRecursion IsWord (map word_of_value values)
 values-are_words [] = tt
 values-are_words (v ∷ values) = (value-IsWord v, values-are_words values)
 
@@ -109,11 +111,11 @@ journal-AreWords serial name ran named = record {
 }
 
 -- it is one line
-journal_row : (serial : ℕ) (name : List ℕ) (ran : Ran) → IsName name → IsRow (journal_line serial name ran)
+journal_row : (serial : ℕ) (name : List ℕ) (ran : Ran) → IsName name → IsRow (journal_line reply_words serial name ran)
 journal_row serial name ran named = (journal_words serial name ran, journal-AreWords serial name ran named, refl)
 
 -- a caller of an input has a name
-pub caller_named : (input : ClearingInput) → IsInput input → (c : ℕ) → c < length input.callers → IsName (caller_at input c).name
+pub caller_named : (input : ClearingInput) → IsInput input → (c : ℕ) → c < length input.callers → IsName (caller_at input.callers c).name
 caller_named input valid c within = valid.callers.names c (record { name = []; scripts = [] }) within
 
 -- what holds of two lists holds of both together
@@ -195,10 +197,11 @@ closing_rows b = (
 
 module _ (input : ClearingInput) (limit : ℕ) (valid : IsInput input) where
   -- the lines of scripts in turn
-  pub journal_rows : (before scripts : List Ran) (serial : ℕ) → FollowInTurn input limit before scripts → AllByRecursion IsRow (lines_of input serial scripts)
+  pub journal_rows : (before scripts : List Ran) (serial : ℕ) → FollowInTurn input limit before scripts
+      → AllByRecursion IsRow (journal_as_lines input serial scripts)
   journal_rows before [] serial t = tt
   journal_rows before (ran ∷ scripts) serial t = (
-    journal_row serial (caller_at input ran.place.caller).name ran (caller_named input valid ran.place.caller t.0.next.left.0),
+    journal_row serial (caller_at input.callers ran.place.caller).name ran (caller_named input valid ran.place.caller t.0.next.left.0),
     journal_rows (before ++ ran ∷ []) scripts (serial + 1) t.1,
   )
 
@@ -214,7 +217,7 @@ module _ (input : ClearingInput) (limit : ℕ) (valid : IsInput input) where
   pub output_rows : (scripts : List Ran) → FollowInTurn input limit [] scripts → AllByRecursion IsRow (output_lines input scripts)
   output_rows scripts t = (
     title_row,
-    all_both IsRow (lines_of input 1 scripts) (lines_behind input scripts)
+    all_both IsRow (journal_as_lines input 1 scripts) (lines_behind input scripts)
         (journal_rows [] scripts 1 t) (behind_rows scripts),
   )
 
@@ -262,19 +265,20 @@ closing_text b =
         ∙ append_assoc (h ++ a) p (q ++ (c ++ f)) ∙ append_assoc h a (p ++ (q ++ (c ++ f)))
 
 -- the text of a journal's lines
-journal_text : (input : ClearingInput) (serial : ℕ) (scripts : List Ran) → concat (lines_of input serial scripts) ≡ journal_lines input serial scripts
+journal_text : (input : ClearingInput) (serial : ℕ) (scripts : List Ran)
+    → concat (journal_as_lines input serial scripts) ≡ journal_lines reply_words input.callers serial scripts
 journal_text input serial [] = refl
 journal_text input serial (ran ∷ scripts) =
-    ap (λ l. journal_line serial (caller_at input ran.place.caller).name ran ++ l) (journal_text input (serial + 1) scripts)
+    ap (λ l. journal_line reply_words serial (caller_at input.callers ran.place.caller).name ran ++ l) (journal_text input (serial + 1) scripts)
 
 -- all lines of an output are its text
 pub output_text : (input : ClearingInput) (scripts : List Ran) → length scripts ≡ count_scripts input.callers
     → concat (output_lines input scripts) ≡ output_of input scripts
 output_text input scripts all =
     let title = line (codes "journal" ∷ []) in
-    let journal = journal_lines input 1 scripts in
+    let journal = journal_lines reply_words input.callers 1 scripts in
     let books = books_lines Two (books_after input input.books (places_run scripts)) in
     ap (λ l. title ++ l) (
-    concat-both (lines_of input 1 scripts) (lines_behind input scripts)
+    concat-both (journal_as_lines input 1 scripts) (lines_behind input scripts)
     ∙ (λ i. journal_text input 1 scripts i ++ (ap concat (behind_all input scripts all) ∙ closing_text (books_after input input.books (places_run scripts))) i))
     ∙ sym (append_assoc (title ++ journal) books finish_line ∙ append_assoc title journal (books ++ finish_line))

@@ -83,7 +83,7 @@ module _ {K X : Type 0} {R : K → K → Ordering} (o : IsTotalOrder R) (later :
             ∙ ap (λ xs. xs ++ e ∷ []) (sym (kept (later last x.0) x (up_to later last es) at))
       ] refl found
 
-  -- where no entry is above, all are put in
+  -- if no entry is above, all are put in
   pub up_to_all : (last : K) (es : List (K × X)) → find (λ x. later last x.0) es ≡ None → up_to later last es ≡ es
   up_to_all last [] none = refl
   up_to_all last (x ∷ es) none =

@@ -1,14 +1,17 @@
 -- What the check of a text knows on its way.
 use Rattle.std.specs.Prelude.{◌≡◌, ◌≢◌, ℕ, ◌+◌, ◌<◌, ◌==◌, if◌then◌else◌, List, [], ◌∷◌, ◌++◌, length, count_by, slice_index}
 use Rattle.std.specs.List.{concat}
+use Rattle.script_reader.specs.Gathered.{caller_at}
 use Rattle.books_model.specs.Books.{ClearingBooks}
-use Rattle.script_reader.specs.declared.words.TheConstants.{SPACE}
-use Rattle.script_reader.specs.Input.{ClearingInput, caller_at}
+use Rattle.script_reader.specs.declared.text.words.TheConstants.{SPACE}
+use Rattle.script_reader.specs.Input.{ClearingInput}
 use Rattle.books_report.specs.declared.limits.TheConstants.{RESTARTS_BELOW}
 use Rattle.books_report.specs.declared.check.Checked.{Checked}
 use Rattle.books_report.specs.declared.check.Checked.TheVariants.{Agrees, Differs}
-use Rattle.books_report.specs.Output.{Ran, places_run, books_after, journal_line, IsOutput}
+use Rattle.books_report.specs.Journals.{places_run, journal_line}
+use Rattle.books_report.specs.Output.{Ran, books_after, IsOutput}
 use Rattle.books_report.specs.Checking.{MayFollow, FollowInTurn, IsFirstWrongLine}
+use Rattle.books_report.specs.Words.{reply_words}
 
 -- the books and numbers of scripts are for the callers of the input
 pub record IsFor (input : ClearingInput) (books : ClearingBooks) (done : List ℕ) : Type 0 where
@@ -27,13 +30,13 @@ pub record BeginsWithLine (input : ClearingInput) (scripts : List Ran) (text lef
     (books : ClearingBooks) (done : List ℕ) : Type 0 where
   pub ran : Ran
   pub may_follow : MayFollow input RESTARTS_BELOW scripts ran
-  pub text_is : text ≡ journal_line (length scripts + 1) (caller_at input ran.place.caller).name ran ++ left
+  pub text_is : text ≡ journal_line reply_words (length scripts + 1) (caller_at input.callers ran.place.caller).name ran ++ left
   pub has_run : HasRun input (scripts ++ ran ∷ []) books done
 
 -- the text begins with no such line
 abbrev pub BeginsWithNone : ClearingInput → List Ran → List ℕ → Type 0
 BeginsWithNone input scripts text = (ran : Ran) (left : List ℕ) → MayFollow input RESTARTS_BELOW scripts ran
-    → text ≢ journal_line (length scripts + 1) (caller_at input ran.place.caller).name ran ++ left
+    → text ≢ journal_line reply_words (length scripts + 1) (caller_at input.callers ran.place.caller).name ran ++ left
 
 -- the first four words of a text, with a space behind each
 abbrev pub four_words : List ℕ → List ℕ → List ℕ → List ℕ → List ℕ → List ℕ

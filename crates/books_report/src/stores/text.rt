@@ -3,17 +3,18 @@
 ghost use Rattle.std.specs.Prelude.{◌≡◌, ◌∷◌, ◌++◌, length, All, OnOk};
 ghost use Rattle.std.specs.String.{string_bytes};
 ghost use Rattle.std.specs.List.{flat_map, join_with_byte};
-ghost use Rattle.script_reader.specs.declared.words.TheConstants.{SPACE};
-ghost use Rattle.books_report.specs.Lines.{place_of_line};
-ghost use Rattle.books_report.specs.Stores.Lines.{lent, ran_of_line, scripts_of};
-ghost use Rattle.books_report.specs.Stores.Output.{journal_line, journal_lines, reply_words, IsPlaceOf};
+ghost use Rattle.script_reader.specs.declared.text.words.TheConstants.{SPACE};
+ghost use Rattle.books_report.specs.Lines.{place_of_line, lent, ran_of_line, scripts_of};
+ghost use Rattle.script_reader.specs.Journal.{IsPlaceOf};
+ghost use Rattle.books_report.specs.Journals.{journal_line, journal_lines};
+ghost use Rattle.books_report.specs.Stores.Output.{store_reply_words};
 
 use crate::journal::write_place;
 use crate::line::Line;
 use crate::stores::reply::{StoreReply, StoreValues};
 use crate::stores::script::OperationList;
 use script_reader::Gathered;
-use script_reader::decimal::push_next;
+use script_reader::text::decimal::push_next;
 use std::alloc::AllocError;
 
 /// A value that a reply tells in one word.
@@ -50,7 +51,7 @@ fn write_values<V: ToldValue>(text: &mut String, values: &StoreValues<V>) -> Res
 /// Appends the words of a reply, separated by spaces. If memory runs out, a part of them may stand there.
 pub fn write_reply<V: ToldValue>(text: &mut String, reply: &StoreReply<V>) -> Result<(), AllocError>
     ensures { OnOk result (string_bytes text.new
-        ≡ string_bytes text.old ++ join_with_byte SPACE (reply_words V.word reply.now)) }
+        ≡ string_bytes text.old ++ join_with_byte SPACE (store_reply_words V.word reply.now)) }
 {
     match reply {
         StoreReply::Done(values) => {
@@ -79,7 +80,7 @@ fn write_line<V: ToldValue>(
     ensures { OnOk result
         (string_bytes text.new
         ≡ string_bytes text.old
-        ++ journal_line V.word serial name.now (ran_of_line line reply.now)) }
+        ++ journal_line (store_reply_words V.word) serial name.now (ran_of_line line reply.now)) }
 {
     write_place(text, serial, name, line)?;
     write_reply(text, reply)?;
@@ -96,7 +97,7 @@ pub fn write_journal<O: Drop, V: ToldValue>(
     requires beside { length lines.now ≡ length replies.now }
     requires places { All (λ l. IsPlaceOf callers.now (place_of_line l)) lines.now }
     ensures { OnOk result (string_bytes text.new ≡ string_bytes text.old
-        ++ journal_lines V.word callers.now 1 (scripts_of lines.now (lent replies.now))) }
+        ++ journal_lines (store_reply_words V.word) callers.now 1 (scripts_of lines.now (lent replies.now))) }
 {
     let mut serial = 1;
     for (line, reply) in lines.iter().zip(replies) {

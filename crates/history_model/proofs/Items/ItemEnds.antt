@@ -22,7 +22,7 @@ arranged items order h = record {
   in_order = λ i j x y e f l u. h.in_order i j x y e f l (inl u);
 }
 
--- values are equal where the writers below are
+-- values are equal if the writers below are
 pub values_agree : (base : List ℕ) (one two : List Item) (a n : ℕ)
     → ((w : ℕ) → w < n → writer_at (lock_of_word a) w one ≡ writer_at (lock_of_word a) w two) → value_at base one a n ≡ value_at base two a n
 unfolding value_at

@@ -9,9 +9,9 @@ use Rattle.script_reader.specs.declared.fault.Fault.{Fault}
 use Rattle.script_reader.specs.Number.{is_number}
 use Rattle.script_reader.specs.Text.{number}
 use Rattle.script_reader.specs.Forms.{Words, Form, form, InScript, books_forms, turning_forms, begins, is_only, has_form, form_of, value_of}
-use Rattle.script_reader.proofs.Tokens.Numerals.{text_of_number}
+use Rattle.script_reader.proofs.text.Tokens.Numerals.{text_of_number}
 use Rattle.script_reader.proofs.Conditions.{both}
-use Rattle.script_reader.specs.declared.version.Version.{Version}
+use Rattle.script_reader.specs.declared.books.version.Version.{Version}
 
 -- a reason that does not apply, and what follows it
 pub none_applies : (c : Bool) (why : Fault) (rest : Option Fault) → (if c then Some why else rest) ≡ None → (c ≡ false) × (rest ≡ None)

@@ -10,21 +10,21 @@ use Rattle.books_model.specs.Ranges.{AreInRange}
 use Rattle.script_reader.specs.declared.fault.Fault.{Fault}
 use Rattle.script_reader.specs.declared.fault.Fault.TheVariants as fault
 use Rattle.script_reader.specs.Inner.LinesAsWords.{books_words}
-use Rattle.script_reader.specs.Forms.{Words, Form, form, books_forms, begins, form_of, ranges_of, value_at, are_numbers, are_in_range}
-use Rattle.script_reader.specs.Faults.{first_reason, kind_of, key_of, takes_block, fault_of}
+use Rattle.script_reader.specs.Forms.{Words, Form, form, books_forms, begins, form_of, ranges_of, word_value, are_numbers, are_in_range}
+use Rattle.script_reader.specs.Faults.{first_reason, kind_of, line_key, takes_block, fault_of}
 use Rattle.script_reader.specs.declared.books.Row.TheVariants as row
 use Rattle.script_reader.specs.Inner.BooksRows.{IsRow}
 use Rattle.script_reader.specs.Rows.{HasNumbers, numbers_fault}
-use Rattle.script_reader.specs.Inner.Rows.{account_ranges, price_ranges, position_ranges, call_ranges}
+use Rattle.script_reader.proofs.books.RowRanges.{account_ranges, price_ranges, position_ranges, call_ranges}
 use Rattle.script_reader.proofs.Conditions.{any_fixed, is_some_list}
-use Rattle.script_reader.proofs.Printing.Printed.{reasons, books_fault_is, fault_at, is_late_in, is_low_in}
-use Rattle.script_reader.proofs.Printing.Scripted.{in_books}
+use Rattle.script_reader.proofs.books.Printing.Printed.{reasons, books_fault_is, fault_at, is_late_in, is_low_in}
+use Rattle.script_reader.proofs.books.Printing.Scripted.{in_books}
 use Rattle.script_reader.proofs.LineFaults.LineKinds.{two_behind, three_behind}
-use Rattle.script_reader.proofs.WithoutFault.BooksFaultless.{printed, printed_small}
-use Rattle.script_reader.proofs.Printing.Extending.{adds_account, adds_price, adds_position, adds_call}
-use Rattle.script_reader.specs.declared.version.Version.{Version}
+use Rattle.script_reader.proofs.books.WithoutFault.BooksFaultless.{printed, printed_small}
+use Rattle.script_reader.proofs.books.Printing.Extending.{adds_account, adds_price, adds_position, adds_call}
+use Rattle.script_reader.specs.declared.books.version.Version.{Version}
 
--- what is wrong with numbers comes first where the line has its form and its place
+-- what is wrong with numbers comes first if the line has its form and its place
 pub numbers_first : (number limit more low account price full : Bool) (why : Fault)
     → first_reason ((number, fault.Number) ∷ (limit, fault.Limit) ∷ []) ≡ Some why
     → reasons false false number (limit || more) low account price full ≡ Some why
@@ -32,7 +32,7 @@ numbers_first true limit more low account price full why h = h
 numbers_first false true more low account price full why h = h
 numbers_first false false more low account price full why h = absurd (none-some _ h)
 
--- what is wrong with a row is wrong with it where there may be too many
+-- what is wrong with a row is wrong with it if there may be too many
 pub row_first : (word number limit more : Bool) (why : Fault)
     → first_reason ((word, fault.Word) ∷ (number, fault.Number) ∷ (limit, fault.Limit) ∷ []) ≡ Some why
     → first_reason ((word, fault.Word) ∷ (number, fault.Number) ∷ (limit || more, fault.Limit) ∷ []) ≡ Some why
@@ -77,55 +77,56 @@ module _ {version : Version} {b : ClearingBooks} {words : Words} {ranges : List 
 module _ (version : Version) (b : ClearingBooks) (range : AreInRange b) (words : Words) where
   -- what is wrong with a line of a kind
   by_kind : (these : Words) (f : Form) (kind : ℕ) (key : Words → ℕ × ℕ) (call position block : Bool) → words ≡ these
-      → form_of (books_forms version b.instruments) these ≡ Some f → kind_of these ≡ kind → key_of these ≡ key these
+      → form_of (books_forms version b.instruments) these ≡ Some f → kind_of these ≡ kind → line_key these ≡ key these
       → begins (codes "call") these ≡ call → begins (codes "position") these ≡ position → takes_block these ≡ block
       → fault_of (books_words version b) words ≡ reasons false (is_late_in kind (printed version b)) (not (are_numbers (drop 1 words)))
       (not (are_in_range (drop 1 words) f.ranges) || (call && nat_le b.ring (length b.calls))) (is_low_in kind (key words) (printed version b))
-      (position && not (list_any (λ e. e.0 == value_at words 1) (finmap.entries b.accounts)))
-      (position && not (list_any (λ e. e.0 == value_at words 2) (finmap.entries b.prices))) (block && has_no_block b)
+      (position && not (list_any (λ e. e.0 == word_value words 1) (finmap.entries b.accounts)))
+      (position && not (list_any (λ e. e.0 == word_value words 2) (finmap.entries b.prices))) (block && has_no_block b)
   by_kind these f kind key call position block is form_at kind_at key_at call_at position_at block_at =
       let form_is = ap (form_of (books_forms version b.instruments)) is ∙ form_at in
       let kind_is = ap kind_of is ∙ kind_at in
-      let key_is = ap key_of is ∙ key_at ∙ sym (ap key is) in
+      let key_is = ap line_key is ∙ key_at ∙ sym (ap key is) in
       let position_is = ap (begins (codes "position")) is ∙ position_at in
       in_books (printed version b) words ∙ books_fault_is (printed version b) words (printed_small b range version)
       ∙ (λ i. reasons (is_none (form_is i)) (is_late_in (kind_is i) (printed version b)) (not (are_numbers (drop 1 words)))
       (not (are_in_range (drop 1 words) (ranges_of (form_is i))) || ((ap (begins (codes "call")) is ∙ call_at) i && nat_le b.ring (length b.calls)))
       (is_low_in (kind_is i) (key_is i) (printed version b))
-      (position_is i && not (list_any (λ e. e.0 == value_at words 1) (finmap.entries b.accounts)))
-      (position_is i && not (list_any (λ e. e.0 == value_at words 2) (finmap.entries b.prices))) ((ap takes_block is ∙ block_at) i && has_no_block b))
+      (position_is i && not (list_any (λ e. e.0 == word_value words 1) (finmap.entries b.accounts)))
+      (position_is i && not (list_any (λ e. e.0 == word_value words 2) (finmap.entries b.prices))) ((ap takes_block is ∙ block_at) i && has_no_block b))
 
   pub account_fault : (begins (codes "account") words && length words == 3) ≡ true
-      → IsRefused version b words (account_ranges version) (is_late_in 0 (printed version b)) false (is_low_in 0 (value_at words 1, 0) (printed version b))
+      → IsRefused version b words (account_ranges version) (is_late_in 0 (printed version b)) false (is_low_in 0 (word_value words 1, 0) (printed version b))
       false false (has_no_block b)
   account_fault row =
       let e = two_behind (codes "account") words row in
       record {
         fault = by_kind (codes "account" ∷ e.0 ∷ e.1 ∷ []) (form (codes "account") (account_ranges version)) 0
-            (λ w. (value_at w 1, 0)) false false true e.2 refl refl refl refl refl refl;
+            (λ w. (word_value w 1, 0)) false false true e.2 refl refl refl refl refl refl;
       }
 
   pub price_fault : (begins (codes "price") words && length words == 3) ≡ true
-      → IsRefused version b words (price_ranges b.instruments) (is_late_in 1 (printed version b)) false (is_low_in 1 (value_at words 1, 0) (printed version b))
+      → IsRefused version b words (price_ranges b.instruments) (is_late_in 1 (printed version b)) false
+      (is_low_in 1 (word_value words 1, 0) (printed version b))
       false false
       (has_no_block b)
   price_fault row =
       let e = two_behind (codes "price") words row in
       record {
         fault = by_kind (codes "price" ∷ e.0 ∷ e.1 ∷ []) (form (codes "price") (price_ranges b.instruments)) 1
-            (λ w. (value_at w 1, 0)) false false true e.2 refl refl refl refl refl refl;
+            (λ w. (word_value w 1, 0)) false false true e.2 refl refl refl refl refl refl;
       }
 
   pub position_fault : (begins (codes "position") words && length words == 4) ≡ true
       → IsRefused version b words (position_ranges b.instruments) (is_late_in 2 (printed version b)) false
-      (is_low_in 2 (value_at words 1, value_at words 2) (printed version b))
-      (not (list_any (λ e. e.0 == value_at words 1) (finmap.entries b.accounts))) (not (list_any (λ e. e.0 == value_at words 2) (finmap.entries b.prices)))
+      (is_low_in 2 (word_value words 1, word_value words 2) (printed version b))
+      (not (list_any (λ e. e.0 == word_value words 1) (finmap.entries b.accounts))) (not (list_any (λ e. e.0 == word_value words 2) (finmap.entries b.prices)))
       (has_no_block b)
   position_fault row =
       let e = three_behind (codes "position") words row in
       record {
         fault = by_kind (codes "position" ∷ e.0 ∷ e.1 ∷ e.2 ∷ []) (form (codes "position") (position_ranges b.instruments)) 2
-            (λ w. (value_at w 1, value_at w 2)) false true true e.3 refl refl refl refl refl refl;
+            (λ w. (word_value w 1, word_value w 2)) false true true e.3 refl refl refl refl refl refl;
       }
 
   pub call_fault : (begins (codes "call") words && length words == 3) ≡ true
@@ -134,7 +135,7 @@ module _ (version : Version) (b : ClearingBooks) (range : AreInRange b) (words :
       let e = two_behind (codes "call") words row in
       record {
         fault = by_kind (codes "call" ∷ e.0 ∷ e.1 ∷ []) (form (codes "call") call_ranges) 3
-            (λ w. (value_at w 1, 0)) true false false e.2 refl refl refl refl refl refl;
+            (λ w. (word_value w 1, 0)) true false false e.2 refl refl refl refl refl refl;
       }
 
   -- no kind is that of the line
@@ -155,9 +156,9 @@ module _ (version : Version) (b : ClearingBooks) (range : AreInRange b) (words :
       by : (o : Option Form) → o ≡ None
           → reasons (is_none o) (is_late_in (kind_of words) (printed version b)) (not (are_numbers (drop 1 words)))
           (not (are_in_range (drop 1 words) (ranges_of o)) ||
-          (begins (codes "call") words && nat_le b.ring (length b.calls))) (is_low_in (kind_of words) (key_of words) (printed version b))
-          (begins (codes "position") words && not (list_any (λ e. e.0 == value_at words 1) (finmap.entries b.accounts)))
-          (begins (codes "position") words && not (list_any (λ e. e.0 == value_at words 2) (finmap.entries b.prices)))
+          (begins (codes "call") words && nat_le b.ring (length b.calls))) (is_low_in (kind_of words) (line_key words) (printed version b))
+          (begins (codes "position") words && not (list_any (λ e. e.0 == word_value words 1) (finmap.entries b.accounts)))
+          (begins (codes "position") words && not (list_any (λ e. e.0 == word_value words 2) (finmap.entries b.prices)))
           (takes_block words && has_no_block b) ≡ Some fault.Word
       by None e = refl
       by (Some f) e = absurd (none-some _ (sym e))
@@ -178,33 +179,33 @@ module _ (version : Version) (b : ClearingBooks) (range : AreInRange b) where
 
   -- the rows that lines without fault give
   pub gives_account : (words : Words) → (begins (codes "account") words && length words == 3) ≡ true
-      → fault_of (books_words version b) words ≡ None → IsRow version b words (row.Account (value_at words 1) (value_at words 2))
+      → fault_of (books_words version b) words ≡ None → IsRow version b words (row.Account (word_value words 1) (word_value words 2))
   gives_account words is none =
       let e = two_behind (codes "account") words is in
       let h = adds_account version b range e.0 e.1 (subst (λ w. fault_at (printed version b) w ≡ None) e.2 (at_books words none)) in
-      subst (λ w. IsRow version b w (row.Account (value_at w 1) (value_at w 2))) (sym e.2)
+      subst (λ w. IsRow version b w (row.Account (word_value w 1) (word_value w 2))) (sym e.2)
       (record { fits = (h.number_is, h.fits, h.absent, h.room); within = h.within; lines = h.lines })
 
   pub gives_price : (words : Words) → (begins (codes "price") words && length words == 3) ≡ true → fault_of (books_words version b) words ≡ None
-      → IsRow version b words (row.Price (value_at words 1) (value_at words 2))
+      → IsRow version b words (row.Price (word_value words 1) (word_value words 2))
   gives_price words is none =
       let e = two_behind (codes "price") words is in
       let h = adds_price version b range e.0 e.1 (subst (λ w. fault_at (printed version b) w ≡ None) e.2 (at_books words none)) in
-      subst (λ w. IsRow version b w (row.Price (value_at w 1) (value_at w 2))) (sym e.2)
+      subst (λ w. IsRow version b w (row.Price (word_value w 1) (word_value w 2))) (sym e.2)
       (record { fits = (h.number_is, h.fits, h.absent, h.room); within = tt; lines = h.lines })
 
   pub gives_position : (words : Words) → (begins (codes "position") words && length words == 4) ≡ true
-      → fault_of (books_words version b) words ≡ None → IsRow version b words (row.Position (value_at words 1) (value_at words 2) (value_at words 3))
+      → fault_of (books_words version b) words ≡ None → IsRow version b words (row.Position (word_value words 1) (word_value words 2) (word_value words 3))
   gives_position words is none =
       let e = three_behind (codes "position") words is in
       let h = adds_position version b range e.0 e.1 e.2 (subst (λ w. fault_at (printed version b) w ≡ None) e.3 (at_books words none)) in
-      subst (λ w. IsRow version b w (row.Position (value_at w 1) (value_at w 2) (value_at w 3))) (sym e.3)
+      subst (λ w. IsRow version b w (row.Position (word_value w 1) (word_value w 2) (word_value w 3))) (sym e.3)
       (record { fits = (h.given, h.priced, h.fits, h.absent, h.room); within = tt; lines = h.lines })
 
   pub gives_call : (words : Words) → (begins (codes "call") words && length words == 3) ≡ true → fault_of (books_words version b) words ≡ None
-      → IsRow version b words (row.Call (value_at words 1) (value_at words 2))
+      → IsRow version b words (row.Call (word_value words 1) (word_value words 2))
   gives_call words is none =
       let e = two_behind (codes "call") words is in
       let h = adds_call version b range e.0 e.1 (subst (λ w. fault_at (printed version b) w ≡ None) e.2 (at_books words none)) in
-      subst (λ w. IsRow version b w (row.Call (value_at w 1) (value_at w 2))) (sym e.2)
+      subst (λ w. IsRow version b w (row.Call (word_value w 1) (word_value w 2))) (sym e.2)
       (record { fits = (h.call, h.room); within = tt; lines = h.lines })

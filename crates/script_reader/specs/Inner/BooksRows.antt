@@ -4,7 +4,7 @@ use Rattle.std.specs.FinMap as map
 use Rattle.books_model.specs.declared.limits.TheConstants.{GREATEST_CASH, GREATEST_PRICE, GREATEST_QUANTITY}
 use Rattle.books_model.specs.Books.{ClearingBooks, put_cash, put_price, put_quantity, put_call, used}
 use Rattle.books_model.specs.Ranges.{IsWithin, IsAccountNumber, IsInstrumentOf, IsCall}
-use Rattle.script_reader.specs.declared.version.Version.{Version}
+use Rattle.script_reader.specs.declared.books.version.Version.{Version}
 use Rattle.script_reader.specs.declared.books.Row.{Row}
 use Rattle.script_reader.specs.declared.books.Row.TheVariants as row
 use Rattle.script_reader.specs.Versions.{greatest_cash}

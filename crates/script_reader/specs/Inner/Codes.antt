@@ -6,15 +6,11 @@ use Rattle.books_model.specs.contracts.script.Part as part
 use Rattle.books_model.specs.Books.{ClearingBooks}
 use Rattle.books_model.specs.Inner.Codes.{books_code}
 use Rattle.script_reader.specs.Input.{Caller, ClearingInput, Submission}
+use Rattle.script_reader.specs.Codes.{callers_code}
 
--- an input is stored as its books and, for each caller, the pair of its parts
-abbrev pub caller_code : Coded Caller
-caller_code = code_by (List ℕ × List (List Part))
-    (coded× (coded_list coded_ℕ) (coded_list (coded_list part.the_row.coded))) (λ c. (c.name, c.scripts))
-    (λ p. record { name = p.0; scripts = p.1 }) (λ _. refl)
-
+-- an input is stored as its books and its callers
 abbrev pub input_code : Coded ClearingInput
-input_code = code_by (ClearingBooks × List Caller) (coded× books_code (coded_list caller_code))
+input_code = code_by (ClearingBooks × List Caller) (coded× books_code (callers_code part.the_row.coded))
     (λ i. (i.books, i.callers)) (λ p. record { books = p.0; callers = p.1 }) (λ _. refl)
 
 -- a script as it stands in a text is stored as the pair of its caller's name and its parts

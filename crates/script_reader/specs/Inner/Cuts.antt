@@ -1,6 +1,6 @@
 -- Where the words of a line end.
 use Rattle.std.specs.Prelude.{◌≡◌, ℕ, suc, zero, ◌<◌, ◌≤◌, ◌==◌, cond, List, [], ◌∷◌, count_by, slice_index}
-use Rattle.script_reader.specs.declared.words.TheConstants.{SPACE, MOST_WORDS}
+use Rattle.script_reader.specs.declared.text.words.TheConstants.{SPACE, MOST_WORDS}
 
 -- where the word at a place ends: at the space behind it, or with the line
 abbrev pub word_end : List ℕ → ℕ → ℕ

@@ -4,7 +4,7 @@ use Rattle.std.specs.List.{list_any}
 use Rattle.std.specs.Str.{bytes_eq}
 use Rattle.std.specs.String.{string_bytes}
 use Rattle.script_reader.specs.declared.limits.TheConstants.{MOST_CALLERS, MOST_SCRIPTS}
-use Rattle.script_reader.specs.declared.gathering.Gathering.{Gathering}
+use Rattle.script_reader.specs.declared.language.gathering.Gathering.{Gathering}
 use Rattle.script_reader.specs.Gathered.{CallerOf, SubmissionOf, count_scripts}
 
 module _ {S : Type 0} where

@@ -6,7 +6,7 @@ use Rattle.books_model.specs.declared.script.Part.{Part}
 use Rattle.books_model.specs.Books.{ClearingBooks}
 use Rattle.books_model.specs.Ranges.{IsOperationFor}
 use Rattle.books_model.specs.Scripts.{operations_of, alternatives_in}
-use Rattle.script_reader.specs.declared.version.Version.{Version}
+use Rattle.script_reader.specs.declared.books.version.Version.{Version}
 use Rattle.script_reader.specs.Gathered.{AreCallers}
 use Rattle.script_reader.specs.Input.{Caller}
 use Rattle.script_reader.specs.Versions.{greatest_amount, amount_of}

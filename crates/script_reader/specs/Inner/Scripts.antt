@@ -2,7 +2,7 @@
 use Rattle.std.specs.Prelude.{◌≡◌, ℕ, false, List, [], ◌∷◌, ◌++◌, codes}
 use Rattle.std.specs.List.{flat_map}
 use Rattle.books_model.specs.Books.{ClearingBooks}
-use Rattle.script_reader.specs.declared.version.Version.{Version}
+use Rattle.script_reader.specs.declared.books.version.Version.{Version}
 use Rattle.script_reader.specs.Text.{script_lines, end_line, finish_line}
 use Rattle.script_reader.specs.Input.{Caller, ClearingInput, Submission, IsName, callers_of}
 use Rattle.script_reader.specs.Inner.Gatherings.{add_submission, is_beyond_in}

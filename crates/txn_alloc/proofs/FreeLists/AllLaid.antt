@@ -1,5 +1,6 @@
 -- All blocks of an arena, laid by rising number.
-use Rattle.std.proofs.Common.{◌≡◌, ◌≢◌, ℕ, zero, suc, ◌+◌, ◌<◌, ◌⊎◌, inl, inr, false, List, ◌++◌, drop, take, get_or, length, slice_get, slice_set, Some, nat_eq, sym, ap, subst, ◌∙◌}
+use Rattle.std.proofs.Common.{◌≡◌, ◌≢◌, ℕ, zero, suc, ◌+◌, ◌<◌, ◌⊎◌, inl, inr, false, List, ◌++◌, drop, take, get_or, length, slice_get, slice_set}
+use Rattle.std.proofs.Common.{Some, nat_eq, sym, ap, subst, ◌∙◌}
 use Rattle.std.proofs.Common.{zero-add, arith, rules}
 use Rattle.std.specs.List.{All, AllByRecursion, IsDistinct, range_with_len}
 use Rattle.std.proofs.Math.Seq.{take-append_seam}
@@ -37,7 +38,7 @@ all_laid_none arena first laid words kept none =
     (sym (drop_all arena.blocks (all_blocks arena) (omega (arith, length-range_with_len 0 arena.blocks))))
     (laid_none arena (all_blocks arena) first laid words kept none)
 
--- a block is put in front, where those above it are laid
+-- a block is put in front, if those above it are laid
 pub all_laid_back : (arena : Arena) (first : List ℕ) → IsLaidOut arena first → (words : List ℕ) (b : ℕ) → b < arena.blocks
     → IsLaidFrom arena (all_blocks arena) first (drop (suc b) (all_blocks arena)) words
     → IsLaidFrom arena (all_blocks arena) first (drop b (all_blocks arena))
@@ -59,7 +60,8 @@ beside arena s t laid a head block = laid.same a (λ k. elim k [
 ])
 
 -- what two calls write one after the other
-pub both_written : (IsFirst IsNext : ℕ → Type 0) (s t u : List ℕ) → KeepsOthers IsFirst s t → KeepsOthers IsNext t u → KeepsOthers (λ a. IsFirst a ⊎ IsNext a) s u
+pub both_written : (IsFirst IsNext : ℕ → Type 0) (s t u : List ℕ) → KeepsOthers IsFirst s t → KeepsOthers IsNext t u
+    → KeepsOthers (λ a. IsFirst a ⊎ IsNext a) s u
 both_written IsFirst IsNext s t u first next = record {
   count = next.count ∙ first.count;
   same = λ a other. next.same a (λ k. other (inr k)) ∙ first.same a (λ k. other (inl k));

@@ -138,7 +138,7 @@ module _ (arena : Arena) (order first : List ℕ) (laid : IsLaidOut arena first)
       lists = lists_more;
     }
 
-  -- where all are laid, they are the free blocks
+  -- if all are laid, they are the free blocks
   module _ (words : List ℕ) (h : IsLaidFrom arena order first order words) where
     pub laid_others : KeepsOthers (IsWrittenByLaying arena order) first words
     laid_others = record { count = h.count; same = h.same }
@@ -194,7 +194,7 @@ cleared_more first count n start words within lt h =
           (λ ne. get_set_other words place a 0 ne ∙ h.none a (record { low = mine.low; high = omega (arith, mine.high, ne) }));
     }
 
--- a block of the order is put in front, where those behind it are laid
+-- a block of the order is put in front, if those behind it are laid
 pub laid_back : (arena : Arena) (order first : List ℕ) → IsLaidOut arena first → IsDistinct nat_eq order
     → All (λ b. b < arena.blocks) order → (words : List ℕ) (n : ℕ) → n < length order
     → IsLaidFrom arena order first (drop (suc n) order) words

@@ -98,7 +98,7 @@ pub listed_free : (arena : Arena) (s : List ℕ) (f : Blocks) (h b : ℕ) (l : F
     → set.contains (blocks_of l.order) b ≡ true → set.contains f b ≡ true
 listed_free arena s f h b l m = l.all b (l.own b m) ∙ m
 
--- the same blocks are free where heads and free blocks keep their words
+-- the same blocks are free if heads and free blocks keep their words
 pub free_kept : (arena : Arena) (s t : List ℕ) (f : Blocks) → FreeListsHold arena s f → length t ≡ length s
     → ((a : ℕ) → IsHead arena a → slice_get t a ≡ slice_get s a)
     → ((b a : ℕ) → set.contains f b ≡ true → IsInBlock arena b a → slice_get t a ≡ slice_get s a) → FreeListsHold arena t f
@@ -122,7 +122,7 @@ pub none_listed : (arena : Arena) (s : List ℕ) (p : ℕ) (bs : List ℕ) → s
 none_listed arena s p [] e h = refl
 none_listed arena s p (b ∷ bs) e h = let z : 0 ≡ b + 1 = same_Some 0 (b + 1) (sym e ∙ h.0) in absurd (omega arith)
 
--- no block is free where no head names one
+-- no block is free if no head names one
 pub none_free : (arena : Arena) (s : List ℕ) (f : Blocks)
     → ((h : ℕ) → h < HEADS → slice_get s (arena.heads + h) ≡ Some 0) → FreeListsHold arena s f → f ≡ set.empty
 none_free arena s f e hold = set.same_set nat_cmp_total nat_cmp-IsAntisymmetric f set.empty (λ q.

@@ -63,7 +63,7 @@ module _ (arena : Arena) (n : ℕ) (G : List ℕ → Type 0) (t : Trace) where
         subst (λ z. FreeListsHold arena z (set.insert f b)) (sym last) (gave arena (after t s) f b h there lt (lacks.at s fit_t f hold) hold);
   }
 
-  -- where a block was taken, not every state had none
+  -- if a block was taken, not every state had none
   pub taken_from_some : {A : Type 0} (w : Trace) (b : ℕ) → SomeFits n G w → Leads n G t w (Takes arena (Some b))
       → Leads n G t w (λ before after. HasNone arena before) → A
   taken_from_some w b some takes none =

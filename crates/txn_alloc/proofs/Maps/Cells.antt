@@ -71,7 +71,7 @@ less_block d (e ∷ front) rest c ne = dite (ℕ_discrete e.block d)
     (λ k. first_block d e (front ++ rest) k ∙ sym (first_block d e (front ++ c ∷ rest) k))
     (λ k. later_block d e (front ++ rest) k ∙ less_block d front rest c ne ∙ sym (later_block d e (front ++ c ∷ rest) k))
 
--- 1 where the cell is in block b
+-- 1 if the cell is in block b
 abbrev pub one_in : ℕ → Cell → ℕ
 one_in b c = if c.block == b then 1 else 0
 

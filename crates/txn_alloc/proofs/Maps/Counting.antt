@@ -22,7 +22,7 @@ use Rattle.txn_alloc.proofs.Maps.Cells.{value_first, value_later, has_first, lat
 use Rattle.txn_alloc.proofs.Maps.Cells.{remove_other}
 use Rattle.txn_alloc.proofs.Sets.{Blocks, out_empty, out_itself, contains-remove_other}
 
--- 1 where the set has the block
+-- 1 if the set has the block
 abbrev pub times_of : Blocks → ℕ → ℕ
 times_of s b = cond (set.contains s b) 1 0
 

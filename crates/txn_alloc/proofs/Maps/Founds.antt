@@ -1,4 +1,4 @@
--- What a call of any map on blocks leads to, writes and reads where its search found the key, and where it missed it.
+-- What a call of any map on blocks leads to, writes and reads if its search found the key, and if it missed it.
 -- It is said over what the map knows of one word list: what is near a search, and what a key that was found says.
 use Rattle.std.proofs.Common.{◌≡◌, ℕ, ◌+◌, ◌⊎◌, inl, inr, true, List, [], ◌∷◌, ◌++◌, slice_get, slice_set, Some, None, refl, sym, ap, ◌∙◌, subst, arith}
 use Rattle.std.specs.FinSet as set
@@ -29,7 +29,7 @@ IsOwnNear part key IsNear = (s : List ℕ) (f : Entries) (u : Blocks) → part.H
 abbrev pub IsNearOr : (List ℕ → ℕ → Type 0) → ℕ → List ℕ → ℕ → Type 0
 IsNearOr IsNear q s a = IsNear s a ⊎ (a ≡ q)
 
--- where the key was found in block b, the block is used, has the key, and has the value of the key
+-- if the key was found in block b, the block is used, has the key, and has the value of the key
 pub record IsKeysBlock (part : Part) (key b : ℕ) (IsFound : List ℕ → Type 0) : Type 0 where
   pub used : (s : List ℕ) (f : Entries) (u : Blocks) → IsFound s → part.Holds s f u → set.contains u b ≡ true
   pub key_there : (s : List ℕ) → IsFound s → slice_get s (block_at part.arena b) ≡ Some key
@@ -50,7 +50,7 @@ module _ (part : Part) (key n : ℕ) (G : List ℕ → Type 0) (t u : Trace) {Is
       let o = order.at s (fits_begins n G t u s l.begins fit) in
       sees_more (IsNear (after t s)) (MayRead part key (after t s) (after u s)) t u (own (after t s) o.entries o.used o.holds) (l.reads s fit)
 
-  -- and heads, where no block was free
+  -- and heads, if no block was free
   pub sees_none : {P : List ℕ → Type 0} → Looks n G t u IsNear P → InEach n G t (HasMapApart part) → (v : Trace)
       → Begins u v → AppendsReads u v (IsReadByTake part.arena key None)
       → (s : List ℕ) → Fits n G v s → AppendsReads t v (MayReadToInsert part key Full (after t s) (after v s))

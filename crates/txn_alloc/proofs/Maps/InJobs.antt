@@ -33,10 +33,12 @@ module _ {W S O A : Type 0} {words : AnyWords W S O} {shapes : Shapes S} {v w : 
     (goes : GoesOn words v w r) (look : LeadsTo words shapes v w (Finds part key answer)) where
   -- the map stands behind a look
   pub there_still : InEachState words shapes v (HasMapApart part) → InEachState words shapes w (HasMapApart part)
-  there_still each = state_after words shapes v w (HasMapApart part) (HasMapApart part) (Finds part key answer) goes.shape goes.begins each look (order_found part key answer)
+  there_still each = state_after words shapes v w (HasMapApart part) (HasMapApart part) (Finds part key answer) goes.shape goes.begins each look
+      (order_found part key answer)
 
   -- and a call behind it led from where the look began
-  pub behind : {B : Type 0} {x : W} {q : Result B Stop} {R : List ℕ → List ℕ → Type 0} → GoesOn words w x q → LeadsTo words shapes w x R → LeadsTo words shapes v x R
+  pub behind : {B : Type 0} {x : W} {q : Result B Stop} {R : List ℕ → List ℕ → Type 0} → GoesOn words w x q → LeadsTo words shapes w x R
+      → LeadsTo words shapes v x R
   behind {x = x} {R = R} more call = record {
     at = λ s fit.
         let both = (leads_then words shapes v w x (Finds part key answer) R goes.shape more.begins look call).at s fit in

@@ -1,4 +1,4 @@
--- All that an insert of any map on blocks promises: where the key was there, where it was put in, and where no block was free.
+-- All that an insert of any map on blocks promises: if the key was there, if it was put in, and if no block was free.
 use Rattle.std.proofs.Common.{◌≡◌, ℕ, ◌+◌, List, slice_get, slice_set, Some, None, refl}
 use Rattle.std.specs.FinMap as entry_map
 use Rattle.history_model.specs.declared.shape.Shape.{Ghosts as Shapes}

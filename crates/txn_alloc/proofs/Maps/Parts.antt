@@ -103,7 +103,7 @@ module _ (part : Part) (one : IsOne part) where
   pub moved_out : (s t : List ℕ) (g : Entries) (u : Blocks) (b : ℕ) → IsUsedIn part s b → part.Holds t g (set.remove u b) → IsMoved part s t b
   moved_out s t g u b uses hold = inl (uses, λ k. true≢false (sym (used_of t g (set.remove u b) b hold k) ∙ out_itself u b))
 
--- where there was room, not every state had none
+-- if there was room, not every state had none
 module _ (part : Part) (key x n : ℕ) (G : List ℕ → Type 0) (t w : Trace) (order : InEach n G t (HasMapApart part))
     (b : Begins t w) (some : SomeFits n G w) (lacks : Leads n G t w (λ before after. LacksRoom part key before)) where
   pub not_new : {A : Type 0} → Leads n G t w (Inserts part key x New) → A

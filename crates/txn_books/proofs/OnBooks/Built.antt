@@ -57,7 +57,7 @@ pub as_many : (shape : BooksShape) (words : List ℕ) (v w : PlainView BooksShap
     → length (after w.trace w.origin) ≡ length words
 as_many shape words v w view origins = length-after w.trace w.origin ∙ ap length origins ∙ ap (λ (z : PlainView BooksShape). length z.origin) view
 
--- an insert of an account that was absent, where a block was left
+-- an insert of an account that was absent, if a block was left
 module _ (shape : BooksShape) (x y : List ℕ) (books : ClearingBooks) (stand : Stands shape x books) (a v : ℕ)
     (absent : entry_map.get books.accounts a ≡ None) (room : used books < books.blocks) (number : IsAccountNumber a) (fits : v ≤ GREATEST_CASH) where
   pub account_put : (put : Put) → IsPut (tree_part (tree_of shape)) a v put x y → Stands shape y (put_cash books a v)

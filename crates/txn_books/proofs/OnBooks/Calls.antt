@@ -23,7 +23,7 @@ use Rattle.txn_words.specs.Access.{Tells, Changes, ChangesWithRoom, TellsAndChan
 abbrev pub SomeBooks : BooksShape → (ClearingBooks → Type 0) → List ℕ → Type 0
 SomeBooks shape P words = (books : ClearingBooks) × Stands shape words books × P books
 
--- from state to state: what an insert into a map did, why it found no room where it did not, and that other words stay
+-- from state to state: what an insert into a map did, why it found no room if it did not, and that other words stay
 pub record IsPut (part : Part) (key x : ℕ) (put : Put) (old new : List ℕ) : Type 0 where
   pub inserts : Inserts part key x put old new
   pub full : put ≡ Full → LacksRoom part key old
@@ -34,7 +34,7 @@ pub record IsCut (part : Part) (key : ℕ) (answer : Option ℕ) (old new : List
   pub removes : Removes part key answer old new
   pub keeps : KeepsOthers (IsOwn part key old new) old new
 
--- from state to state: what a push did, why it was refused where it was, and that other words stay
+-- from state to state: what a push did, why it was refused if it was, and that other words stay
 pub record IsPushed (ring : Ring) (item : ℕ × ℕ) (answer : Bool) (old new : List ℕ) : Type 0 where
   pub pushes : rings.Pushes ring item answer old new
   pub full : answer ≡ false → rings.IsFull ring old

@@ -73,7 +73,7 @@ module _ (books : ClearingBooks) (i price : ℕ) where
       → step_of (op.Price i price) books ≡ Gives value.Done (put_price books i price)
   price_done had_room room had = grind (arith, nat_tests, room, had)
 
--- the books that a change with room leaves where there was room
+-- the books that a change with room leaves if there was room
 pub left_with : (had_room : Bool) (change : ClearingBooks → ClearingBooks) (books after : ClearingBooks)
     → had_room ≡ true → after ≡ (if had_room then change books else books) → change books ≡ after
 left_with had_room change books after had e = sym (e ∙ ap (λ t. if t then change books else books) had)

@@ -27,7 +27,7 @@ use Rattle.txn_books.specs.declared.shape.BooksShape.{BooksShape}
 use Rattle.txn_books.specs.declared.operations.Outcome.{Outcome}
 use Rattle.txn_books.specs.declared.operations.Outcome.TheVariants as outcome
 use Rattle.txn_books.specs.Standing.{Stands, IsGoodFor}
-use Rattle.txn_books.specs.Operating.{step_of_outcome, Steps}
+use Rattle.txn_books.specs.Operating.{step_of_outcome, MeetsStep}
 use Rattle.txn_books.specs.Meaning.{is_done, ScriptMeans}
 use Rattle.txn_books.specs.Inner.Scripts.{Runs, HandsOn}
 use Rattle.txn_books.proofs.OnBooks.Calls.{leads_less}
@@ -106,7 +106,7 @@ module _ {W S O : Type 0} {words : AnyWords W S O} {shapes : Shapes S} {shape : 
 
 module _ {W S O : Type 0} {words : AnyWords W S O} {shapes : Shapes S} {shape : BooksShape} {u v : W} where
   -- what an operation turns
-  pub of_steps : {op : Op} {come : Outcome} → LeadsTo words shapes u v (Steps shape op come)
+  pub of_steps : {op : Op} {come : Outcome} → LeadsTo words shapes u v (MeetsStep shape op come)
       → LeadsTo words shapes u v (Turns shape (λ books after. step_of op books ≡ step_of_outcome come after))
   of_steps h = leads_less words shapes u v _ _ (λ x y k. record { at = λ books stand. let last = k.comes books stand in (last.0, last.2, last.1) }) h
 
@@ -188,7 +188,7 @@ module _ {W S O : Type 0} {words : AnyWords W S O} {shapes : Shapes S} {shape : 
 
 module _ {W S O A : Type 0} {words : AnyWords W S O} {shapes : Shapes S} {shape : BooksShape} {u v w : W} {r : Result A
     Stop} {op : Op} {come : Outcome} (whole : ClearingBooks → Run) (values : List Value) (number : ℕ) (goes : GoesOn words v w r)
-    (steps : LeadsTo words shapes v w (Steps shape op come)) where
+    (steps : LeadsTo words shapes v w (MeetsStep shape op come)) where
   module _ (rest : List Op) (before : Turned words shapes shape u v (SoFar whole values (run_from number (op ∷ rest)))) where
     -- one operation more
     stepped : Turned words shapes shape u w (λ books last. (now : ClearingBooks)
@@ -263,7 +263,7 @@ outcome_reply books after (reply.Done values) = refl
 outcome_reply books after (reply.Declined k why) = refl
 outcome_reply books after (reply.Full k) = refl
 
--- and so are its books, where it was done
+-- and so are its books, if it was done
 outcome_left : (books after : ClearingBooks) (answer : Reply) → is_done answer ≡ true → (outcome_from books (run_with answer after)).1 ≡ after
 outcome_left books after (reply.Done values) is = refl
 outcome_left books after (reply.Declined k why) is = cc

@@ -31,7 +31,7 @@ found_side books a i side (Some cash) e =
     let same : side ≡ record { account = a; cash = cash; held = position_of books a i } = cc in
     (sym (ap (λ (s : Side). Some s.cash) same), ap (λ (s : Side). s.held) same)
 
--- none is found where the account is absent
+-- none is found if the account is absent
 pub no_side : (books : ClearingBooks) (a i : ℕ) (found : Option ℕ) → None ≡ side_with books a i found → found ≡ None
 no_side books a i None e = refl
 no_side books a i (Some cash) e = absurd (cc)
@@ -168,12 +168,12 @@ abbrev pub Exchanged : ℕ → Side → Side → Bool → ClearingBooks → Clea
 Exchanged i buys sells had_room books after = (had_room ≡ not (lacks_position_room buys.account i buys.held (sold i sells books)))
     × (after ≡ (if had_room then exchanged i buys sells books else sold i sells books))
 
--- where there was room
+-- if there was room
 pub bought : (i : ℕ) (buys sells : Side) (books after : ClearingBooks) (had_room : Bool) → had_room ≡ true
     → Bought i buys sells had_room books after → Bought i buys sells true books after
 bought i buys sells books after had_room had k = subst (λ t. Bought i buys sells t books after) had k
 
--- where there was room, both sides are exchanged
+-- if there was room, both sides are exchanged
 pub left_exchanged : (i : ℕ) (buys sells : Side) (books after : ClearingBooks) (had_room : Bool) → had_room ≡ true
     → after ≡ (if had_room then exchanged i buys sells books else sold i sells books) → exchanged i buys sells books ≡ after
 left_exchanged i buys sells books after had_room had e = sym (e ∙ ap (λ t. if t then exchanged i buys sells books else sold i sells books) had)

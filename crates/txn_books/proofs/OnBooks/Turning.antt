@@ -14,7 +14,7 @@ use Rattle.txn_books.specs.declared.shape.BooksShape.{BooksShape}
 use Rattle.txn_books.specs.declared.operations.Outcome.{Outcome}
 use Rattle.txn_books.specs.Standing.{Stands, IsGoodFor}
 use Rattle.txn_words.specs.Access.{OfModel, Tells, Changes, ChangesWithRoom, TellsAndChanges}
-use Rattle.txn_books.specs.Operating.{step_of_outcome, Steps}
+use Rattle.txn_books.specs.Operating.{step_of_outcome, MeetsStep}
 use Rattle.txn_books.proofs.OnBooks.Calls.{leads_less}
 use Rattle.txn_books.proofs.OnBooks.Looking.{IsSized, Saw, saw_first, saw_told, saw_then, told_saw}
 use Rattle.txn_books.proofs.OneState.Whole.{one_books}
@@ -135,7 +135,7 @@ module _ {W S O : Type 0} {words : AnyWords W S O} {shapes : Shapes S} {shape : 
   -- an operation that only looked
   pub answers : {op : Op} {outcome : Outcome} {P : ClearingBooks → Type 0} → Looked words shapes shape v w P
       → ((books : ClearingBooks) → IsSized shape books → P books → step_of op books ≡ step_of_outcome outcome books)
-      → LeadsTo words shapes v w (Steps shape op outcome)
+      → LeadsTo words shapes v w (MeetsStep shape op outcome)
   answers h means = leads_less words shapes v w _ _
       (λ x y k. record {
         comes = λ books stand. (
@@ -148,7 +148,7 @@ module _ {W S O : Type 0} {words : AnyWords W S O} {shapes : Shapes S} {shape : 
   -- an operation that changed the books
   pub comes : {op : Op} {outcome : Outcome} {R : ClearingBooks → ClearingBooks → Type 0} → Turned words shapes shape v w R
       → ((books after : ClearingBooks) → IsSized shape books → R books after
-      → step_of op books ≡ step_of_outcome outcome after) → LeadsTo words shapes v w (Steps shape op outcome)
+      → step_of op books ≡ step_of_outcome outcome after) → LeadsTo words shapes v w (MeetsStep shape op outcome)
   comes h means = leads_less words shapes v w _ _
       (λ x y k. record { comes = λ books stand. let last = k.at books stand in (last.0, means books last.0 (stand.sizes, stand.range) last.2, last.1) }) h.turns
 

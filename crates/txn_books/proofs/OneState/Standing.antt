@@ -54,7 +54,7 @@ module _ (old new : List ℕ) (books : ClearingBooks) (parts : HasParts old book
       still (entry_map.remove (chained books) key) (set.remove parts.chain_used k.block) (set.insert parts.free k.block) k.left.map
       (back_among parts.chain_used parts.free k.block k.was_used out)
 
--- where nothing changes, each key stands where it stood
+-- if nothing changes, each key stands where it stood
 pub same_keeps : (shape : BooksShape) (old new : List ℕ) → new ≡ old → KeepsBlocks (tree_of shape) old new
 same_keeps shape old new same k b there = subst (λ z. HasKeyIn (tree_of shape) k b z) (sym same) there
 

@@ -33,11 +33,11 @@ module _ (words : List ℕ) (books : ClearingBooks) (parts : HasParts words book
   pub has_room : (b : ℕ) → set.contains parts.free b ≡ true → used books < books.blocks
   has_room b free = omega (arith, some_member parts.free b free, counted words books [] parts range)
 
-  -- and where none is free there is no room
+  -- and if none is free there is no room
   pub no_room : parts.free ≡ set.empty → used books ≡ books.blocks
   no_room none = omega (arith, counted words books [] parts range, ap set.len none ∙ set.len-empty nat_cmp)
 
--- the test whether a count is at its most, where it is below, and where it is there
+-- the test whether a count is at its most, if it is below, and if it is there
 pub is_below : (n most : ℕ) → n < most → true ≡ not (n == most)
 is_below n most lt = grind (arith, nat_tests, lt)
 

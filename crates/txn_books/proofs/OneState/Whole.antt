@@ -119,7 +119,7 @@ singles_len (c ∷ cs) =
     + sum_by (λ s. set.len s) (singles cs) = sum_by-cons (λ s. set.len s) (set.insert set.empty c) (singles cs) in
     omega (arith, rest, parts, single_len c)
 
--- 1 where the two are one
+-- 1 if the two are one
 abbrev times_at : ℕ → ℕ → ℕ
 times_at c b = cond (c == b) 1 0
 

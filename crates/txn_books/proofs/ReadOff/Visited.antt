@@ -64,7 +64,7 @@ one_end (x ∷ xs) (y ∷ ys) a b e =
     ((λ i. first i ∷ rest.0 i), rest.1)
 
 module _ (arena : Arena) (words names : List ℕ) (listed whole : List (ℕ × ℕ)) where
-  -- where no name is left, all are listed
+  -- if no name is left, all are listed
   pub visits_end : names ≡ [] → Visits arena words names listed whole → listed ≡ whole
   visits_end none h = at (h.trees) h.named h.all
     where

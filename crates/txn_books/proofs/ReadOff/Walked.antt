@@ -44,7 +44,7 @@ chain_there arena words place [] h = slice_get_within words place 0 h
 chain_there arena words place (c ∷ cs) h = slice_get_within words place (c.block + 1) h.0
 
 module _ (arena : Arena) (words : List ℕ) (listed whole : List (ℕ × ℕ)) where
-  -- where the name is none, all are listed
+  -- if the name is none, all are listed
   pub follows_none : (name : ℕ) → name ≡ 0 → Follows arena words name listed whole → listed ≡ whole
   follows_none name none h = at (h.rest) h.chain h.all
     where

@@ -58,7 +58,7 @@ module _ {K : Type 0} {R : K → K → Ordering} (o : IsTotalOrder R) where
           (sym (ap (λ b. cond b (x ∷ above R e.0 es) (above R e.0 es))
           (not_above x.0 e.0 (found_after x.0 (λ d. is_lt (R k d.0)) e es (sorted_first R x es h) g))))
 
-  -- and where there is none, none is above it
+  -- and if there is none, none is above it
   pub above_end : (k : K) (es : List (K × ℕ)) → find (λ d. is_lt (R k d.0)) es ≡ None → above R k es ≡ []
   above_end k [] f = refl
   above_end k (x ∷ es) f = elim (is_lt (R k x.0)) as (λ b. cond b (Some x) (find (λ d. is_lt (R k d.0)) es) ≡ None

@@ -50,7 +50,7 @@ pub record AddsPositions (entries : List (ℕ × ℕ)) (books after : ClearingBo
   pub same : after ≡ record books { positions = after.positions }
   pub range : AreInRange after
 
--- and with the margin calls that a ring holds, where the books had none
+-- and with the margin calls that a ring holds, if the books had none
 pub record AddsCalls (ring : Ring) (words : List ℕ) (books after : ClearingBooks) : Type 0 where
   pub queue : QueueHolds ring words after.calls
   pub none : books.calls ≡ []

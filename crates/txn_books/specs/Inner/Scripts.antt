@@ -12,13 +12,13 @@ use Rattle.txn_books.specs.declared.shape.BooksShape.{BooksShape}
 use Rattle.txn_books.specs.Standing.{Stands}
 
 -- from state to state: the interpreter's run on the books ends with this reply, and the words then stand for the books
--- that it leaves; where an operation is refused, for some books of which nothing is said
+-- that it leaves; if an operation is refused, for some books of which nothing is said
 pub record Runs (shape : BooksShape) (run : ClearingBooks → Run) (answer : Reply) (old new : List ℕ) : Type 0 where
   pub comes : (books : ClearingBooks) → Stands shape old books → (after : ClearingBooks)
       × (run books ≡ run_with answer after) × Stands shape new after
 
 -- what a call on words leaves that may find no memory of its own: it goes on to the end unless the words stop, and
--- yields exactly where they do
+-- yields exactly if they do
 pub record HandsOn {W S O A : Type 0} (words : AnyWords W S O) (old new : W) (result : Result A Stop) : Type 0 where
   pub shape : words.shape new ≡ words.shape old
   pub origin : words.origin new ≡ words.origin old

@@ -15,7 +15,7 @@ abbrev pub side_with : ClearingBooks → ℕ → ℕ → Option ℕ → Option S
 side_with books a i None = None
 side_with books a i (Some cash) = Some (record { account = a; cash = cash; held = position_of books a i })
 
--- where the account is there
+-- if the account is there
 abbrev pub side_of : ClearingBooks → ℕ → ℕ → Option Side
 side_of books a i = side_with books a i (map.get books.accounts a)
 
@@ -46,7 +46,7 @@ exchanged i buys sells books =
     put_cash (put_cash (put_position (sold i sells books) buys.account i buys.held) buys.account buys.cash)
     sells.account sells.cash
 
--- from state to state: both sides are exchanged, or the seller's position alone where the buyer's then lacks the room;
+-- from state to state: both sides are exchanged, or the seller's position alone if the buyer's then lacks the room;
 -- the answer says whether it has it
 pub record Exchanges (shape : BooksShape) (i : ℕ) (buys sells : Side) (had_room : Bool)
     (old new : List ℕ) : Type 0 where

@@ -6,7 +6,7 @@ use Rattle.order_rebuild.specs.Order.{IsOrder, Orderable}
 use Rattle.word_table.specs.Closing.{AreRecords, ClosedView, IsCoherent, IsLegalInEachOrder}
 use Rattle.txn_commit.specs.declared.lists.Done.{Done}
 use Rattle.txn_commit.specs.Lists.{AreOnceInOrder, HaveRecords, IsEntryOf}
-use Rattle.txn_commit.specs.Ordered.{spot_of, AreAt, AreRun, IsRunInOrder}
+use Rattle.txn_commit.specs.Ordered.{spot_of, AreAt, AreRecorded, IsRunInOrder}
 use Rattle.txn_commit.proofs.Orders.Arranged.{all_arranged, AreAllPlaces}
 use Rattle.txn_commit.proofs.Orders.Once.{once_there}
 use Rattle.txn_commit.proofs.Orders.Rebuilt.{all_places, apart_places, apart_there, as_many_there, can_be_ordered, entries, legal_there, made_there, rebuilt}
@@ -14,7 +14,7 @@ use Rattle.txn_commit.proofs.Orders.Rebuilt.{records_there, rising_there, words_
 use Rattle.txn_commit.proofs.Recorded.{have_records}
 
 module _ {A S : Type 0} {good : List ℕ → Type 0} {means : ℕ → ℕ → List ℕ → Bool → A → List ℕ → Type 0} {closed : ClosedView S}
-    {given : List (Done A)} (run : AreRun good means closed given)
+    {given : List (Done A)} (run : AreRecorded good means closed given)
     (coherent : IsCoherent good closed) (legal : IsLegalInEachOrder good closed) (records : AreRecords closed) where
   abbrev read : Readings (Done A)
   read = record { spot = spot_of; seat = λ ran. ran.seat; call = λ ran. ran.call }

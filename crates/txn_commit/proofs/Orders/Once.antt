@@ -22,7 +22,7 @@ pairs_map R f [] pairs = λ i j d lt short. absurd (omega arith)
 pairs_map R f (x ∷ xs) pairs = AllPairs-cons R (f x) (map f xs) (All-map (R (f x)) f xs (λ k d lt. pairs 0 (suc k) d (omega arith) (omega arith)))
     (pairs_map R f xs (λ i j d lt short. pairs (suc i) (suc j) d (omega arith) (omega arith)))
 
--- and where the images of those that a test keeps are related in pairs, so are these
+-- and if the images of those that a test keeps are related in pairs, so are these
 pub pairs_kept : {X Y : Type 0} (R : Y → Y → Type 0) (f : X → Y) (p : X → Bool) (xs : List X) → AllPairs R (map f (filter p xs))
     → AllPairs (λ x y. p x ≡ true → p y ≡ true → R (f x) (f y)) xs
 pairs_kept R f p [] pairs = λ i j d lt short. absurd (omega arith)
@@ -45,7 +45,7 @@ pairs_kept {X = X} R f p (x ∷ xs) pairs = by_test (pairs_kept R f p xs) (p x) 
         (λ k d lt first passes. absurd (let no : true ≡ false = sym first ∙ is in cc))
         (rest (subst (λ b. AllPairs R (map f (cond b (x ∷ kept) kept))) is pairs))
 
--- where a caller's jobs stand there in their order, their indexes rise
+-- if a caller's jobs stand there in their order, their indexes rise
 pub later_index : {A : Type 0} (callers : ℕ) (jobs : ℕ → ℕ) (done : List (Done A)) → AreOnceInOrder callers jobs done
     → AllPairs (λ (x y : Done A). x.caller ≡ y.caller → x.index < y.index) done
 later_index {A = A} callers jobs done once i j d lt short same =

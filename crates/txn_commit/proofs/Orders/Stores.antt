@@ -1,4 +1,4 @@
--- One lemma for every store: where a state stands for words, and a job's meaning is one step of an interpreter on that
+-- One lemma for every store: if a state stands for words, and a job's meaning is one step of an interpreter on that
 -- state, the interpreter, run down the jobs in their order, gives every answer, and the words before and after each stand
 -- for its states.
 use Rattle.std.proofs.Common.{◌≡◌, ℕ, zero, suc, ◌+◌, ◌<◌, ◌≤◌, Bool, true, false, List, [], ◌∷◌, ◌++◌, map, length, take, get_or}
@@ -11,7 +11,8 @@ use Rattle.history_model.specs.Traces.{after}
 use Rattle.history_model.proofs.Histories.ReplayLaws.{replay_nothing, replay_kept, replay_reverted}
 use Rattle.word_table.specs.Closing.{ClosedView}
 use Rattle.txn_commit.specs.declared.lists.Done.{Done}
-use Rattle.txn_commit.specs.Ordered.{answers_down, state_down, IsRunInOrder, IsStep}
+use Rattle.txn_commit.proofs.Orders.Interpreters.{answers_down, state_down, IsInterpreterStep}
+use Rattle.txn_commit.specs.Ordered.{IsRunInOrder}
 
 -- what was answered, with one job more
 answers_push : {A X : Type 0} (reply : ℕ → ℕ → X → A) (left : ℕ → ℕ → X → X) (jobs : List (Done A)) (job : Done A) (x : X)
@@ -34,7 +35,7 @@ first_of (x ∷ xs) lt = x
 module _ {A S X : Type 0} (good : List ℕ → Type 0) (means : ℕ → ℕ → List ℕ → Bool → A → List ℕ → Type 0) (closed : ClosedView S)
     (done : List (Done A)) (run : IsRunInOrder good means closed done)
     (stands : List ℕ → X → Type 0) (reply : ℕ → ℕ → X → A) (left : ℕ → ℕ → X → X)
-    (step : IsStep means stands reply left) (start : X) (opening : stands closed.base start) where
+    (step : IsInterpreterStep means stands reply left) (start : X) (opening : stands closed.base start) where
   -- the first k jobs
   pub record RunsTo (k : ℕ) : Type 0 where
     pub answers : map (λ (ran : Done A). ran.reply) (take k done) ≡ answers_down reply left (take k done) start

@@ -6,7 +6,7 @@ use Rattle.history_model.specs.Locks.{lock_of_word}
 use Rattle.history_model.specs.Sets.{has_pair}
 use Rattle.word_table.specs.Copies.{PassView}
 use Rattle.word_table.specs.Desks.{DeskView}
-use Rattle.word_table.specs.Versions.{HasUse}
+use Rattle.word_table.specs.Versions.{HasUseOf}
 use Rattle.lock_or_yield.specs.declared.turn.Intent.{Intent}
 use Rattle.lock_or_yield.specs.declared.turn.Intent.TheVariants as intent
 use Rattle.lock_or_yield.specs.Asking.{Asks, WentOn}
@@ -17,7 +17,7 @@ use Rattle.txn_commit.specs.declared.attempt.Halt.{Halt}
 use Rattle.txn_commit.specs.declared.attempt.Halt.TheVariants as halt
 use Rattle.txn_commit.specs.Attempts.{GaveWayTo}
 
--- the lock of word a was asked for, with this intent, where it was not held so; before and after are the halt of the
+-- the lock of word a was asked for, with this intent, if it was not held so; before and after are the halt of the
 -- attempt
 pub record AsksForWord (n : ℕ) (intent : Intent) (a : ℕ) (old : View) (before : Option Halt) (r : Asked) (after : Option Halt) (new : View) : Type 0 where
   pub asks : Asks a old new
@@ -29,7 +29,7 @@ pub record AsksForWord (n : ℕ) (intent : Intent) (a : ℕ) (old : View) (befor
 
 -- the attempt has a use of lock k, and the pass knows the same of all but uses
 abbrev pub FindsUse : ℕ → View → View → Type 0
-FindsUse k old new = (new ≡ record old { uses = new.uses }) × HasUse new k
+FindsUse k old new = (new ≡ record old { uses = new.uses }) × HasUseOf new k
 
 -- the attempt that first used the lock of word a, to read it, goes on and has a use of it, or gives way; before and after are
 -- its halt

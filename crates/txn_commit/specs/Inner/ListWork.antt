@@ -3,12 +3,10 @@ use Rattle.std.specs.Prelude.{◌≡◌, ℕ, ◌+◌, ◌<◌, ◌≤◌, ◌%�
 use Rattle.std.specs.List.{range_with_len}
 use Rattle.history_model.specs.declared.entry.Entry.{Entry}
 use Rattle.history_model.specs.declared.view.View.{View}
-use Rattle.history_model.specs.declared.view.Phase.TheVariants.{Idle}
 use Rattle.history_model.specs.Traces.{IsLegalTrace, after}
 use Rattle.history_model.specs.Views.{number}
-use Rattle.word_table.specs.Copies.{PassView}
 use Rattle.txn_commit.specs.declared.lists.Done.{Done}
-use Rattle.txn_commit.specs.Lists.{indexes_of, jobs_of_first, IsEntryOf}
+use Rattle.txn_commit.specs.Lists.{indexes_of, IsEntryOf}
 
 -- an item beside the entry of its call
 pub record Made (A : Type 0) : Type 0 where
@@ -59,12 +57,3 @@ module _ {A : Type 0} where
       pub each : All (IsMade seats seat) made
       pub calls : view.call ≡ length done
       pub counted : map (λ (ran : Done A). ran.call) done ≡ range_with_len 1 (length done)
-
-    -- of the first n callers a pass ran those that are its own, since it began; so it made no more calls than these have jobs
-    pub record IsUnderWay (jobs : ℕ → ℕ) (workers seats : ℕ) (began : PassView) (n : ℕ) (pass : PassView) (done : List (Done A)) : Type 0 where
-      pub table : pass.table ≡ began.table
-      pub idle : pass.view.phase ≡ Idle
-      pub who : pass.view.who ≡ began.view.who
-      pub run : HasRun seats (number began.view) pass.view done
-      pub first : RanFirst jobs workers (number began.view) n done
-      pub few : length done ≤ jobs_of_first jobs n

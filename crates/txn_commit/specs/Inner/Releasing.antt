@@ -1,6 +1,5 @@
 -- What undoing writes and giving up locks leave of what a pass knows.
-use Rattle.std.specs.Prelude.{◌≡◌, ◌⊎◌, ℕ, ◌-◌, Bool, true, false, [], Option, None, Some}
-use Rattle.history_model.specs.declared.TheConstants.{LOCKS}
+use Rattle.std.specs.Prelude.{◌≡◌, ◌⊎◌, Bool, true, false, []}
 use Rattle.history_model.specs.declared.view.View.{View}
 use Rattle.locks_rule.specs.Steps.{released_phase}
 use Rattle.values_rule.specs.Steps.{undoing_phase}
@@ -26,11 +25,6 @@ pub record UndoesSome (old new : View) : Type 0 where
 pub record Undoes (old new : View) : Type 0 where
   pub some : UndoesSome old new
   pub none_left : new.undo ≡ []
-
--- how many locks there are at most from the next one on
-abbrev pub turns_left : Option ℕ → ℕ
-turns_left None = 0
-turns_left (Some lock) = LOCKS - lock
 
 -- all writes were undone, unless they are kept
 pub record UndoesUnless (kept : Bool) (old new : View) : Type 0 where

@@ -10,7 +10,8 @@ use Rattle.txn_alloc.specs.FreeLists.{block_at, IsInBlock}
 use Rattle.txn_alloc.proofs.Maps.Cells.{times_in, times-append, one_in, one_here}
 use Rattle.txn_tree_map.specs.Trees.{Tree, name_of, cells_of, IsSpelled}
 use Rattle.txn_tree_map.specs.Trees.Tree.{Leaf}
-use Rattle.txn_tree_map.specs.Paths.{Step, Path, whole_of, plug, place_at_end, before_of, after_of, IsHung}
+use Rattle.txn_tree_map.proofs.Plugs.{whole_of, plug}
+use Rattle.txn_tree_map.specs.Paths.{Step, Path, place_at_end, before_of, after_of, IsHung}
 use Rattle.txn_tree_map.proofs.Held.Trees.{count_in, count_on, times_cells, cells_plug, count_plug, SameIn, spelled_stays, hung_again, spelled_whole}
 use Rattle.txn_tree_map.proofs.Held.Places.{hung_name}
 

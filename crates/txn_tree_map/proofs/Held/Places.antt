@@ -13,7 +13,8 @@ use Rattle.txn_alloc.proofs.Maps.Cells.{all_append, times_in, has_times, times_h
 use Rattle.txn_tree_map.specs.declared.map.TreeMap.{TreeMap}
 use Rattle.txn_tree_map.specs.Trees.{Tree, priority_of, name_of, rank_of, cells_of, HasNode, IsSpelled, IsRising, IsHeap, TreeHolds}
 use Rattle.txn_tree_map.specs.Trees.Tree.{Leaf, Node}
-use Rattle.txn_tree_map.specs.Paths.{Step, Path, whole_of, plug, place_at_end, before_of, after_of, IsHung, IsHigh, HangsAt}
+use Rattle.txn_tree_map.proofs.Plugs.{whole_of, plug}
+use Rattle.txn_tree_map.specs.Paths.{Step, Path, place_at_end, before_of, after_of, IsHung, IsHigh, HangsAt}
 use Rattle.txn_alloc.proofs.Maps.Counting.{times_all, length_below}
 use Rattle.txn_tree_map.proofs.Held.Rising.{rising_once}
 use Rattle.txn_tree_map.proofs.Held.Trees.{count_in, count_on, times_cells, cells_step, cells_plug, count_plug, all_tree, all_before, all_after, spelled_whole}
@@ -38,7 +39,7 @@ hung_name arena s root (st ∷ path) name h = at (st.left) h.0
     at true k = k.left_there
     at false k = k.right_there
 
--- a node of a step is high where the step and what hangs below it are
+-- a node of a step is high if the step and what hangs below it are
 pub high_whole : (top : ℕ) (st : Step) (path : Path) (tree : Tree) → IsHigh top path (rank_of (whole_of st tree))
     → IsHeap (whole_of st tree) → IsHigh top (st ∷ path) (rank_of tree) × IsHeap tree
 high_whole top st path tree high heap = at (st.left) high heap

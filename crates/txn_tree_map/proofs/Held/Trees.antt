@@ -10,7 +10,8 @@ use Rattle.txn_alloc.specs.EntryMaps.{Cell}
 use Rattle.txn_alloc.proofs.Maps.Cells.{all_append, one_in, one_here, times_in, times-append}
 use Rattle.txn_tree_map.specs.Trees.{Tree, name_of, cells_of, HasNode, IsSpelled}
 use Rattle.txn_tree_map.specs.Trees.Tree.{Leaf, Node}
-use Rattle.txn_tree_map.specs.Paths.{Step, Path, whole_of, plug, place_at_end, before_of, after_of, IsHung}
+use Rattle.txn_tree_map.proofs.Plugs.{whole_of, plug}
+use Rattle.txn_tree_map.specs.Paths.{Step, Path, place_at_end, before_of, after_of, IsHung}
 
 -- how often a block stands in a tree, and on a path
 abbrev pub count_in : ℕ → Tree → ℕ

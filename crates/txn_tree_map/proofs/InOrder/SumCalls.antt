@@ -15,7 +15,8 @@ use Rattle.txn_tree_map.specs.declared.find.Named.{Named}
 use Rattle.txn_tree_map.specs.declared.walk.Walk.{Walk}
 use Rattle.txn_tree_map.specs.Trees.{tree_part}
 use Rattle.txn_tree_map.specs.Searches.{IsLink}
-use Rattle.txn_tree_map.specs.Sums.{IsAnyWord, IsFirstFrom, IsNext, HasNoneTo, IsSummed, IsTotal}
+use Rattle.txn_tree_map.proofs.Summed.{IsSummed, IsTotal}
+use Rattle.txn_tree_map.specs.Sums.{IsAnyWord, IsFirstFrom, IsNext, HasNoneTo}
 use Rattle.txn_tree_map.specs.Walks.{IsWalk, HasCome}
 use Rattle.txn_alloc.proofs.Maps.Founds.{IsNearOr, looks_value}
 use Rattle.txn_tree_map.proofs.Searches.Links.{nearest_of, tree_uses, link_seen}

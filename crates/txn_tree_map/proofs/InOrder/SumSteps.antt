@@ -12,7 +12,8 @@ use Rattle.txn_tree_map.specs.declared.map.TreeMap.{TreeMap}
 use Rattle.txn_tree_map.specs.declared.find.Named.{Named}
 use Rattle.txn_tree_map.specs.Trees.{Tree, cells_of, IsAbove, IsRising, TreeHolds}
 use Rattle.txn_tree_map.specs.Paths.{HangsAt, IsBelow}
-use Rattle.txn_tree_map.specs.Sums.{IsFrom, IsFirstFrom, sum_cells, counted, IsSummed, IsTotal, IsNext, HasNoneTo}
+use Rattle.txn_tree_map.proofs.Summed.{sum_cells, IsSummed, IsTotal}
+use Rattle.txn_tree_map.specs.Sums.{IsFrom, IsFirstFrom, counted, IsNext, HasNoneTo}
 use Rattle.txn_tree_map.proofs.Held.Rising.{below_more, rising_above}
 use Rattle.txn_tree_map.proofs.Held.Trees.{all_tree}
 use Rattle.txn_tree_map.proofs.Held.Places.{at_tree, at_cells, at_room}
@@ -202,7 +203,7 @@ module _ (map : TreeMap) (s : List ℕ) where
         }
 
     module _ (least turns total : ℕ) (h : IsSummed map low high least turns total s) where
-      -- the sum of all where the rest is past
+      -- the sum of all if the rest is past
       total_past : IsFrom (high + 1) h.rest → IsTotal map low high total s
       total_past past = record {
         tree = h.tree;

@@ -15,7 +15,8 @@ use Rattle.txn_tree_map.specs.declared.walk.Walk.{Walk}
 use Rattle.txn_tree_map.specs.declared.walk.TheConstants.{KEPT}
 use Rattle.txn_tree_map.specs.Trees.{Tree, name_of, rank_of, cells_of, IsRising, IsHeap}
 use Rattle.txn_tree_map.specs.Trees.Tree.{Leaf, Node}
-use Rattle.txn_tree_map.specs.Paths.{Step, Path, whole_of, plug, before_of, after_of, IsHung, IsHigh, HangsAt}
+use Rattle.txn_tree_map.proofs.Plugs.{whole_of, plug}
+use Rattle.txn_tree_map.specs.Paths.{Step, Path, before_of, after_of, IsHung, IsHigh, HangsAt}
 use Rattle.txn_tree_map.specs.Searches.{HasTop, IsNamed, IsPlace, IsPlaceOrKey, IsLink}
 use Rattle.txn_tree_map.specs.Sums.{IsFirstFrom}
 use Rattle.txn_tree_map.specs.Walks.{lefts_of, Keeps, IsWalk}
@@ -275,7 +276,7 @@ module _ (map : TreeMap) (s : List ℕ) where
                 count = omega (arith, h.count, whole, child_shorter false l r c);
               }
 
-    -- where nothing is left below it, the nearest node that it keeps is next
+    -- if nothing is left below it, the nearest node that it keeps is next
     module _ (h : IsWalk map walk least map.arena.blocks s) where
       leaf : h.rest ≡ Leaf
       leaf = leaf_short h.rest (omega (arith, h.count))

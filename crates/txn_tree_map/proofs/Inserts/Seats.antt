@@ -6,8 +6,10 @@ use Rattle.txn_alloc.proofs.Maps.Cells.{all_append, all_first, all_last}
 use Rattle.txn_tree_map.specs.declared.map.TreeMap.{TreeMap}
 use Rattle.txn_tree_map.specs.Trees.{priority_of, rank_of, cells_of}
 use Rattle.txn_tree_map.specs.Trees.Tree.{Leaf, Node}
-use Rattle.txn_tree_map.specs.Paths.{plug, before_of, after_of, HangsAt}
-use Rattle.txn_tree_map.specs.Searches.{IsNamed, IsPassed, IsMissing, IsSeat}
+use Rattle.txn_tree_map.proofs.Plugs.{plug}
+use Rattle.txn_tree_map.specs.Paths.{before_of, after_of, HangsAt}
+use Rattle.txn_tree_map.proofs.Searches.Passed.{IsPassed}
+use Rattle.txn_tree_map.specs.Searches.{IsNamed, IsMissing, IsSeat}
 use Rattle.txn_tree_map.proofs.Held.Rising.{below_other, above_other}
 use Rattle.txn_tree_map.proofs.Held.Places.{priority_small, at_root, at_cells}
 use Rattle.txn_tree_map.proofs.Searches.SearchSteps.{IsNode, leaf_named, leaf_short, passed_tree, passed_node, rest_name}

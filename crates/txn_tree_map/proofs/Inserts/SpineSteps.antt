@@ -1,5 +1,6 @@
 -- A tree laid by its right spine, in one word list.
-use Rattle.std.proofs.Common.{◌≡◌, ◌≢◌, ℕ, ◌+◌, ◌^◌, ◌<◌, ◌≤◌, Bool, true, false, List, [], ◌∷◌, ◌++◌, length, slice_get, slice_set, Some, None, ◌⊎◌, inl, inr, refl, sym, ap, ◌∙◌}
+use Rattle.std.proofs.Common.{◌≡◌, ◌≢◌, ℕ, ◌+◌, ◌^◌, ◌<◌, ◌≤◌, Bool, true, false, List, [], ◌∷◌, ◌++◌, length, slice_get, slice_set, Some, None, ◌⊎◌}
+use Rattle.std.proofs.Common.{inl, inr, refl, sym, ap, ◌∙◌}
 use Rattle.std.proofs.Common.{subst, arith, if◌then◌else◌, length-append}
 use Rattle.std.proofs.lemmas.List.{append-nil, length-set}
 use Rattle.std.proofs.lemmas.Option.{same_Some}
@@ -16,7 +17,8 @@ use Rattle.txn_alloc.proofs.Maps.Cells.{all_append, all_first, all_last}
 use Rattle.txn_tree_map.specs.declared.map.TreeMap.{TreeMap}
 use Rattle.txn_tree_map.specs.Trees.{Tree, priority_of, rank_of, name_of, cells_of, IsRising, TreeHolds, tree_part}
 use Rattle.txn_tree_map.specs.Trees.Tree.{Leaf, Node}
-use Rattle.txn_tree_map.specs.Paths.{Step, Path, whole_of, before_of, after_of, IsBelow, HangsAt}
+use Rattle.txn_tree_map.proofs.Plugs.{whole_of}
+use Rattle.txn_tree_map.specs.Paths.{Step, Path, before_of, after_of, IsBelow, HangsAt}
 use Rattle.txn_tree_map.specs.Searches.{IsMissing}
 use Rattle.txn_tree_map.specs.Changes.{CanPut, IsPut, IsWhole, Splits, IsNameIn}
 use Rattle.txn_tree_map.specs.Spines.{GoesRight, blocks_on, HasSpine, IsSeatBelow}
@@ -149,7 +151,7 @@ module _ (map : TreeMap) (key : ℕ) (s : List ℕ) where
         at true = refl
         at false = refl
 
-    -- where it is lower, it is passed, with its left subtree and with what hangs below it
+    -- if it is lower, it is passed, with its left subtree and with what hangs below it
     pub up_more : (k : ℕ) → slice_get s (block_at map.arena b) ≡ Some k → key < 2 ^ 64 → k < 2 ^ 64 → priority_of k ≤ priority_of key → IsUp map key s bs
     up_more k there low_key low_k le =
         let is_key : (step.st).cell.key ≡ k = up_key k there in
@@ -224,7 +226,7 @@ spine_above map j k s bs le h = record {
   below = below_more j k (before_of h.path) le h.below;
 }
 
--- the spine stands where heads alone are written
+-- the spine stands if heads alone are written
 pub spine_headed : (map : TreeMap) (key : ℕ) (s t bs : List ℕ) → KeepsOthers (IsHead map.arena) s t → HasSpine map key s bs → HasSpine map key t bs
 spine_headed map key s t bs kept h = record {
   path = h.path;

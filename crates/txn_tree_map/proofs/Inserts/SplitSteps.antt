@@ -13,7 +13,8 @@ use Rattle.txn_alloc.proofs.Maps.Cells.{times_in, times-append, times_has, all_f
 use Rattle.txn_tree_map.specs.declared.map.TreeMap.{TreeMap}
 use Rattle.txn_tree_map.specs.Trees.{Tree, priority_of, name_of, rank_of, cells_of, IsSpelled, IsAbove, IsRising, IsHeap, IsLaid}
 use Rattle.txn_tree_map.specs.Trees.Tree.{Leaf, Node}
-use Rattle.txn_tree_map.specs.Paths.{Step, plug, place_at_end, before_of, after_of, IsHung, IsHigh, IsBelow}
+use Rattle.txn_tree_map.proofs.Plugs.{plug}
+use Rattle.txn_tree_map.specs.Paths.{Step, place_at_end, before_of, after_of, IsHung, IsHigh, IsBelow}
 use Rattle.txn_tree_map.specs.Changes.{Hangs, IsNameIn, IsWhole, IsParted, Splits}
 use Rattle.txn_alloc.proofs.Maps.Counting.{length_below}
 use Rattle.txn_tree_map.proofs.Held.Rising.{rising_once, rising_first, rising_last, rising_below, rising_above}
@@ -272,7 +273,7 @@ module _ (map : TreeMap) (key block name turns smaller greater rest : ℕ) (old 
               (subst (λ z. IsNameIn map block h.tree z) h.greater_at greater_own);
         })
 
-  -- all is parted where the rest is a leaf
+  -- all is parted if the rest is a leaf
   pub parted_over : h.inner ≡ Leaf → IsParted map key block name 0 smaller greater 0 old s
   parted_over leaf = record {
     tree = h.tree;

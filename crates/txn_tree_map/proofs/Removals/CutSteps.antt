@@ -111,7 +111,7 @@ module _ (map : TreeMap) (key place b : ℕ) (s : List ℕ) (h : IsFoundAt map k
     joined_cells : cells_below ≡ cells_of j.tree
     joined_cells = sym same_both ∙ j.cells
 
-    -- a word of the path's blocks but the place, and the root where it is not the place, stays
+    -- a word of the path's blocks but the place, and the root if it is not the place, stays
     path_kept : (d a : ℕ) → 1 ≤ count_on d h.path → IsInBlock map.arena d a → a ≢ place_at_end map.arena map.root h.path → slice_get t a ≡ slice_get s a
     path_kept d a k mine ne = kept.same a (λ m. elim m [
       | inl e ↦ ne (e ∙ h.at)

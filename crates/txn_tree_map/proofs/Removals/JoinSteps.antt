@@ -10,7 +10,8 @@ use Rattle.txn_alloc.proofs.Maps.Cells.{all_append, all_last, times_in, times-ap
 use Rattle.txn_tree_map.specs.declared.map.TreeMap.{TreeMap}
 use Rattle.txn_tree_map.specs.Trees.{Tree, priority_of, name_of, rank_of, cells_of, IsSpelled, IsRising, IsHeap, IsLaid}
 use Rattle.txn_tree_map.specs.Trees.Tree.{Leaf, Node}
-use Rattle.txn_tree_map.specs.Paths.{Step, plug, place_at_end, before_of, after_of, IsHung, IsHigh}
+use Rattle.txn_tree_map.proofs.Plugs.{plug}
+use Rattle.txn_tree_map.specs.Paths.{Step, place_at_end, before_of, after_of, IsHung, IsHigh}
 use Rattle.txn_tree_map.specs.Changes.{Hangs}
 use Rattle.txn_tree_map.specs.Joins.{IsHoleOrName, ArePair, IsJoined, IsGathered, Joins}
 use Rattle.txn_alloc.proofs.Maps.Counting.{length_below}

@@ -9,9 +9,11 @@ use Rattle.txn_tree_map.specs.declared.map.TreeMap.{TreeMap}
 use Rattle.txn_tree_map.specs.declared.find.Named.{Named}
 use Rattle.txn_tree_map.specs.Trees.{Tree, name_of, cells_of, IsRising}
 use Rattle.txn_tree_map.specs.Trees.Tree.{Leaf, Node}
-use Rattle.txn_tree_map.specs.Paths.{plug, before_of, after_of, HangsAt}
+use Rattle.txn_tree_map.proofs.Plugs.{plug}
+use Rattle.txn_tree_map.specs.Paths.{before_of, after_of, HangsAt}
 use Rattle.txn_tree_map.specs.Searches.{HasTop, IsNamed}
-use Rattle.txn_tree_map.specs.Sums.{IsNear, IsFirstFrom}
+use Rattle.txn_tree_map.proofs.Summed.{IsNear}
+use Rattle.txn_tree_map.specs.Sums.{IsFirstFrom}
 use Rattle.txn_tree_map.proofs.Held.Rising.{below_more}
 use Rattle.txn_tree_map.proofs.Held.Trees.{cells_plug}
 use Rattle.txn_tree_map.proofs.Held.Places.{at_step, at_room, at_name, at_root}

@@ -10,8 +10,10 @@ use Rattle.txn_tree_map.specs.declared.find.Named.{Named}
 use Rattle.txn_tree_map.specs.Trees.{Tree, name_of, cells_of, TreeHolds, tree_part}
 use Rattle.txn_tree_map.specs.Trees.Tree.{Leaf, Node}
 use Rattle.txn_tree_map.specs.Paths.{Path, place_at_end, before_of, after_of, HangsAt}
-use Rattle.txn_tree_map.specs.Searches.{IsKeyOrName, IsOfTree, IsLink, IsPlace, IsPlaceOrKey, IsNamed, IsPassed, IsFoundAt}
-use Rattle.txn_tree_map.specs.Sums.{IsNear, IsFirstFrom}
+use Rattle.txn_tree_map.proofs.Searches.Passed.{IsPassed}
+use Rattle.txn_tree_map.specs.Searches.{IsKeyOrName, IsOfTree, IsLink, IsPlace, IsPlaceOrKey, IsNamed, IsFoundAt}
+use Rattle.txn_tree_map.proofs.Summed.{IsNear}
+use Rattle.txn_tree_map.specs.Sums.{IsFirstFrom}
 use Rattle.txn_tree_map.proofs.Held.Trees.{count_in, count_on}
 use Rattle.txn_tree_map.proofs.Held.Places.{at_tree, at_times, at_cells, at_used}
 use Rattle.txn_tree_map.proofs.Searches.SearchSteps.{IsNode, node_named, passed_node}

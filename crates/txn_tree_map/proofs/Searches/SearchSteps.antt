@@ -10,8 +10,10 @@ use Rattle.txn_alloc.proofs.Maps.Cells.{all_append, all_first, all_last}
 use Rattle.txn_tree_map.specs.declared.map.TreeMap.{TreeMap}
 use Rattle.txn_tree_map.specs.Trees.{Tree, priority_of, name_of, rank_of, cells_of, IsSpelled, IsAbove, IsRising, TreeHolds}
 use Rattle.txn_tree_map.specs.Trees.Tree.{Leaf, Node}
-use Rattle.txn_tree_map.specs.Paths.{Step, Path, whole_of, before_of, after_of, IsHigh, IsBelow, HangsAt}
-use Rattle.txn_tree_map.specs.Searches.{HasTop, IsNamed, IsPassed, IsFoundAt, IsMissing}
+use Rattle.txn_tree_map.proofs.Plugs.{whole_of}
+use Rattle.txn_tree_map.specs.Paths.{Step, Path, before_of, after_of, IsHigh, IsBelow, HangsAt}
+use Rattle.txn_tree_map.proofs.Searches.Passed.{IsPassed}
+use Rattle.txn_tree_map.specs.Searches.{HasTop, IsNamed, IsFoundAt, IsMissing}
 use Rattle.txn_tree_map.proofs.Held.Rising.{above_more, below_more, rising_below, rising_above, value_there, value_between}
 use Rattle.txn_tree_map.proofs.Held.Places.{at_step, at_room, at_name, at_value}
 
@@ -86,7 +88,7 @@ node_order path l r c h =
       after = all_last (λ d. c.key < d.key) (cells_of r) ys above;
     }
 
--- the cells around a child, where the key is on its side of the node
+-- the cells around a child, if the key is on its side of the node
 pub low_down : (left : Bool) (key : ℕ) (path : Path) (l r : Tree) (c : Cell) → IsBelow key (before_of path)
     → IsBelow c.key (cells_of l) → (left ≡ false → c.key < key) → IsBelow key (before_of (step_down left l c r ∷ path))
 low_down true key path l r c low order side = all_append (λ d. d.key < key) (before_of path) [] low tt

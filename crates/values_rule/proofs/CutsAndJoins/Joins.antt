@@ -241,7 +241,7 @@ module _ (good : List ℕ → Type 0) (n : ℕ) (base ws : List ℕ) (vs : List 
   not_attempt : {A : Type 0} (z : View) → z.phase ≡ Idle → is_attempt z.phase ≡ true → A
   not_attempt z e t = absurd (let f : true ≡ false = sym t ∙ ap is_attempt e in cc)
 
-  -- where the view is in an attempt, it stands as it was
+  -- if the view is in an attempt, it stands as it was
   attempt_stands : (other : ℕ) (z : View) → Knows vs' other z → is_attempt z.phase ≡ true → Knows vs other z
   attempt_stands other z k busy = ⊎_elim (λ t. not_attempt z (idle_spent z t) busy)
       (λ t. ⊎_elim (λ c. not_attempt z (idle_y z c.1) busy) (λ c. c) t) (case other z k)

@@ -1,4 +1,4 @@
--- The items where no entry and no attempt comes, and where a call is given up.
+-- The items if no entry and no attempt comes, and if a call is given up.
 use Rattle.std.proofs.Common.{◌≡◌, ◌≢◌, ℕ, Bool, true, false, ◌||◌, ◌&&◌, not, ◌⊎◌, inl, inr, ⊎_elim, List, [], ◌∷◌, slice_set, refl, sym, ap, ◌∙◌, subst}
 use Rattle.std.proofs.Common.{arith, eq-eqb, ne_eqb}
 use Rattle.std.specs.Prelude.{◌==◌}

@@ -21,7 +21,7 @@ use Rattle.history_model.specs.Views.{HasWriteGrant, IsGranted}
 use Rattle.history_model.proofs.Items.ItemDrops.{drops_agree, drops_arranged, drops_values}
 use Rattle.history_model.proofs.Views.Places.{same_view, put_here, put_there, put_cases}
 use Rattle.locks_rule.specs.Locks.{IsSeat}
-use Rattle.values_rule.specs.Values.{value_at, oldest, UndoRestores, TraceCurrent}
+use Rattle.values_rule.specs.Values.{table_value, oldest, UndoRestores, TraceCurrent}
 use Rattle.values_rule.specs.History.{last_call, items_of, next_version, now_of}
 use Rattle.values_rule.specs.Records.{IsRecorded, Knew, RecordsClosed, CallsCounted}
 use Rattle.values_rule.specs.Versions.{ItemsArranged}
@@ -147,7 +147,7 @@ module _ (vs : List View) (id : ℕ) (v w : View) (me : Knows vs id v) (seen : w
       unjoined u same un = sym joined ∙ ap (λ (y : View). y.joined) same ∙ un
 
   -- values: no value changes, and what is noted and what the attempt did stay as long as it goes on
-  pub memory_same : (n : ℕ) (base now ws ws' : List ℕ) → ((a : ℕ) → value_at n ws' a ≡ value_at n ws a) → w.undo ≡ v.undo → w.trace ≡ v.trace
+  pub memory_same : (n : ℕ) (base now ws ws' : List ℕ) → ((a : ℕ) → table_value n ws' a ≡ table_value n ws a) → w.undo ≡ v.undo → w.trace ≡ v.trace
       → (is_attempt w.phase ≡ true → is_attempt v.phase ≡ true)
       → (w.phase ≡ Running → v.phase ≡ Running) → ((w.phase ≡ Idle) ⊎ (w.phase ≡ Releasing) → w.undo ≡ [])
       → ((k : ℕ) → HasWriteGrant v k → HasWriteGrant w k) → ((k : ℕ) → IsGranted v k → IsGranted w k)

@@ -19,7 +19,7 @@ use Rattle.history_model.proofs.Traces.LastEvents.{touched_by_last}
 use Rattle.history_model.proofs.Views.Places.{same_view, put_here, put_there, put_cases}
 use Rattle.history_model.proofs.SetLemmas.{has-join_same}
 use Rattle.locks_rule.specs.Locks.{LocksHold, IsSeat}
-use Rattle.values_rule.specs.Values.{value_at, oldest, UndoRestores, TraceCurrent}
+use Rattle.values_rule.specs.Values.{table_value, oldest, UndoRestores, TraceCurrent}
 use Rattle.values_rule.proofs.Traces.{UndoMoves, TraceMoves}
 use Rattle.values_rule.proofs.Phases.{attempt_runs}
 use Rattle.values_rule.proofs.Stores.{shut_out}
@@ -30,7 +30,7 @@ use Rattle.values_rule.proofs.Parts.Asides.{OwnAttempt, aside_drops}
 use Rattle.values_rule.proofs.Parts.Frames.{records_same, items_kept, now_kept}
 use Rattle.values_rule.proofs.Told.Owing.{owed_same}
 
--- uses and what is owed, where these are the versions
+-- uses and what is owed, if these are the versions
 pub record UsesMove (ws : List ℕ) (version : ℕ → ℕ) (v w : View) : Type 0 where
   pub owed : (k : ℕ) → has k w.owed ≡ has k v.owed
   pub held : (k y : ℕ) → has k w.owed ≡ true → (v.phase ≡ Releasing) × HasWriteGrant v k × IsIn (k, y) v.uses
@@ -98,13 +98,14 @@ module _ (good : List ℕ → Type 0) (n : ℕ) (base ws ws' : List ℕ) (vs : L
         (d.0, subst (λ (x : View). HasWriteGrant x (lock_of_word a)) z.1 d.1, d.2))
         (λ z. q.undo.noted other a o u z.1 t) (case other u k);
     unnoted = λ a lt free. ⊎_elim
-        (λ (z : (oldest a v.undo ≡ None) × (value_at n ws' a ≡ value_at n ws a)). q.undo.unnoted a lt (was_free a z.0 free) ∙ ap (λ (x : ℕ). Some x) (sym z.1))
+        (λ (z : (oldest a v.undo ≡ None) × (table_value n ws' a ≡ table_value n ws a)). q.undo.unnoted a lt (was_free a z.0 free)
+        ∙ ap (λ (x : ℕ). Some x) (sym z.1))
         (λ z. z) (undo.unnoted a lt (free id w (put_here vs id v w me)));
   }
 
   -- a word of another running seat stays
   others_value : (other a x : ℕ) (u : View) → other ≢ id → Knows vs other u → u.phase ≡ Running
-      → (a < length base) × IsGranted u (lock_of_word a) → value_at n ws a ≡ x → value_at n ws' a ≡ x
+      → (a < length base) × IsGranted u (lock_of_word a) → table_value n ws a ≡ x → table_value n ws' a ≡ x
   others_value other a x u ne k runs g is =
       let single = q.calls.callers_alone other u k (λ idle. let z : Running ≡ Idle = sym runs ∙ idle in cc) in
       let seat : IsSeat vs other u single.0 = record {

@@ -12,7 +12,7 @@ use Rattle.history_model.specs.Undoing.{Notes}
 use Rattle.history_model.proofs.Views.Places.{put_cases}
 use Rattle.history_model.proofs.SetLemmas.{has-nil, has-one, differ, not_true}
 use Rattle.locks_rule.proofs.Own.{own}
-use Rattle.values_rule.specs.Values.{value_at, oldest}
+use Rattle.values_rule.specs.Values.{table_value, oldest}
 use Rattle.values_rule.proofs.Members.{none_in}
 use Rattle.values_rule.proofs.Notes.{oldest-nil}
 use Rattle.values_rule.proofs.Traces.{fresh_trace}
@@ -39,7 +39,8 @@ begin_call_values good j n base ws vs id v h q me may =
     ap (λ (m : ℕ). slice_index (slice_set ws m x) (calls_word n j)) same ∙ get_or-set_same ws (calls_word n j) x 0 (omega arith)) in
     let there : (l : ℕ) → l ≢ j → slice_index ws' (calls_word n l) ≡ slice_index ws (calls_word n l) =
     λ l ne. get_or-set_other ws i (calls_word n l) x 0 (λ e. ne (omega arith)) in
-    let value_stays : (a : ℕ) → value_at n ws' a ≡ value_at n ws a = λ a. get_or-set_other ws i (value_word n a) x 0 (λ e. omega (arith, o.seats, o.below)) in
+    let value_stays : (a : ℕ) → table_value n ws' a ≡ table_value n ws a = λ a. get_or-set_other ws i (value_word n a) x 0
+    (λ e. omega (arith, o.seats, o.below)) in
     let commit_stays : (l : ℕ) → slice_index ws' (commits_word n l) ≡ slice_index ws (commits_word n l) =
     λ l. get_or-set_other ws i (commits_word n l) x 0 (λ e. omega (arith, o.seats, o.below)) in
     let one : (l : ℕ) (u : View) → w ≡ u → has l u.who ≡ true

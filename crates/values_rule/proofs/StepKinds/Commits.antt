@@ -27,7 +27,7 @@ use Rattle.history_model.proofs.Views.Places.{same_view, put_here, put_there, pu
 use Rattle.history_model.proofs.SetLemmas.{differ, has-join_same, has-nil}
 use Rattle.history_model.proofs.Traces.TraceAgree.{legal_agree}
 use Rattle.locks_rule.specs.Locks.{LocksHold, IsSeat}
-use Rattle.values_rule.specs.Values.{value_at, oldest, UndoRestores, TraceCurrent}
+use Rattle.values_rule.specs.Values.{table_value, oldest, UndoRestores, TraceCurrent}
 use Rattle.values_rule.proofs.Notes.{oldest-nil, option_cases, is_missing}
 use Rattle.values_rule.proofs.Stores.{shut_out}
 use Rattle.locks_rule.specs.Versions.{writes_lock, locks_of}
@@ -80,7 +80,7 @@ module _ (good : List ℕ → Type 0) (n : ℕ) (base ws : List ℕ) (vs : List 
   here : Knows vs' id w
   here = put_here vs id v w me
 
-  value_stays : (a : ℕ) → value_at n ws' a ≡ value_at n ws a
+  value_stays : (a : ℕ) → table_value n ws' a ≡ table_value n ws a
   value_stays = Recording.value_stays good n base ws vs id j kept v h q me may
 
   version_stays : (k : ℕ) → version_at n ws' k ≡ version_at n ws k
@@ -294,7 +294,7 @@ module _ (good : List ℕ → Type 0) (n : ℕ) (base ws : List ℕ) (vs : List 
       ∙ (ap (λ (l : Notes). oldest a l) (sym (q.trace.rested other u k (inl idle))) ∙ t) in cc
 
   unnoted_by : (b : Bool) (a : ℕ) → kept ≡ b → a < length base → ((other : ℕ) (u : View) → Knows vs' other u → oldest a u.undo ≡ None)
-      → slice_get (if b then after v.trace now else now) a ≡ Some (value_at n ws a)
+      → slice_get (if b then after v.trace now else now) a ≡ Some (table_value n ws a)
   unnoted_by false a k lt free = q.undo.unnoted a lt (λ other u z. dite (ℕ_discrete other id)
       (λ same. subst (λ (x : View). oldest a x.undo ≡ None) (sym (same_view vs id other v u me z same))
       (ap (λ (l : Notes). oldest a l) (may.undone k) ∙ oldest-nil a))

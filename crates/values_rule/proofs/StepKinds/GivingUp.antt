@@ -14,7 +14,7 @@ use Rattle.locks_rule.specs.Locks.{LocksHold}
 use Rattle.values_rule.specs.Values.{oldest, UndoRestores, TraceCurrent}
 use Rattle.values_rule.proofs.Notes.{oldest-nil}
 use Rattle.values_rule.specs.History.{owed_by, next_version, now_of}
-use Rattle.values_rule.specs.Keeping.{GivesUp, SameWords, GivingUpKeeps}
+use Rattle.values_rule.specs.Keeping.{GivesUp, SameValueWords, GivingUpKeeps}
 use Rattle.values_rule.specs.Records.{AreCauses}
 use Rattle.values_rule.specs.Versions.{ValuesHold}
 use Rattle.values_rule.proofs.Parts.Asides.{is_kept, entries_stay, giving_up_drops}
@@ -25,7 +25,7 @@ use Rattle.values_rule.proofs.Told.Owing.{owed_same}
 
 module _ (good : List ℕ → Type 0) (n : ℕ) (base ws ws' : List ℕ) (vs : List View) (id j : ℕ) (v w : View)
     (h : LocksHold n base ws vs) (q : ValuesHold good n base ws vs) (me : Knows vs id v) (single : v.who ≡ j ∷ []) (opened : is_open v.phase ≡ true)
-    (g : GivesUp v w) (s : SameWords n ws ws') where
+    (g : GivesUp v w) (s : SameValueWords n ws ws') where
   abbrev vs' : List View
   vs' = slice_set vs id w
 

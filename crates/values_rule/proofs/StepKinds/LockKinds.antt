@@ -20,7 +20,7 @@ use Rattle.locks_rule.specs.Steps.{scan_row_action, release_writer_action}
 use Rattle.locks_rule.proofs.Asides.{picked}
 use Rattle.locks_rule.proofs.Own.{own, lock_near}
 use Rattle.values_rule.specs.Steps.{clear_stamp_action, MayClearStamp}
-use Rattle.values_rule.specs.Keeping.{KeepsValueRule, SameValues, SameWords}
+use Rattle.values_rule.specs.Keeping.{KeepsValueRule, SameValues, SameValueWords}
 use Rattle.locks_rule.specs.Versions.{MayReleaseUnowed}
 use Rattle.values_rule.specs.Versions.{ValuesHold}
 use Rattle.values_rule.proofs.Phases.{attempt_open}
@@ -30,7 +30,7 @@ use Rattle.values_rule.proofs.StepKinds.Quiet.{quiet_values}
 use Rattle.values_rule.proofs.StepKinds.Same.{aside_values}
 
 -- a store to a word between those of CALLS and those of COMMITS
-words_stay : (n : ℕ) (ws : List ℕ) (i x : ℕ) → stamps_word n 0 ≤ i → i < commits_word n 0 → SameWords n ws (slice_set ws i x)
+words_stay : (n : ℕ) (ws : List ℕ) (i x : ℕ) → stamps_word n 0 ≤ i → i < commits_word n 0 → SameValueWords n ws (slice_set ws i x)
 words_stay n ws i x from to = record {
   serial = get_or-set_other ws i 0 x 0 (λ e. omega arith);
   calls = λ j lt. get_or-set_other ws i (calls_word n j) x 0 (λ e. omega arith);
@@ -39,10 +39,10 @@ words_stay n ws i x from to = record {
   values = λ a. get_or-set_other ws i (value_word n a) x 0 (λ e. omega arith);
 }
 
-row_stays : (n m j k : ℕ) (ws : List ℕ) (x : ℕ) → m ≡ n → j < n → k < LOCKS → SameWords n ws (slice_set ws (row_word m j k) x)
+row_stays : (n m j k : ℕ) (ws : List ℕ) (x : ℕ) → m ≡ n → j < n → k < LOCKS → SameValueWords n ws (slice_set ws (row_word m j k) x)
 row_stays n m j k ws x e below near = words_stay n ws (row_word m j k) x (omega arith) (omega arith)
 
-writer_stays : (n m k : ℕ) (ws : List ℕ) (x : ℕ) → m ≡ n → k < LOCKS → SameWords n ws (slice_set ws (writer_word m k) x)
+writer_stays : (n m k : ℕ) (ws : List ℕ) (x : ℕ) → m ≡ n → k < LOCKS → SameValueWords n ws (slice_set ws (writer_word m k) x)
 writer_stays n m k ws x e near = words_stay n ws (writer_word m k) x (omega arith) (omega arith)
 
 -- the seat has the locks that it had, and maybe more
@@ -150,7 +150,7 @@ record Releases (v w : View) : Type 0 where
 
 module _ (good : List ℕ → Type 0) (n : ℕ) (base ws ws' : List ℕ) (vs : List View) (id j : ℕ) (v w : View)
     (h : LocksHold n base ws vs) (q : ValuesHold good n base ws vs) (me : Knows vs id v) (single : v.who ≡ j ∷ [])
-    (may : MayRelease v) (r : Releases v w) (words : SameWords n ws ws') where
+    (may : MayRelease v) (r : Releases v w) (words : SameValueWords n ws ws') where
   nothing_noted : v.undo ≡ []
   nothing_noted = ⊎_elim (λ t. t) (λ t. q.trace.rested id v me (inr t)) may.undone
 
@@ -253,7 +253,7 @@ pub clear_stamp_values : (good : List ℕ → Type 0) (j : ℕ) → KeepsValueRu
 clear_stamp_values good j n base ws vs id v h q me may =
     let o = own n base ws vs id j v h me may.who in
     let w : View = record v { phase = Idle; stamp = 0; announced = false } in
-    let words : SameWords n ws (slice_set ws (stamps_word v.seats j) 0) =
+    let words : SameValueWords n ws (slice_set ws (stamps_word v.seats j) 0) =
     words_stay n ws (stamps_word v.seats j) 0 (omega (arith, o.seats)) (omega (arith, o.seats, o.below)) in
     ⊎_elim
     (λ attempts. giving_up_values good n base ws (slice_set ws (stamps_word v.seats j) 0) vs id j v w h q me may.who

@@ -15,7 +15,7 @@ use Rattle.values_rule.proofs.Members.{none_in}
 use Rattle.values_rule.proofs.Notes.{oldest-nil}
 use Rattle.values_rule.proofs.Traces.{fresh_trace}
 use Rattle.values_rule.specs.History.{now_of}
-use Rattle.values_rule.specs.Keeping.{IsQuiet, SameWords, QuietKeeps, RestartKeeps}
+use Rattle.values_rule.specs.Keeping.{IsQuiet, SameValueWords, QuietKeeps, RestartKeeps}
 use Rattle.values_rule.specs.Records.{AreCauses}
 use Rattle.values_rule.specs.Versions.{ValuesHold}
 use Rattle.values_rule.proofs.Told.Excludes.{not_released}
@@ -25,7 +25,7 @@ use Rattle.values_rule.proofs.Parts.Moves.{moves}
 use Rattle.values_rule.proofs.StepKinds.Same.{same_attempt}
 
 module _ (good : List ℕ → Type 0) (n : ℕ) (base ws ws' : List ℕ) (vs : List View) (id : ℕ) (v w : View)
-    (h : LocksHold n base ws vs) (q : ValuesHold good n base ws vs) (me : Knows vs id v) (s : IsQuiet v w) (words : SameWords n ws ws') where
+    (h : LocksHold n base ws vs) (q : ValuesHold good n base ws vs) (me : Knows vs id v) (s : IsQuiet v w) (words : SameValueWords n ws ws') where
   no_attempt : {A : Type 0} → is_attempt w.phase ≡ true → A
   no_attempt t = absurd (let z : true ≡ false = sym t ∙ s.over in cc)
 

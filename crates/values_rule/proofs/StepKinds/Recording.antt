@@ -16,7 +16,7 @@ use Rattle.history_model.proofs.ListPlaces.{get_cases}
 use Rattle.history_model.proofs.Views.Places.{same_view, put_here, put_there, put_cases}
 use Rattle.locks_rule.specs.Locks.{LocksHold, IsSeat}
 use Rattle.locks_rule.proofs.Own.{Own, is_own}
-use Rattle.values_rule.specs.Values.{value_at}
+use Rattle.values_rule.specs.Values.{table_value}
 use Rattle.values_rule.proofs.Members.{in_join, none_in, in_first, in_second}
 use Rattle.values_rule.specs.History.{last_call, item_of_entry, version_at}
 use Rattle.values_rule.specs.Records.{IsRecorded, Knew, KnewSoMany, AreCauses, RecordsClosed, CallsCounted}
@@ -76,7 +76,7 @@ module _ (good : List ℕ → Type 0) (n : ℕ) (base ws : List ℕ) (vs : List 
   here = put_here vs id v w me
 
   -- words
-  pub value_stays : (a : ℕ) → value_at n ws' a ≡ value_at n ws a
+  pub value_stays : (a : ℕ) → table_value n ws' a ≡ table_value n ws a
   value_stays a = get_or-set_other ws (commits_word v.seats j) (value_word n a) v.call 0 (λ z. omega (arith, own_.seats, own_.below))
 
   pub version_stays : (k : ℕ) → version_at n ws' k ≡ version_at n ws k

@@ -17,7 +17,7 @@ use Rattle.history_model.specs.Views.{number}
 use Rattle.locks_rule.specs.Locks.{LocksHold}
 use Rattle.values_rule.specs.Values.{oldest}
 use Rattle.values_rule.specs.History.{knew_of, item_of_attempt, now_of}
-use Rattle.values_rule.specs.Keeping.{SameValues, SameWords, AsideKeeps}
+use Rattle.values_rule.specs.Keeping.{SameValues, SameValueWords, AsideKeeps}
 use Rattle.values_rule.specs.Records.{AreCauses}
 use Rattle.values_rule.specs.Versions.{ValuesHold}
 use Rattle.values_rule.proofs.Parts.Asides.{OwnAttempt}
@@ -45,7 +45,7 @@ causes_later n j stamp later floor attempts le c = record {
 }
 
 module _ (good : List ℕ → Type 0) (n : ℕ) (base ws ws' : List ℕ) (vs : List View) (id : ℕ) (v w : View)
-    (h : LocksHold n base ws vs) (q : ValuesHold good n base ws vs) (me : Knows vs id v) (s : SameValues v w) (words : SameWords n ws ws') where
+    (h : LocksHold n base ws vs) (q : ValuesHold good n base ws vs) (me : Knows vs id v) (s : SameValues v w) (words : SameValueWords n ws ws') where
   went : is_attempt w.phase ≡ true → is_attempt v.phase ≡ true
   went t = ap is_attempt (sym s.phase) ∙ t
 

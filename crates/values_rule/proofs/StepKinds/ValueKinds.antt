@@ -25,7 +25,7 @@ use Rattle.locks_rule.specs.Locks.{LocksHold}
 use Rattle.locks_rule.proofs.Own.{own}
 use Rattle.values_rule.specs.Steps.{load_value_action, store_value_action, known_value, undo_store_action, undoing_phase, MayLoadValue, MayStoreValue}
 use Rattle.values_rule.specs.Steps.{MayUndoStore}
-use Rattle.values_rule.specs.Values.{value_at, oldest}
+use Rattle.values_rule.specs.Values.{table_value, oldest}
 use Rattle.values_rule.proofs.Notes.{option_cases, is_missing, oldest_more, oldest_first, oldest_one, oldest_other, oldest_apart, older_is}
 use Rattle.values_rule.proofs.Stores.{shut_out, in_base, set_here, set_there, not_none}
 use Rattle.values_rule.proofs.Phases.{undoing_attempt, undoing_open, undoing_runs, undoing_rests, open_begun}
@@ -62,12 +62,12 @@ load_value_values good j a n base ws vs id v h q me may =
     let w : View = record v { trace = v.trace ++ Read a x ∷ [] } in
     let ws' : List ℕ = slice_set ws i x in
     let within : a < length base = in_base n base ws vs id j v h o a x may.word in
-    let is_x : x ≡ value_at n ws a = ap (λ (m : ℕ). slice_index ws (value_word m a)) o.seats in
+    let is_x : x ≡ table_value n ws a = ap (λ (m : ℕ). slice_index ws (value_word m a)) o.seats in
     let found : slice_get (after v.trace (now_of n base ws vs)) a ≡ Some x =
     current good n base ws vs id j v h q me may.who may.phase a within may.granted ∙ ap (λ (y : ℕ). Some y) (sym is_x) in
     let busy : is_attempt v.phase ≡ true = ap is_attempt may.phase in
-    let same : (b : ℕ) → value_at n ws' b ≡ value_at n ws b = λ b. dite (ℕ_discrete b a)
-    (λ e. subst (λ (c : ℕ). value_at n ws' c ≡ value_at n ws c) (sym e) (set_here n base ws vs id j v h o a x may.word ∙ is_x))
+    let same : (b : ℕ) → table_value n ws' b ≡ table_value n ws b = λ b. dite (ℕ_discrete b a)
+    (λ e. subst (λ (c : ℕ). table_value n ws' c ≡ table_value n ws c) (sym e) (set_here n base ws vs id j v h o a x may.word ∙ is_x))
     (λ ne. set_there n base ws vs id j v h o a x may.word b ne) in
     moves good n base ws ws' vs id v w h q me
     (record {
@@ -103,7 +103,7 @@ load_value_values good j a n base ws vs id v h q me may =
       undo_written = λ b y t k. writes_first v.trace (Read a x ∷ []) b (q.trace.undo_written id b y v me busy k);
       written_noted = λ b t k. q.trace.written_noted id b v me may.phase (writes_read v.trace a x b k);
       last_stands = λ b y t k. same b ∙ dite (ℕ_discrete b a)
-          (λ e. ap (λ (c : ℕ). value_at n ws c) e ∙ (sym is_x ∙ same_Some x y (sym (last_read_same v.trace a x b e) ∙ k)))
+          (λ e. ap (λ (c : ℕ). table_value n ws c) e ∙ (sym is_x ∙ same_Some x y (sym (last_read_same v.trace a x b e) ∙ k)))
           (λ ne. q.trace.last_stands id b y v me may.phase (sym (last_read_other v.trace a x b ne) ∙ k));
       rested = λ t. q.trace.rested id v me t;
     })
@@ -117,12 +117,12 @@ store_value_values good j a x n base ws vs id v h q me may =
     let ws' : List ℕ = slice_set ws i x in
     let within : a < length base = in_base n base ws vs id j v h o a x may.word in
     let busy : is_attempt v.phase ≡ true = ap is_attempt may.phase in
-    let here : value_at n ws' a ≡ x = set_here n base ws vs id j v h o a x may.word in
-    let there : (b : ℕ) → b ≢ a → value_at n ws' b ≡ value_at n ws b = set_there n base ws vs id j v h o a x may.word in
+    let here : table_value n ws' a ≡ x = set_here n base ws vs id j v h o a x may.word in
+    let there : (b : ℕ) → b ≢ a → table_value n ws' b ≡ table_value n ws b = set_there n base ws vs id j v h o a x may.word in
     let last : value_after v.trace a None ≡ Some may.read.1 = ap (λ (t : Trace). value_after t a None) may.read.2
     ∙ last_read_same may.read.0 a may.read.1 a refl in
     let is_old : old ≡ may.read.1 = ap (λ (y : Option ℕ). unwrap_or y 0) last in
-    let stands : value_at n ws a ≡ old = q.trace.last_stands id a may.read.1 v me may.phase last ∙ sym is_old in
+    let stands : table_value n ws a ≡ old = q.trace.last_stands id a may.read.1 v me may.phase last ∙ sym is_old in
     moves good n base ws ws' vs id v w h q me
     (record {
       serial = get_or-set_other ws i serial_word x 0 (λ e. omega arith);
@@ -182,7 +182,7 @@ store_value_values good j a x n base ws vs id v h q me may =
           (λ (some : (z : ℕ) × (oldest b v.undo ≡ Some z)). subst (λ (y : Option ℕ). IsSome y) (sym (oldest_more b v.undo ((a, old) ∷ []) some.0 some.1)) refl)
           (option_cases (oldest b v.undo));
       last_stands = λ b y t k. dite (ℕ_discrete b a)
-          (λ e. ap (λ (c : ℕ). value_at n ws' c) e ∙ (here ∙ same_Some x y (sym (last_write_same v.trace a x b e) ∙ k)))
+          (λ e. ap (λ (c : ℕ). table_value n ws' c) e ∙ (here ∙ same_Some x y (sym (last_write_same v.trace a x b e) ∙ k)))
           (λ ne. there b ne ∙ q.trace.last_stands id b y v me may.phase (sym (last_write_other v.trace a x b ne) ∙ k));
       rested = λ t. absurd (⊎_elim (λ e. let z : Running ≡ Idle = sym may.phase ∙ e in cc) (λ e. let z : Running ≡ Releasing = sym may.phase ∙ e in cc) t);
     })
@@ -210,8 +210,8 @@ undo_store_values good j a old n base ws vs id v h q me may =
     (option_cases (oldest a older)) in
     let noted = q.undo.noted id a some.0 v me some.1 in
     let word : a < length v.base = subst (λ (l : List ℕ). a < length l) (sym (h.bases_alike id j v o.seat)) noted.0 in
-    let here : value_at n ws' a ≡ old = set_here n base ws vs id j v h o a old word in
-    let there : (b : ℕ) → b ≢ a → value_at n ws' b ≡ value_at n ws b = set_there n base ws vs id j v h o a old word in
+    let here : table_value n ws' a ≡ old = set_here n base ws vs id j v h o a old word in
+    let there : (b : ℕ) → b ≢ a → table_value n ws' b ≡ table_value n ws b = set_there n base ws vs id j v h o a old word in
     let still : (b y : ℕ) → oldest b w.undo ≡ Some y → oldest b v.undo ≡ Some y = λ b y t.
     ap (λ (l : Notes). oldest b l) split ∙ oldest_more b older ((a, old) ∷ []) y (ap (λ (l : Notes). oldest b l) (sym less) ∙ t) in
     moves good n base ws ws' vs id v w h q me
@@ -242,7 +242,7 @@ undo_store_values good j a old n base ws vs id v h q me may =
           dite (ℕ_discrete b a)
           (λ e. let was : oldest b v.undo ≡ Some old = ap (λ (l : Notes). oldest b l) split
           ∙ (oldest_first b older ((a, old) ∷ []) none ∙ oldest_one b a old e) in
-          inr ((q.undo.noted id b old v me was).2 ∙ ap (λ (y : ℕ). Some y) (sym (ap (λ (c : ℕ). value_at n ws' c) e ∙ here))))
+          inr ((q.undo.noted id b old v me was).2 ∙ ap (λ (y : ℕ). Some y) (sym (ap (λ (c : ℕ). table_value n ws' c) e ∙ here))))
           (λ ne. inl (ap (λ (l : Notes). oldest b l) split ∙ (oldest_apart b a old older ne ∙ none), there b ne));
       foreign = λ b lt away. there b (λ e. away (subst (λ (c : ℕ). HasWriteGrant v (lock_of_word c)) (sym e) noted.1));
     })

@@ -16,7 +16,7 @@ use Rattle.history_model.proofs.Views.Places.{same_view, put_here, put_there, pu
 use Rattle.history_model.proofs.SetLemmas.{differ, has-without_same, has-without_other, has-without}
 use Rattle.locks_rule.specs.Locks.{LocksHold}
 use Rattle.locks_rule.proofs.Own.{Own}
-use Rattle.values_rule.specs.Values.{value_at, UndoRestores, TraceCurrent}
+use Rattle.values_rule.specs.Values.{table_value, UndoRestores, TraceCurrent}
 use Rattle.values_rule.proofs.Stores.{shut_out}
 use Rattle.values_rule.specs.Records.{AreCauses}
 use Rattle.values_rule.specs.History.{version_at, items_of, owed_by, next_version, now_of}
@@ -99,7 +99,7 @@ module _ (good : List ℕ → Type 0) (n : ℕ) (base ws : List ℕ) (vs : List 
   now_is : now_of n base ws' vs' ≡ now_of n base ws vs
   now_is = now_kept good n base ws ws' vs vs' (λ z. true) (λ z m e. refl) drops current_is q.items
 
-  value_stays : (a : ℕ) → value_at n ws' a ≡ value_at n ws a
+  value_stays : (a : ℕ) → table_value n ws' a ≡ table_value n ws a
   value_stays a = let low = near in get_or-set_other ws (version_word v.seats k) (value_word n a) (x + 1) 0 (λ z. omega (arith, own_.seats))
 
   memory : UndoRestores n base (now_of n base ws vs) ws' vs' × TraceCurrent n base (now_of n base ws vs) ws' vs'

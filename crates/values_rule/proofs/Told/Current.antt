@@ -14,7 +14,7 @@ use Rattle.history_model.proofs.Traces.LastEvents.{get-after-value_after, last_f
 use Rattle.history_model.proofs.Views.Places.{same_view}
 use Rattle.history_model.proofs.SetLemmas.{has-join_same}
 use Rattle.locks_rule.specs.Locks.{LocksHold}
-use Rattle.values_rule.specs.Values.{value_at, oldest}
+use Rattle.values_rule.specs.Values.{table_value, oldest}
 use Rattle.values_rule.proofs.Notes.{option_cases, is_missing}
 use Rattle.values_rule.proofs.Stores.{shut_out}
 use Rattle.values_rule.proofs.Phases.{attempt_runs}
@@ -32,8 +32,8 @@ module _ (good : List ℕ → Type 0) (n : ℕ) (base ws : List ℕ) (vs : List 
       shut_out n base ws vs other id j (lock_of_word a) u v h (λ e. ne (sym e)) k
       (record { knows = me; named = subst (λ (l : List ℕ). has j l ≡ true) (sym single) (has-join_same j []) }) granted c.1
 
-  -- where the attempt has no event on the word, nobody has noted it
-  pub untouched_stands : value_after v.trace a None ≡ None → slice_get (now_of n base ws vs) a ≡ Some (value_at n ws a)
+  -- if the attempt has no event on the word, nobody has noted it
+  pub untouched_stands : value_after v.trace a None ≡ None → slice_get (now_of n base ws vs) a ≡ Some (table_value n ws a)
   untouched_stands none = q.undo.unnoted a within (λ other u k. ⊎_elim
       (λ (t : oldest a u.undo ≡ None). t)
       (λ (t : (o : ℕ) × (oldest a u.undo ≡ Some o)). absurd (dite (ℕ_discrete other id)
@@ -44,7 +44,7 @@ module _ (good : List ℕ → Type 0) (n : ℕ) (base ws : List ℕ) (vs : List 
       (option_cases (oldest a u.undo)))
 
   -- the word stands as the attempt's trace leaves it of the newest values
-  pub current : slice_get (after v.trace (now_of n base ws vs)) a ≡ Some (value_at n ws a)
+  pub current : slice_get (after v.trace (now_of n base ws vs)) a ≡ Some (table_value n ws a)
   current =
       let long : length (now_of n base ws vs) ≡ length base = length-newest base (items_of vs) (next_version n ws vs) in
       let is = get-after-value_after v.trace (now_of n base ws vs) a (q.trace.legal id v me (attempt_runs v runs)) (omega arith) in

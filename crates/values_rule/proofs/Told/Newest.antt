@@ -46,7 +46,7 @@ pub newest_same : (base : List ℕ) (items more : List Item) (next raised : ℕ 
 newest_same base items more next raised same = newest_is base more raised (newest base items next) (length-newest base items next)
     (λ a lt. newest-at base items next a lt ∙ ap (λ (v : ℕ). Some v) (sym (same a)))
 
--- one item more did its writes, where it was kept
+-- one item more did its writes, if it was kept
 pub newest_moved : (base : List ℕ) (x : Item) (next raised : ℕ → ℕ) (items more : List Item) → WritesNewest base x next raised items more
     → newest base more raised ≡ (if x.kept then after x.trace (newest base items next) else newest base items next)
 newest_moved base x next raised items more moves = ⊎_elim

@@ -48,7 +48,7 @@ owed_same k vs vs' to from = ⊎_elim
 near_cases : (k : ℕ) → ((nat_lt k LOCKS ≡ true) × (k < LOCKS)) ⊎ ((nat_lt k LOCKS ≡ false) × (LOCKS ≤ k))
 near_cases k = dite (dec_lt k LOCKS) (λ l. inl (lt-ltb k LOCKS l, l)) (λ g. let far : LOCKS ≤ k = omega arith in inr (le-ltb k LOCKS far, far))
 
--- where the words of VERSIONS stay, so do the versions
+-- if the words of VERSIONS stay, so do the versions
 pub version_kept : (n : ℕ) (ws ws' : List ℕ) → ((k : ℕ) → k < LOCKS → slice_index ws' (version_word n k) ≡ slice_index ws (version_word n k))
     → (k : ℕ) → version_at n ws' k ≡ version_at n ws k
 version_kept n ws ws' stay k = ⊎_elim

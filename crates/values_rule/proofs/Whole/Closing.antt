@@ -18,7 +18,7 @@ use Rattle.history_model.proofs.Items.ItemOrders.{is_newest}
 use Rattle.history_model.proofs.Views.Places.{same_view}
 use Rattle.history_model.proofs.SetLemmas.{has-join_same}
 use Rattle.locks_rule.specs.Locks.{LocksHold, IsSeat}
-use Rattle.values_rule.specs.Values.{value_at, oldest}
+use Rattle.values_rule.specs.Values.{table_value, oldest}
 use Rattle.values_rule.proofs.Notes.{oldest-nil, option_cases}
 use Rattle.values_rule.specs.History.{version_at, items_of_entry, items_of, owed_by, next_version}
 use Rattle.values_rule.specs.Records.{IsRecorded}
@@ -90,7 +90,7 @@ module _ (good : List ℕ → Type 0) (n : ℕ) (base ws : List ℕ) (vs : List 
   )
 
   pub memory_is_left : (order : List Item) → IsArrangement (flat_map items_of_entry v.seen) order
-      → (a : ℕ) → a < length base → slice_get (replay_items base order) a ≡ Some (value_at n ws a)
+      → (a : ℕ) → a < length base → slice_get (replay_items base order) a ≡ Some (table_value n ws a)
   memory_is_left order arrangement a lt =
       is_newest good base (next_version n ws vs) (flat_map items_of_entry v.seen) order agree
       (arranged (flat_map items_of_entry v.seen) order arrangement) a lt

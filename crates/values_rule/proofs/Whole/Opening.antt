@@ -16,7 +16,7 @@ use Rattle.history_model.specs.Undoing.{Notes}
 use Rattle.history_model.proofs.Items.ItemValues.{value_at-first}
 use Rattle.history_model.proofs.SetLemmas.{differ, has-nil, bool_cases}
 use Rattle.locks_rule.specs.Locks.{LocksHold}
-use Rattle.values_rule.specs.Values.{value_at, oldest}
+use Rattle.values_rule.specs.Values.{table_value, oldest}
 use Rattle.values_rule.proofs.Members.{none_in}
 use Rattle.values_rule.proofs.Notes.{oldest-nil}
 use Rattle.values_rule.specs.History.{last_call, items_of, version_at, owed_by, next_version, now_of}
@@ -65,7 +65,7 @@ module _ (good : List ℕ → Type 0) (n : ℕ) (base ws : List ℕ) (vs : List 
   no_note : {A : Type 0} (id a o : ℕ) (v : View) → Knows vs id v → oldest a v.undo ≡ Some o → A
   no_note id a o v k s = absurd (let z : None ≡ Some o = sym (oldest-nil a) ∙ (ap (λ (l : Notes). oldest a l) (sym (t.unused id v k).undo) ∙ s) in cc)
 
-  now_is : (a : ℕ) → a < length base → slice_get (now_of n base ws vs) a ≡ Some (value_at n ws a)
+  now_is : (a : ℕ) → a < length base → slice_get (now_of n base ws vs) a ≡ Some (table_value n ws a)
   now_is a lt = newest-at base (items_of vs) (next_version n ws vs) a lt
       ∙ (ap (λ (m : ℕ). Some (value_by_version base (items_of vs) a m)) (current_none (lock_of_word a))
       ∙ (sym (value_at-first base (items_of vs) a lt) ∙ t.values a lt))

@@ -27,7 +27,7 @@ use Rattle.word_table.specs.Kinds.{TakenIn}
 use Rattle.locks_rule.specs.Locks.{LocksHold}
 use Rattle.word_table.proofs.Calls.Found.{StandsIn, claimant_found, reader_found}
 
--- the view once the own bit is set, where it was not
+-- the view once the own bit is set, if it was not
 pub with_bit_cases : (k a : ℕ) (v : View) (P : View → Type 0) → (HasBit v k → P v) → P ((set_read_bit_action (number v) k a v).view 0) → P (with_bit k a v)
 with_bit_cases k a v P kept set = ⊎_elim
     (λ t. subst (λ (b : Bool). P (if b then v else (set_read_bit_action (number v) k a v).view 0)) (sym t) (kept t))

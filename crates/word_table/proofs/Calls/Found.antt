@@ -38,7 +38,7 @@ module _ (n : ℕ) (base ws : List ℕ) (vs : List View) (id : ℕ) (v : View) (
   writer_small zero e few = omega arith
   writer_small (suc i) e few = let lt = (claimant_found (suc i) i e (omega arith)).0 in omega arith
 
-  -- and it is not the own number where the seat has no claim
+  -- and it is not the own number if the seat has no claim
   pub not_own_found : (w : ℕ) → slice_index ws (writer_word v.seats k) ≡ w → ¬ HasClaim v k → w ≢ j + 1
   not_own_found w e no_claim own = no_claim (own_word n base ws vs id v h me j k single near (writer_same n base ws vs id v h me j k single near ∙ (e ∙ own)))
 

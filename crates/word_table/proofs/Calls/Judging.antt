@@ -1,4 +1,4 @@
--- What judge comes to: it gives way exactly where the other seat shows an earlier timestamp, and the attempt's cause is that.
+-- What judge comes to: it gives way exactly if the other seat shows an earlier timestamp, and the attempt's cause is that.
 use Rattle.std.proofs.Common.{◌≡◌, ℕ, suc, ◌<◌, ◌≤◌, Bool, true, false, ◌&&◌, ◌⊎◌, inl, inr, ⊎_elim, List, Option, Some, None, nat_lt}
 use Rattle.std.proofs.Common.{if◌then◌else◌, refl, sym, ap, ◌∙◌, subst, arith}
 use Rattle.std.proofs.lemmas.Bool.Decides.{leb_tells}
@@ -36,7 +36,7 @@ shown_cases shown own = ⊎_elim
 yield_same : (a b : ℕ) → answer.Yield a ≡ answer.Yield b → a ≡ b
 yield_same a b e = cc
 
--- where it gives way, the cause is what was shown, and that is earlier
+-- if it gives way, the cause is what was shown, and that is earlier
 pub yield_due : (i shown own stamp : ℕ) → judged_of shown own ≡ answer.Yield stamp
     → (judged i shown own ≡ Some (record { seat = i; stamp = stamp })) × (shown ≡ stamp) × (0 < stamp) × (stamp < own)
 yield_due i shown own stamp e = ⊎_elim
@@ -49,7 +49,7 @@ yield_due i shown own stamp e = ⊎_elim
     (λ t. absurd (let z : answer.Wait ≡ answer.Yield stamp = sym (ap (λ (b : Bool). if b then answer.Yield shown else answer.Wait) t.0) ∙ e in cc))
     (shown_cases shown own)
 
--- and where it waits there is none
+-- and if it waits there is none
 pub wait_due : (i shown own : ℕ) → judged_of shown own ≡ answer.Wait → (judged i shown own ≡ None) × ((shown ≡ 0) ⊎ (own ≤ shown))
 wait_due i shown own e = ⊎_elim
     (λ t. absurd (let z : answer.Yield shown ≡ answer.Wait = sym (ap (λ (b : Bool). if b then answer.Yield shown else answer.Wait) t.0) ∙ e in cc))
@@ -82,7 +82,7 @@ module _ (good : List ℕ → Type 0) (n : ℕ) (base : List ℕ) (v : View) (i 
   abbrev passes : View
   passes = record v { met = without i v.met }
 
-  -- where it waits, that is all
+  -- if it waits, that is all
   pub judged_waits : r ≡ answer.Wait → w ≡ record v { met = without i v.met }
   judged_waits e = d.taken.view ∙ ap (λ (o : Option Cause). after_judgement o passes) (wait_due i d.found v.stamp (sym d.answer ∙ e)).0
 
@@ -93,7 +93,7 @@ module _ (good : List ℕ → Type 0) (n : ℕ) (base : List ℕ) (v : View) (i 
     earlier : (judged i d.found v.stamp ≡ Some cause) × (d.found ≡ stamp) × (0 < stamp) × (stamp < v.stamp)
     earlier = yield_due i d.found v.stamp stamp (sym d.answer ∙ e)
 
-    -- where it gives way, the attempt is abandoned with this cause
+    -- if it gives way, the attempt is abandoned with this cause
     gave_way : w ≡ after_giving_way cause (without i v.met) v
     gave_way = d.taken.view ∙ ap (λ (o : Option Cause). after_judgement o passes) earlier.0
 

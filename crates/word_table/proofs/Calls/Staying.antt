@@ -73,7 +73,7 @@ longer xs x e = let same : suc (length xs) ≡ length xs = ap (λ (l : List ℕ)
 longer_by_two : (xs : List ℕ) (x y : ℕ) → x ∷ (y ∷ xs) ≢ xs
 longer_by_two xs x y e = let same : suc (suc (length xs)) ≡ length xs = ap (λ (l : List ℕ). length l) e in omega arith
 
--- where share changed nothing, the lock was held
+-- if share changed nothing, the lock was held
 pub share_unchanged : (sound : List ℕ → List View → Type 0) (v : View) (a : ℕ) (r : Shared) (u : View)
     → SharedBy sound v a r u → u ≡ v → IsGranted v (lock_of_word a)
 share_unchanged sound v a r u (inl s) e = s.0
@@ -90,7 +90,7 @@ share_unchanged sound v a r u (inr t) e =
       | false ↦ λ same. longer_by_two v.asked a a (ap (λ (x : View). x.asked) same)
     ]) (sym s.taken.view ∙ e))
 
--- where claim changed nothing, the claim stood
+-- if claim changed nothing, the claim stood
 pub claim_unchanged : (sound : List ℕ → List View → Type 0) (v : View) (a : ℕ) (r : Claimed) (u : View)
     → ClaimedBy sound v a r u → u ≡ v → HasClaim v (lock_of_word a)
 claim_unchanged sound v a r u (inl s) e = s.0

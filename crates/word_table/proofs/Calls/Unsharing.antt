@@ -117,7 +117,7 @@ module _ (sound : List ℕ → List View → Type 0) where
     begun = d.begun;
   }
 
-  -- where no bit is left, all were cleared
+  -- if no bit is left, all were cleared
   pub clears_all : (first last : PassView) → ClearsMore sound first last → ((k : ℕ) → k < LOCKS → ¬ HasBit last.view k)
       → (last.steps ≡ first.steps + length (rising first.view.bits)) × ClearsEach sound (rising first.view.bits) first.view last.view
   unfolding ClearsEach

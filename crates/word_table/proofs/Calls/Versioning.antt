@@ -1,4 +1,4 @@
--- What a call finds of versions and pays: its first use of a lock, and the next version where that is owed.
+-- What a call finds of versions and pays: its first use of a lock, and the next version if that is owed.
 use Rattle.std.proofs.Common.{◌≡◌, ℕ, inl, inr, List, [], ◌∷◌, ◌++◌, sym, ap, ◌∙◌, subst}
 use Rattle.history_model.specs.declared.view.View.{View}
 use Rattle.history_model.specs.declared.event.Event.TheVariants.{Read}
@@ -6,7 +6,7 @@ use Rattle.history_model.specs.Locks.{lock_of_word}
 use Rattle.history_model.specs.Sets.{has}
 use Rattle.history_model.proofs.SetLemmas.{differ}
 use Rattle.word_table.specs.Calls.{FindsVersion, GainsUse, LoadedBy}
-use Rattle.word_table.specs.Versions.{HasUse, locks_found}
+use Rattle.word_table.specs.Versions.{HasUseOf, locks_found}
 use Rattle.word_table.proofs.Copied.VersionCopies.{this_found}
 
 module _ (sound : List ℕ → List View → Type 0) (k : ℕ) (old new : View) where
@@ -16,7 +16,7 @@ module _ (sound : List ℕ → List View → Type 0) (k : ℕ) (old new : View) 
   finds_view (inr t) = t.1.1.view ∙ ap (λ (u : View). record old { uses = u.uses }) (sym t.1.1.view)
 
   -- the lock has a use then
-  pub finds_used : FindsVersion sound k old new → HasUse new k
+  pub finds_used : FindsVersion sound k old new → HasUseOf new k
   finds_used (inl h) = ap (λ (u : View). has k (locks_found u.uses)) h.1 ∙ h.0
   finds_used (inr t) = ap (λ (u : View). has k (locks_found u.uses)) t.1.1.view ∙ this_found old.uses k t.1.0
 
@@ -31,7 +31,7 @@ module _ (sound : List ℕ → List View → Type 0) (k : ℕ) (old new : View) 
     gained = λ unused. (t.1.0, ap (λ (u : View). u.uses) t.1.1.view);
   }
 
--- a load is the version's, where that is the first use, and the value's
+-- a load is the version's, if that is the first use, and the value's
 module _ (sound : List ℕ → List View → Type 0) (a r : ℕ) (v w : View) (t : LoadedBy sound v a r w) where
   pub loaded_event : w ≡ record v { trace = v.trace ++ Read a r ∷ []; uses = w.uses }
   loaded_event =

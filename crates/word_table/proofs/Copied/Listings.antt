@@ -40,7 +40,7 @@ lowered_less w t near fits set = let small : 2 ^ t < 2 ^ 64 = pow_below t 64 nea
     ap (λ (m : ℕ). bit_and w (bit_not w64 m) + 2 ^ t) one
     ∙ (ap (λ (m : ℕ). m + 2 ^ t) (and_comm w (bit_not w64 (2 ^ t))) ∙ (ap (λ (m : ℕ). bit_and (bit_not w64 (2 ^ t)) w + m) (sym here) ∙ both))
 
--- a number that is 2 ^ t less, where that bit was set, has one bit less
+-- a number that is 2 ^ t less, if that bit was set, has one bit less
 ones_less : (t n m : ℕ) → bit_at n t ≡ 1 → m + 2 ^ t ≡ n → count_ones n ≡ count_ones m + 1
 ones_less zero n m set less = let low : n % 2 ≡ 1 = sym (bit_at_lowest n) ∙ set in
     let half : n / 2 ≡ m / 2 = omega arith in let even : m % 2 ≡ 0 = omega arith in

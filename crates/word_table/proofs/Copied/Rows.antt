@@ -151,7 +151,7 @@ least_at row locks from i w small some_bit fits agree low_clear before h =
           (cases_lt k (64 * i)),
     )
 
--- where the words before the end have none, there is none
+-- if the words before the end have none, there is none
 pub least_none : (row locks : List ℕ) (from m : ℕ) → 16 ≤ m → NoneBefore row from m → ShowsLocks row locks → (k : ℕ) → ¬ ((from ≤ k) × (has k locks ≡ true))
 least_none row locks from m end before h k it = let near : k < 1024 = h.near k it.1 in
     let set : bit_at (slice_index row (k / 64)) (k % 64) ≡ 1 = word_of_lock row locks k h it.1 in
@@ -171,7 +171,7 @@ none_more row from i before zeroed k le lt = ⊎_elim
     ap (λ (m : ℕ). bit_at (slice_index row m) (k % 64)) same ∙ no_bit (slice_index row i) (k % 64) zeroed)
     (cases_lt k (64 * i))
 
--- the least lock that has its bit in the word i, and none where the word is 0
+-- the least lock that has its bit in the word i, and none if the word is 0
 pub least_within : (row locks : List ℕ) (i : ℕ) → i < 16 → slice_index row i ≢ 0 → slice_index row i < 2 ^ 64 → ShowsLocks row locks
     → (((64 * i + trailing_zeros w64 (slice_index row i)) / 64 ≡ i) × (has (64 * i + trailing_zeros w64 (slice_index row i)) locks ≡ true))
     × ((k : ℕ) → k < 64 * i + trailing_zeros w64 (slice_index row i) → ¬ ((k / 64 ≡ i) × (has k locks ≡ true)))

@@ -203,7 +203,7 @@ module _ (copy : VersionCopy) (uses : List (ℕ × ℕ)) (owed : List ℕ) (trac
       (shows_same none [] owed (λ k. owes_none owed (i.open_owes_none opens) k ∙ sym (has-nil k)) shows)
       i.noted_used i.owed_used (λ t. i.open_owes_none opens)
 
-  -- the call gets its entry: what was written is owed where it is kept
+  -- the call gets its entry: what was written is owed if it is kept
   pub versions_committed : (kept : Bool) (written : List ℕ) → (kept ≡ true → phase ≡ Running)
       → ((locks : List ℕ) → ShowsLocks copy.written locks → ShowsLocks written (if kept then locks else []))
       → IsVersionCopy (record copy { written = written }) uses (if kept then locks_of undo else []) trace [] Releasing
@@ -337,7 +337,7 @@ module _ (copy : VersionCopy) (uses : List (ℕ × ℕ)) (owed : List ℕ) (trac
       (shows owed (subst (λ (p : Phase). ShowsLocks copy.written (written_or_owed p undo owed)) ends i.written_are)))
       i.noted_used (λ l t. i.owed_used l (has-without l k owed t).1) (λ t. absurd (let z : true ≡ false = sym t ∙ ap is_open ends in cc))
 
-  -- what the mark of a lock says, where nothing is left to undo or the call is over
+  -- what the mark of a lock says, if nothing is left to undo or the call is over
   pub marked_owed : (k : ℕ) → k < LOCKS → (b : Bool) → flag b ≡ bit_at (slice_index copy.written (k / 64)) (k % 64) → phase ≢ Idle
       → (undo ≡ []) ⊎ (phase ≡ Releasing) → b ≡ true → (phase ≡ Releasing) × (has k owed ≡ true)
   marked_owed k near b shown begun undone on = at phase refl

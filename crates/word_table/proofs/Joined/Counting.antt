@@ -37,7 +37,7 @@ stays_without zero (suc k) (y ∷ xs) x at off = (k, at)
 stays_without (suc n) zero (y ∷ xs) x at off = (zero, at)
 stays_without (suc n) (suc k) (y ∷ xs) x at off = let r = stays_without n k xs x at (λ e. off (ap suc e)) in (suc r.0, r.1)
 
--- where each has one of the other list, and no two the same, there are no more than there
+-- if each has one of the other list, and no two the same, there are no more than there
 pub no_more_than : {X Y : Type 0} (R : X → Y → Type 0) (xs : List X) (ys : List Y) → ((x : X) → IsIn x xs → (y : Y) × IsIn y ys × R x y)
     → AllPairs (λ x z. (y : Y) → R x y → R z y → ⊥) xs → length xs ≤ length ys
 no_more_than R [] ys some apart = omega arith

@@ -157,7 +157,7 @@ idle_or Yielding = inr (λ e. cc e)
 idle_or Withdrawing = inr (λ e. cc e)
 idle_or Releasing = inr (λ e. cc e)
 
--- where no view has a note, nothing is written back
+-- if no view has a note, nothing is written back
 undone_none : (vs : List View) (s : List ℕ) → ((id : ℕ) (u : View) → Knows vs id u → u.undo ≡ []) → undone_by vs s ≡ s
 unfolding undone_by written_back
 undone_none [] s none = refl

@@ -17,7 +17,7 @@ use Rattle.history_model.proofs.Views.Places.{put_here}
 use Rattle.locks_rule.specs.Actions.{Action, words_after, views_after}
 use Rattle.locks_rule.proofs.Asides.{picked}
 use Rattle.locks_rule.proofs.Own.{own}
-use Rattle.values_rule.specs.Keeping.{IsNewCause, SameValues, SameWords}
+use Rattle.values_rule.specs.Keeping.{IsNewCause, SameValues, SameValueWords}
 use Rattle.stamps_rule.specs.Causes.{past_causes}
 use Rattle.stamps_rule.specs.Stamps.{StampsHold}
 use Rattle.stamps_rule.specs.Steps.{MayDrawStamp, MayAnnounceStamp, MayJudgeStamp, MayLoadCauseStamp, draw_stamp_action, announce_stamp_action}
@@ -64,7 +64,7 @@ same_values v stamp announced draws met waits later = record {
 }
 
 -- the clock's word, or one of a timestamp
-words_stay : (n i x : ℕ) (ws : List ℕ) → 0 < i → (i < calls_word n 0) ⊎ (stamps_word n 0 ≤ i) → i < commits_word n 0 → SameWords n ws (slice_set ws i x)
+words_stay : (n i x : ℕ) (ws : List ℕ) → 0 < i → (i < calls_word n 0) ⊎ (stamps_word n 0 ≤ i) → i < commits_word n 0 → SameValueWords n ws (slice_set ws i x)
 words_stay n i x ws above away to = record {
   serial = get_or-set_other ws i 0 x 0 (λ e. omega arith);
   calls = λ j lt. get_or-set_other ws i (calls_word n j) x 0
@@ -75,8 +75,8 @@ words_stay n i x ws above away to = record {
 }
 
 -- a load changes no word
-same_words : (n i : ℕ) (ws : List ℕ) → SameWords n ws (slice_set ws i (slice_index ws i))
-same_words n i ws = subst (λ (l : List ℕ). SameWords n ws l) (sym (set-get_or ws i 0))
+same_words : (n i : ℕ) (ws : List ℕ) → SameValueWords n ws (slice_set ws i (slice_index ws i))
+same_words n i ws = subst (λ (l : List ℕ). SameValueWords n ws l) (sym (set-get_or ws i 0))
     (record { serial = refl; calls = λ j lt. refl; commits = λ j lt. refl; versions = λ k. refl; values = λ a. refl })
 
 pub draw_stamp_values : (good : List ℕ → Type 0) (j : ℕ) → ValuesStay good (MayDrawStamp j) (draw_stamp_action j)
@@ -96,7 +96,7 @@ announce_stamp_values good j n base ws vs id v s me may =
     (same_values v v.stamp true v.draws v.met v.waits (omega arith))
     (words_stay n (stamps_word v.seats j) v.stamp ws (omega arith) (inr (omega arith)) (omega arith))
 
--- where the timestamp invariant holds of a call that gave way to a cause, this was a new one
+-- if the timestamp invariant holds of a call that gave way to a cause, this was a new one
 new_cause : (good : List ℕ → Type 0) (n : ℕ) (base ws ws' : List ℕ) (vs : List View) (id j : ℕ) (v : View) (c : Cause)
     → IsSound good n base ws vs → (me : Knows vs id v) → v.who ≡ j ∷ [] → (met : List ℕ)
     → StampsHold n ws' (slice_set vs id (after_giving_way c (record v { met = met }))) → IsNewCause n v c

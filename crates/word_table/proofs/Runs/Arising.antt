@@ -28,7 +28,7 @@ record Moment : Type 0 where
   writes : List (ℕ × ℕ)
   views : List View
 
--- what a word shows after these writes, where all were 0
+-- what a word shows after these writes, if all were 0
 abbrev shown : List (ℕ × ℕ) → ℕ → ℕ
 shown [] j = 0
 shown (w ∷ more) j = if w.0 == j then w.1 else shown more j
@@ -67,7 +67,7 @@ module _ (good : List ℕ → Type 0) (base : List ℕ) where
   abbrev state : Ended → TableState
   state e = record { words = e.m.words; views = e.m.views }
 
-  -- where a word was written, and where another was
+  -- if a word was written, and if another was
   reads : (m : Moment) (at w j : ℕ) → 2000 < length m.words → at < 2000 → slice_index m.words j ≡ shown m.writes j
       → slice_index (slice_set m.words at w) j ≡ shown ((at, w) ∷ m.writes) j
   reads m at w j room near before = dite (ℕ_discrete at j)

@@ -9,7 +9,7 @@ use Rattle.history_model.specs.Table.{TableState, Knows}
 use Rattle.history_model.proofs.ListPlaces.{get_first}
 use Rattle.history_model.proofs.Views.Places.{added_here, added_there}
 use Rattle.locks_rule.specs.Splits.{opening_view}
-use Rattle.word_table.specs.Meetings.{AreDealt, SeatsAreDealt}
+use Rattle.word_table.specs.Meetings.{AreFreshSeats, SeatsAreDealt}
 use Rattle.word_table.specs.Runs.{CutsSeat, Steps, IsRun}
 use Rattle.word_table.specs.Sound.{opening_words, numbers}
 use Rattle.word_table.proofs.Openings.Opening.{rest_of_numbers}
@@ -105,7 +105,7 @@ module _ (good : List ℕ → Type 0) (n : ℕ) (base : List ℕ) where
       (opening_view base n (i ∷ []) [])) (sym e) (added_here (dealt m) (opening_view base n (m ∷ []) []))))
       (λ ne. added_there (dealt m) (opening_view base n (m ∷ []) []) (opening_view base n (j ∷ []) []) j (dealt_there m j (omega arith)))
 
-  all_dealt : (m : ℕ) → n ≡ suc m → AreDealt n base (opening_view base n (numbers m 1) [] ∷ dealt m)
+  all_dealt : (m : ℕ) → n ≡ suc m → AreFreshSeats n base (opening_view base n (numbers m 1) [] ∷ dealt m)
   all_dealt m e = record {
     count = let long = dealt_long m in omega arith;
     each = λ j lt. dite (ℕ_discrete j m)

@@ -53,7 +53,7 @@ is_empty : {A : Type 0} (xs : List A) → Dec (xs ≡ [])
 is_empty [] = yes refl
 is_empty (x ∷ xs) = no (λ e. cc)
 
--- nothing is in a set exactly where it is empty
+-- nothing is in a set exactly if it is empty
 has_none : (xs : List ℕ) → Dec ((x : ℕ) → ¬ (has x xs ≡ true))
 has_none [] = yes (λ x t. differ (has x []) t (empty-has [] x refl))
 has_none (y ∷ ys) = no (λ h. h y (has-join_same y ys))

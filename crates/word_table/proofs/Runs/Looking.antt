@@ -1,4 +1,4 @@
--- A look that leaves an attempt as it was is a wait: a judgement of a seat that stands on the lock where it was met, and a
+-- A look that leaves an attempt as it was is a wait: a judgement of a seat that stands on the lock if it was met, and a
 -- look at a cause.
 use Rattle.std.proofs.Common.{◌≡◌, ℕ, Bool, true, inl, inr, ⊎_elim, List, [], ◌∷◌, Option, slice_index}
 use Rattle.std.proofs.Common.{◌==◌, ne_eqb, if◌then◌else◌, refl, sym, ap, ◌∙◌, subst}
@@ -60,7 +60,7 @@ module _ (n : ℕ) (base : List ℕ) (s : TableState) (h : LocksHold n base s.wo
 running_yields : Yielding ≡ Running → ⊥
 running_yields e = cc
 
--- the attempt goes on where judge answers Wait
+-- the attempt goes on if judge answers Wait
 judged_on : (j shown : ℕ) (v : View) → (after_judgement (judged j shown v.stamp) (record v { met = without j v.met })).phase ≡ Running
     → judged_of shown v.stamp ≡ answer.Wait
 judged_on j shown v runs = ⊎_elim
@@ -69,7 +69,7 @@ judged_on j shown v runs = ⊎_elim
     running_yields (sym (ap (λ (o : Option Cause). (after_judgement o (record v { met = without j v.met })).phase) y.0) ∙ runs)))
     (judged_cases (judged_of shown v.stamp))
 
--- it gives way on where its cause shows the same
+-- it gives way on if its cause shows the same
 looked_on : (shown stamp : ℕ) (v : View) → (if shown == stamp then after_waiting v else after_restarting v).phase ≡ Yielding → shown ≡ stamp
 looked_on shown stamp v yields = dite (ℕ_discrete shown stamp)
     (λ e. e)

@@ -40,7 +40,7 @@ no_more v w k i few m =
     let long : length w.meetings ≡ length (v.meetings ++ (k, i) ∷ []) = ap (λ (l : List (ℕ × ℕ)). length l) m.1 in
     let more : length (v.meetings ++ (k, i) ∷ []) ≡ length v.meetings + 1 = length_push v.meetings (k, i) in omega arith
 
--- where they are as they were, or none
+-- if they are as they were, or none
 nobody : (v w : View) (k i : ℕ) → w.meetings ≡ v.meetings → ¬ Meets v w k i
 nobody v w k i same = let long : length w.meetings ≡ length v.meetings = ap (λ (l : List (ℕ × ℕ)). length l) same in no_more v w k i (omega arith)
 

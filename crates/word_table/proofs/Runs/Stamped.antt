@@ -33,7 +33,7 @@ use Rattle.word_table.specs.Runs.{TakesStep, CutsSeat, TakesNote, Joins, Steps, 
 use Rattle.word_table.proofs.Runs.RunLaws.{before, run_sound}
 
 -- what a step does to call and timestamp of the view that takes it: it leaves them, or it ends the call, or it begins the
--- next, or it draws a timestamp where there is none
+-- next, or it draws a timestamp if there is none
 pub record Stays (v w : View) : Type 0 where
   pub call : w.call ≡ v.call
   pub stamp : w.stamp ≡ v.stamp
@@ -51,7 +51,7 @@ pub record Draws (v w : View) : Type 0 where
 abbrev pub GoesTo : View → View → Type 0
 GoesTo v w = (w.who ≡ v.who) × (w.joined ≡ v.joined) × (Stays v w ⊎ (Ends v w ⊎ ((w.call ≡ v.call + 1) ⊎ Draws v w)))
 
--- what is known of seat j's view, where its call c had the timestamp s once
+-- what is known of seat j's view, if its call c had the timestamp s once
 abbrev Keeps : ℕ → ℕ → ℕ → View → Type 0
 Keeps j c s u =
     ((u.who ≡ j ∷ []) × (((u.call ≡ c) × (u.stamp ≡ s)) ⊎ (((u.call ≡ c) × (u.phase ≡ Idle)) ⊎ (c < u.call))))

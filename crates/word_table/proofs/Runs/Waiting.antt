@@ -21,7 +21,7 @@ use Rattle.word_table.specs.Waits.{WaitsAtLock, WaitsForCause, WaitsFor, IsCircl
 use Rattle.word_table.proofs.Calls.Judging.{wait_due}
 use Rattle.word_table.proofs.Runs.Meetings.{reached_sound}
 
--- what falls from each waiting seat to the next, where no timestamp is later than `last`
+-- what falls from each waiting seat to the next, if no timestamp is later than `last`
 abbrev pub rank : ℕ → View → ℕ
 rank last v = if is_yielding v.phase then suc (last + v.stamp) else last - v.stamp
 

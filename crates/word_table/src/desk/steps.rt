@@ -20,7 +20,7 @@ ghost use Rattle.stamps_rule.specs.Stamps.{AreRestartsBounded};
 ghost use Rattle.stamps_rule.specs.Steps.{draw_stamp_action, announce_stamp_action, load_cause_stamp_action};
 ghost use Rattle.history_model.specs.Sets.{flag, has, has_pair, without};
 ghost use Rattle.word_table.specs.Unsharing.{ClearsEach, rising};
-ghost use Rattle.word_table.specs.Versions.{HasUse, locks_found};
+ghost use Rattle.word_table.specs.Versions.{HasUseOf, locks_found};
 ghost use Rattle.word_table.specs.Calls.{ClaimedBy, GainsUse, GaveUp, GaveWay, GrantsStay, JudgedBy, LoadedBy, MetOn, ReadsArranged, SameCall, ScannedBy, SharedBy, paid, with_bit};
 ghost use Rattle.word_table.specs.Kinds.{TakenIn};
 ghost use Rattle.word_table.specs.Desks.{AreGoodWords, RuleHolds};
@@ -138,7 +138,7 @@ impl<S: Shape> Desk<S> {
         pass.look_for_bit(&self.table, k, other)
     }
 
-    /// Gives up the own claim on lock k. The call ends with that, unless it gives way. Where the call owes the lock its
+    /// Gives up the own claim on lock k. The call ends with that, unless it gives way. If the call owes the lock its
     /// next version, that is stored before: 1 more than the version that the call found, which nobody can have changed
     /// since.
     pub fn unclaim(&self, pass: &mut Pass<S>, k: u32)
@@ -176,7 +176,7 @@ impl<S: Shape> Desk<S> {
     }
 
     /// Clears all own read bits, by rising lock, each by a step of its own. The call ends with the first, unless it gives
-    /// way. Where no bit is set, it takes no step.
+    /// way. If no bit is set, it takes no step.
     pub fn unshare_all(&self, pass: &mut Pass<S>)
         requires desk { pass.old.table ≡ self.now.table }
         requires undone { (pass.old.view.undo ≡ []) ⊎ (pass.old.view.phase ≡ Phase.Releasing) }
@@ -249,7 +249,7 @@ impl<S: Shape> Desk<S> {
         requires desk { pass.old.table ≡ self.now.table }
         requires phase { pass.old.view.phase ≡ Phase.Running }
         requires granted { IsGranted pass.old.view (lock_of_word a) }
-        requires unused { ¬ HasUse pass.old.view (lock_of_word a) }
+        requires unused { ¬ HasUseOf pass.old.view (lock_of_word a) }
         ensures desk { pass.new.table ≡ pass.old.table }
         ensures steps { pass.new.steps ≡ pass.old.steps + 1 }
         ensures view { pass.new.view ≡ record pass.old.view { uses = pass.new.view.uses } }
@@ -258,7 +258,7 @@ impl<S: Shape> Desk<S> {
         ensures taken { (found : ℕ) × TakenIn (RuleHolds S.Shape self.now)
             (load_version_action (number pass.old.view) (lock_of_word a) pass.old.view)
             pass.old.view found pass.new.view }
-        ensures used { HasUse pass.new.view (lock_of_word a) }
+        ensures used { HasUseOf pass.new.view (lock_of_word a) }
     {
         pass.load_version(&self.table, a);
     }
@@ -270,7 +270,7 @@ impl<S: Shape> Desk<S> {
         requires desk { pass.old.table ≡ self.now.table }
         requires phase { pass.old.view.phase ≡ Phase.Running }
         requires word { a < length pass.old.view.base }
-        requires used { HasUse pass.old.view (lock_of_word a) }
+        requires used { HasUseOf pass.old.view (lock_of_word a) }
         ensures desk { pass.new.table ≡ pass.old.table }
         ensures steps { pass.new.steps ≡ pass.old.steps + 1 }
         ensures event { pass.new.view
@@ -328,9 +328,9 @@ impl<S: Shape> Desk<S> {
     }
 
     /// Gives the call its entry: one store to a word of its pass alone, which no other pass writes. The entry knew all that
-    /// the pass had seen, and so stands behind that in every arrangement. Where `kept` is true
-    /// the call's writes stand, and the caller owes that they leave good words; where it is false they are undone
-    /// already. The locks are released afterwards (strict two-phase locking), each with its next version where the call
+    /// the pass had seen, and so stands behind that in every arrangement. If `kept` is true
+    /// the call's writes stand, and the caller owes that they leave good words; if it is false they are undone
+    /// already. The locks are released afterwards (strict two-phase locking), each with its next version if the call
     /// wrote it.
     pub fn commit(&self, pass: &mut Pass<S>, kept: bool)
         requires desk { pass.old.table ≡ self.now.table }
@@ -408,7 +408,7 @@ impl<S: Shape> Desk<S> {
         pass.announce_stamp(&self.table);
     }
 
-    /// Looks at the timestamp of a seat that the call met. The attempt gives way exactly where that is above 0 and
+    /// Looks at the timestamp of a seat that the call met. The attempt gives way exactly if that is above 0 and
     /// below the call's own. It is abandoned then.
     pub fn judge(&self, pass: &mut Pass<S>, other: u32) -> Judged
         requires desk { pass.old.table ≡ self.now.table }

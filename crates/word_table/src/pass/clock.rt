@@ -86,7 +86,7 @@ impl<S: Shape> Pass<S> {
         );
     }
 
-    // The load of the timestamp of a seat that the call met: where that is an earlier one the attempt gives way by it.
+    // The load of the timestamp of a seat that the call met: if that is an earlier one the attempt gives way by it.
     pub(crate) fn judge_stamp(&mut self, table: &TableWords<S>, other: u32) -> Judged
         requires table { self.old.table ≡ table.now.table_id }
         requires phase { self.old.view.phase ≡ Phase.Running }

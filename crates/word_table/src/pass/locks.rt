@@ -20,7 +20,7 @@ use crate::step::{Step, TableWords};
 use crate::{bits, step};
 use history_model::{LOCKS, Phase, Shape, lock_of};
 
-// The phase once a lock was released. It is stored where it changes.
+// The phase once a lock was released. It is stored if it changes.
 fn leave_running(phase: &mut Phase)
     ensures { phase.new ≡ released_phase phase.old }
 {
@@ -62,7 +62,7 @@ impl<S: Shape> Pass<S> {
         );
     }
 
-    // Sets the bit of the lock of word a, where it is not set.
+    // Sets the bit of the lock of word a, if it is not set.
     pub(crate) fn make_seen(&mut self, table: &TableWords<S>, a: u64)
         requires table { self.old.table ≡ table.now.table_id }
         requires phase { self.old.view.phase ≡ Phase.Running }
@@ -80,7 +80,7 @@ impl<S: Shape> Pass<S> {
         self.set_read_bit(table, a);
     }
 
-    // The load of the lock's writer word, for the word a. It is a read grant where no other seat claims.
+    // The load of the lock's writer word, for the word a. It is a read grant if no other seat claims.
     pub(crate) fn load_writer(&mut self, table: &TableWords<S>, a: u64) -> u64
         requires table { self.old.table ≡ table.now.table_id }
         requires phase { self.old.view.phase ≡ Phase.Running }
@@ -125,7 +125,7 @@ impl<S: Shape> Pass<S> {
         shared_by(found, who)
     }
 
-    // The compare-exchange of the lock's writer word, for the word a. It is a claim where the word was 0.
+    // The compare-exchange of the lock's writer word, for the word a. It is a claim if the word was 0.
     pub(crate) fn claim_writer(&mut self, table: &TableWords<S>, a: u64) -> u64
         requires table { self.old.table ≡ table.now.table_id }
         requires phase { self.old.view.phase ≡ Phase.Running }
@@ -159,7 +159,7 @@ impl<S: Shape> Pass<S> {
         found
     }
 
-    // The load of the row word of seat `other`, for the own claim. The seat is scanned where its bit is clear.
+    // The load of the row word of seat `other`, for the own claim. The seat is scanned if its bit is clear.
     pub(crate) fn scan_row(&mut self, table: &TableWords<S>, k: u32, other: u32) -> u64
         requires table { self.old.table ≡ table.now.table_id }
         requires phase { self.old.view.phase ≡ Phase.Running }

@@ -18,7 +18,7 @@ ghost use Rattle.values_rule.specs.Steps.{commit_call_action, entry_of};
 ghost use Rattle.word_table.specs.Calls.{ReadsArranged};
 ghost use Rattle.word_table.specs.Kinds.{TakenIn};
 ghost use Rattle.word_table.specs.Sound.{GroundHolds};
-ghost use Rattle.word_table.specs.Versions.{HasUse};
+ghost use Rattle.word_table.specs.Versions.{HasUseOf};
 
 use super::Pass;
 use crate::layout::{place_of_calls, place_of_commit, place_of_value};
@@ -79,7 +79,7 @@ impl<S: Shape> Pass<S> {
         requires table { self.old.table ≡ table.now.table_id }
         requires phase { self.old.view.phase ≡ Phase.Running }
         requires word { a < length self.old.view.base }
-        requires used { HasUse self.old.view (lock_of_word a) }
+        requires used { HasUseOf self.old.view (lock_of_word a) }
         ensures table { self.new.table ≡ self.old.table }
         ensures steps { self.new.steps ≡ self.old.steps + 1 }
         ensures taken { TakenIn (GroundHolds S.word_count S.good table.now.key)

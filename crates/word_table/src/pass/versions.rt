@@ -10,7 +10,7 @@ ghost use Rattle.locks_rule.specs.Versions.{load_version_action, store_version_a
 ghost use Rattle.word_table.specs.Calls.{FindsVersion, Pays, paid};
 ghost use Rattle.word_table.specs.Kinds.{TakenIn};
 ghost use Rattle.word_table.specs.Sound.{GroundHolds};
-ghost use Rattle.word_table.specs.Versions.{HasUse, locks_found};
+ghost use Rattle.word_table.specs.Versions.{HasUseOf, locks_found};
 
 use super::Pass;
 use crate::layout::place_of_version;
@@ -46,7 +46,7 @@ impl<S: Shape> Pass<S> {
         self.locks.versions.found[lock as usize] = version;
     }
 
-    // Finds the version of the lock of word a, where the attempt has not found it before.
+    // Finds the version of the lock of word a, if the attempt has not found it before.
     #[inline]
     pub(crate) fn find_version(&mut self, table: &TableWords<S>, a: u64)
         requires table { self.old.table ≡ table.now.table_id }
@@ -56,7 +56,7 @@ impl<S: Shape> Pass<S> {
         ensures steps { self.new.steps + flag (has (lock_of_word a) (locks_found self.old.view.uses))
             ≡ self.old.steps + 1 }
         ensures view { self.new.view ≡ record self.old.view { uses = self.new.view.uses } }
-        ensures used { HasUse self.new.view (lock_of_word a) }
+        ensures used { HasUseOf self.new.view (lock_of_word a) }
         ensures finds { FindsVersion (GroundHolds S.word_count S.good table.now.key)
             (lock_of_word a) self.old.view self.new.view }
     {
@@ -95,7 +95,7 @@ impl<S: Shape> Pass<S> {
         );
     }
 
-    // Stores the next version of the lock, where the call owes it.
+    // Stores the next version of the lock, if the call owes it.
     #[inline]
     pub(crate) fn pay_version(&mut self, table: &TableWords<S>, k: u32)
         requires table { self.old.table ≡ table.now.table_id }

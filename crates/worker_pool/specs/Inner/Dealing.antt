@@ -8,7 +8,7 @@ use Rattle.worker_pool.specs.declared.rule.TheConstants.{ALL_PARTS}
 use Rattle.worker_pool.specs.Counting.{times, once_below}
 use Rattle.worker_pool.specs.Deques.{deal}
 
--- the number where it is deque k's turn, among so many, for caller x; and else 0
+-- the number if it is deque k's turn, among so many, for caller x; and else 0
 abbrev pub at_turn : ℕ → ℕ → ℕ → ℕ → ℕ
 at_turn many k x n = if x % many == k then n else 0
 
@@ -20,9 +20,9 @@ module _ {A P : Type 0} where
     pub fifo : stealer_flavor s ≡ 0
 
   -- of each deque both ends, in one order
-  pub record AreShown (thieves : List (Stealer ℕ A Deal P)) (owners : List (Worker ℕ A Deal P)) : Type 0 where
-    pub count : length thieves ≡ length owners
-    pub each : (k : ℕ) (s : Stealer ℕ A Deal P) (w : Worker ℕ A Deal P) → k < length owners → IsShown (get_or thieves k s) (get_or owners k w)
+  pub record AreShown (stealers : List (Stealer ℕ A Deal P)) (owners : List (Worker ℕ A Deal P)) : Type 0 where
+    pub count : length stealers ≡ length owners
+    pub each : (k : ℕ) (s : Stealer ℕ A Deal P) (w : Worker ℕ A Deal P) → k < length owners → IsShown (get_or stealers k s) (get_or owners k w)
 
   -- an owner with so many parts less, who dealt and took as before
   pub record HasLess (less : ℕ) (old new : Worker ℕ A Deal P) : Type 0 where

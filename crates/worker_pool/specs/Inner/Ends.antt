@@ -16,9 +16,9 @@ module _ {A P : Type 0} where
     pub fifo : stealer_flavor s ≡ 0
 
   -- a row of passes, one at each deque
-  pub record AreAtEach (thieves : List (Stealer ℕ A Deal P)) (passes : List (Pass ℕ Deal A)) : Type 0 where
-    pub count : length passes ≡ length thieves
-    pub each : (k : ℕ) (s : Stealer ℕ A Deal P) (p : Pass ℕ Deal A) → k < length thieves → IsPassAt (get_or thieves k s) (get_or passes k p)
+  pub record AreAtEach (stealers : List (Stealer ℕ A Deal P)) (passes : List (Pass ℕ Deal A)) : Type 0 where
+    pub count : length passes ≡ length stealers
+    pub each : (k : ℕ) (s : Stealer ℕ A Deal P) (p : Pass ℕ Deal A) → k < length stealers → IsPassAt (get_or stealers k s) (get_or passes k p)
 
   -- an owner with more parts of its deque than so many, and one with all
   abbrev pub HasOver : ℕ → Worker ℕ A Deal P → Type 0

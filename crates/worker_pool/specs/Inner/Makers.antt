@@ -1,13 +1,14 @@
 -- What one worker did.
 use Rattle.std.specs.Prelude.{◌≡◌, ℕ, ◌+◌, ◌<◌, ◌≤◌, ◌&&◌, ◌==◌, nat_lt, if◌then◌else◌, List, [], ◌∷◌, length, All, AllPairs, count_by, Some}
 use Rattle.std.specs.Prelude.{slice_get}
+use Rattle.script_reader.specs.Gathered.{script_at}
 use Rattle.history_model.specs.declared.entry.Entry.{Entry}
 use Rattle.history_model.specs.declared.view.Phase.TheVariants.{Idle}
 use Rattle.history_model.specs.Fitting.{IsGood}
 use Rattle.history_model.specs.Traces.{IsLegalTrace, after}
 use Rattle.word_table.specs.Copies.{PassView}
 use Rattle.word_table.specs.Desks.{DeskView}
-use Rattle.script_reader.specs.Input.{ClearingInput, script_at}
+use Rattle.script_reader.specs.Input.{ClearingInput}
 use Rattle.script_reader.specs.Journal.{Place, IsPlace}
 use Rattle.txn_books.specs.declared.shape.BooksShape.{BooksShape}
 use Rattle.txn_books.specs.Layout.{words_of}
@@ -19,16 +20,16 @@ use Rattle.txn_commit.specs.Lists.{IsEntryOf}
 
 -- an entry is that of an item's call, and of all good words on which its trace is legal the meaning of the item's script
 -- holds
-pub record IsMadeBy (shape : BooksShape) (input : ClearingInput) (entry : Entry) (item : Done) : Type 0 where
+pub record IsScriptEntry (shape : BooksShape) (input : ClearingInput) (entry : Entry) (item : Done) : Type 0 where
   pub is_of : IsEntryOf item entry
   pub meaning : (s : List ℕ) → IsGood (words_of shape) (IsGoodFor shape) s → IsLegalTrace entry.trace s
-      → ScriptMeans shape (script_at input item.caller item.index) s entry.kept item.reply (after entry.trace s)
+      → ScriptMeans shape (script_at input.callers item.caller item.index) s entry.kept item.reply (after entry.trace s)
 
 -- each item was made by the entry beside it
 pub record AreMadeBy (shape : BooksShape) (input : ClearingInput) (entries : List Entry) (done : List Done) : Type 0 where
   pub as_many : length done ≡ length entries
   pub each : (k : ℕ) (item : Done) (entry : Entry) → slice_get done k ≡ Some item → slice_get entries k ≡ Some entry
-      → IsMadeBy shape input entry item
+      → IsScriptEntry shape input entry item
 
 -- a pass of the desk made these items, a call each, and has seen their entries
 pub record HasMade (desk : DeskView BooksShape) (input : ClearingInput) (who : ℕ) (pass : PassView) (done : List Done) : Type 0 where
@@ -49,6 +50,6 @@ pub record RanScripts (input : ClearingInput) (h : ℕ → ℕ) (c i : ℕ) (don
   pub rising : AllPairs (λ x y. x.caller ≡ y.caller → x.index < y.index) done
   pub among : All (λ item. h item.caller ≡ 0 → (item.caller ≡ c) × (item.index < i)) done
 
--- where no caller was had twice, the items are all scripts of each that was had
+-- if no caller was had twice, the items are all scripts of each that was had
 abbrev pub RunsEach : ClearingInput → (ℕ → ℕ) → List Done → Type 0
 RunsEach input h done = ((x : ℕ) → h x ≤ 1) → RanScripts input h 0 0 done

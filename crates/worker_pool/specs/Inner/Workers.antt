@@ -14,7 +14,7 @@ use Rattle.worker_pool.specs.declared.worker.Share.{Share}
 use Rattle.worker_pool.specs.declared.worker.Worker.{Worker}
 use Rattle.worker_pool.specs.Counting.{once_below}
 use Rattle.worker_pool.specs.Inner.Makers.{HasMade, RanScripts, RunsEach}
-use Rattle.worker_pool.specs.Inner.Takers.{had, Thieves, IsEndOf, HadNone}
+use Rattle.worker_pool.specs.Inner.Queues.{had, Stealers, IsQueueOf, HadNone}
 
 -- the number of a share's seat, and of a worker's
 abbrev pub seat_of : Share → ℕ
@@ -28,51 +28,51 @@ abbrev pub workers_of : List (CachePadded Worker) → List Worker
 workers_of apart = map padded_value apart
 
 -- what all workers share fits together: the table is for books of the input's sizes
-pub record FitTogether (desk : DeskView BooksShape) (shape : BooksShape) (input : ClearingInput) : Type 0 where
+pub record IsTableFor (desk : DeskView BooksShape) (shape : BooksShape) (input : ClearingInput) : Type 0 where
   pub shape_is : desk.shape ≡ shape
   pub sizes : shape ≡ shape_of input.books
   pub valid : IsInput input
 
 -- a worker at these deques and this desk, that did nothing yet
-pub record IsSeated (thieves : Thieves) (desk : DeskView BooksShape) (worker : Worker) : Type 0 where
-  pub end : IsEndOf thieves (number_of worker) worker.taker
-  pub unused : HadNone worker.taker
+pub record IsSeated (stealers : Stealers) (desk : DeskView BooksShape) (worker : Worker) : Type 0 where
+  pub queue : IsQueueOf stealers (number_of worker) worker.queue
+  pub unused : HadNone worker.queue
   pub fresh : IsFresh desk worker.share.pass
   pub who_is : worker.share.pass.view.who ≡ number_of worker ∷ []
   pub nothing_done : worker.share.done.items ≡ []
   pub going : worker.failed ≡ false
 
 -- a worker that took callers and ran all scripts of each
-pub record HasDoneItsPart (thieves : Thieves) (desk : DeskView BooksShape) (input : ClearingInput) (worker : Worker) : Type 0 where
-  pub end : IsEndOf thieves (number_of worker) worker.taker
+pub record HasDoneItsPart (stealers : Stealers) (desk : DeskView BooksShape) (input : ClearingInput) (worker : Worker) : Type 0 where
+  pub queue : IsQueueOf stealers (number_of worker) worker.queue
   pub made : HasMade desk input (number_of worker) worker.share.pass worker.share.done.items
-  pub run : RunsEach input (had worker.taker) worker.share.done.items
+  pub run : RunsEach input (had worker.queue) worker.share.done.items
   pub few : length worker.share.done.items ≤ MOST_CALLERS * MOST_SCRIPTS
 
 -- a worker whose thread has ended: unless it found no memory, it has done its part
-abbrev pub HasEndedItsPart : Thieves → DeskView BooksShape → ClearingInput → Worker → Type 0
-HasEndedItsPart thieves desk input worker = worker.failed ≡ false → HasDoneItsPart thieves desk input worker
+abbrev pub HasEndedItsPart : Stealers → DeskView BooksShape → ClearingInput → Worker → Type 0
+HasEndedItsPart stealers desk input worker = worker.failed ≡ false → HasDoneItsPart stealers desk input worker
 
 -- a share, and how often each caller was had for it
-pub record Tally : Type 0 where
+pub record CountedShare : Type 0 where
   pub share : Share
   pub had : ℕ → ℕ
 
-abbrev pub share_of : Tally → Share
-share_of tally = tally.share
+abbrev pub share_of : CountedShare → Share
+share_of counted = counted.share
 
-abbrev pub tally_number : Tally → ℕ
-tally_number tally = seat_of tally.share
+abbrev pub counted_number : CountedShare → ℕ
+counted_number counted = seat_of counted.share
 
 -- the share has all scripts of the callers that were had for it
-pub record IsDone (desk : DeskView BooksShape) (input : ClearingInput) (tally : Tally) : Type 0 where
-  pub made : HasMade desk input (tally_number tally) tally.share.pass tally.share.done.items
-  pub run : RanScripts input tally.had 0 0 tally.share.done.items
+pub record IsDone (desk : DeskView BooksShape) (input : ClearingInput) (counted : CountedShare) : Type 0 where
+  pub made : HasMade desk input (counted_number counted) counted.share.pass counted.share.done.items
+  pub run : RanScripts input counted.had 0 0 counted.share.done.items
 
 -- all shares of a day: those of all passes, and for them together each caller was had once
 pub record AreAllDone (desk : DeskView BooksShape) (input : ClearingInput) (shares : List Share) : Type 0 where
-  pub tallies : List Tally
-  pub are : map share_of tallies ≡ shares
+  pub counted_shares : List CountedShare
+  pub are : map share_of counted_shares ≡ shares
   pub numbers : map seat_of shares ≡ range_with_len 0 desk.seats
-  pub each : All (IsDone desk input) tallies
-  pub once : (x : ℕ) → sum_by (λ (t : Tally). t.had x) tallies ≡ once_below x (length input.callers)
+  pub each : All (IsDone desk input) counted_shares
+  pub once : (x : ℕ) → sum_by (λ (t : CountedShare). t.had x) counted_shares ≡ once_below x (length input.callers)

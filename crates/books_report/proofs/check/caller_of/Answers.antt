@@ -1,8 +1,8 @@
 use Rattle.std.proofs.Common.{◌≡◌, ◌≢◌, ℕ, ◌<◌, length, Option, Some, None, sym, ap, subst, ◌∙◌, rules}
 use Rattle.std.specs.Option.{IfSome, IfNone}
 use Rattle.std.specs.Str.{IsUtf8}
-use Rattle.script_reader.specs.Input.{caller_at}
-use Rattle.script_reader.proofs.Tokens.Naming.{IsName-text}
+use Rattle.script_reader.specs.Gathered.{caller_at}
+use Rattle.script_reader.proofs.text.Tokens.Naming.{IsName-text}
 use Rattle.books_report.proofs.Outputs.Rows.{caller_named}
 use Rattle.books_report.proofs.Order.Histories.{one_caller}
 use Rattle.books_report.proofs.check.caller_of.Goals as goal
@@ -12,7 +12,7 @@ returns-in_default c = record {
   within = tt;
   named = λ caller within same.
       absurd (c.in_default.ensures.cases.0
-      (subst IsUtf8 (sym same) (IsName-text (caller_at c.args.input.now caller).name (caller_named c.args.input.now c.requires.valid caller within))));
+      (subst IsUtf8 (sym same) (IsName-text (caller_at c.args.input.now.callers caller).name (caller_named c.args.input.now c.requires.valid caller within))));
 }
 
 pub returns : goal.returns
@@ -22,8 +22,8 @@ returns c = record {
       c.caller_named.ensures.found c.caller_named.ensures.none;
 }
   where
-    by : (caller : ℕ) → caller < length c.args.input.now.callers → c.in-Ok.name.now ≡ (caller_at c.args.input.now caller).name → (r : Option ℕ)
-        → IfSome r (λ d. (d < length c.args.input.now.callers) × ((caller_at c.args.input.now d).name ≡ c.in-Ok.name.now))
-        → IfNone r ((d : ℕ) → d < length c.args.input.now.callers → (caller_at c.args.input.now d).name ≢ c.in-Ok.name.now) → r ≡ Some caller
+    by : (caller : ℕ) → caller < length c.args.input.now.callers → c.in-Ok.name.now ≡ (caller_at c.args.input.now.callers caller).name → (r : Option ℕ)
+        → IfSome r (λ d. (d < length c.args.input.now.callers) × ((caller_at c.args.input.now.callers d).name ≡ c.in-Ok.name.now))
+        → IfNone r ((d : ℕ) → d < length c.args.input.now.callers → (caller_at c.args.input.now.callers d).name ≢ c.in-Ok.name.now) → r ≡ Some caller
     by caller within same (Some d) found none = ap Some (one_caller c.args.input.now c.requires.valid d caller found.0 within (found.1 ∙ same))
     by caller within same None found none = absurd (none caller within (sym same))

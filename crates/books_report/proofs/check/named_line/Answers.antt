@@ -1,35 +1,36 @@
 use Rattle.std.proofs.Common.{◌≡◌, ℕ, ◌<◌, List, inl, inr, length, slice_index, Some, ap, arith, rules}
 use Rattle.std.proofs.lemmas.Option.{same_Some, none-some}
-use Rattle.script_reader.specs.declared.words.TheConstants.{SPACE}
+use Rattle.script_reader.specs.Gathered.{caller_at}
+use Rattle.script_reader.specs.declared.text.words.TheConstants.{SPACE}
 use Rattle.script_reader.specs.Lines.{IsFreeOf}
 use Rattle.script_reader.specs.Text.{number}
-use Rattle.script_reader.specs.Input.{ClearingInput, IsInput, caller_at}
-use Rattle.script_reader.proofs.Grouped.Submitting.{caller-AreWords}
+use Rattle.script_reader.specs.Input.{ClearingInput, IsInput}
+use Rattle.script_reader.proofs.language.Grouped.Submitting.{caller-AreWords}
 use Rattle.books_report.specs.Inner.Audit.{four_words}
 use Rattle.books_report.proofs.Outputs.Rows.{number-word, caller_named}
 use Rattle.books_report.proofs.check.named_line.Goals as goal
 use Rattle.books_report.proofs.check.named_line.Goals.{In_ok-name}
 
 -- names and numbers have no space
-name_free : (input : ClearingInput) → IsInput input → (caller : ℕ) → caller < length input.callers → IsFreeOf SPACE (caller_at input caller).name
-name_free input valid caller within = (caller-AreWords (caller_at input caller).name (caller_named input valid caller within)).each.1.0.0
+name_free : (input : ClearingInput) → IsInput input → (caller : ℕ) → caller < length input.callers → IsFreeOf SPACE (caller_at input.callers caller).name
+name_free input valid caller within = (caller-AreWords (caller_at input.callers caller).name (caller_named input valid caller within)).each.1.0.0
 
 number_free : (n : ℕ) → IsFreeOf SPACE (number n)
 number_free n = (number-word n).0
 
--- the words that name the line, where it is named
+-- the words that name the line, if it is named
 words_of : (c : In_ok-name) (serial caller index restarts : ℕ) (rest : List ℕ) → caller < length c.args.input.now.callers
-    → c.args.text.now ≡ four_words (number serial) (caller_at c.args.input.now caller).name (number index) (number restarts) rest
-    → (c.in_ok-name.name.now ≡ (caller_at c.args.input.now caller).name) × (c.in_ok-name.restarts.now ≡ number restarts)
+    → c.args.text.now ≡ four_words (number serial) (caller_at c.args.input.now.callers caller).name (number index) (number restarts) rest
+    → (c.in_ok-name.name.now ≡ (caller_at c.args.input.now.callers caller).name) × (c.in_ok-name.restarts.now ≡ number restarts)
 words_of c serial caller index restarts rest within e =
-    c.in_ok-name.ensures (number serial) (caller_at c.args.input.now caller).name (number index) (number restarts) rest e
+    c.in_ok-name.ensures (number serial) (caller_at c.args.input.now.callers caller).name (number index) (number restarts) rest e
     (number_free serial) (name_free c.args.input.now c.requires.valid caller within) (number_free index) (number_free restarts)
 
 pub returns-in_err-name : goal.returns-in_err-name
 returns-in_err-name c = record {
   found = search rules;
   named = λ serial caller index restarts rest within left below e.
-      absurd (c.in_err-name.ensures (number serial) (caller_at c.args.input.now caller).name (number index)
+      absurd (c.in_err-name.ensures (number serial) (caller_at c.args.input.now.callers caller).name (number index)
       (number restarts) rest e (number_free serial) (name_free c.args.input.now c.requires.valid caller within) (number_free index) (number_free restarts));
 }
 
@@ -72,7 +73,7 @@ returns-else-index-scripts_of c = record {
           arith,
           none,
           c.scripts_of.ensures,
-          ap (λ x. length (caller_at c.args.input.now x).scripts) its,
+          ap (λ x. length (caller_at c.args.input.now.callers x).scripts) its,
           ap (slice_index c.args.done.now) its,
           left,
         ))

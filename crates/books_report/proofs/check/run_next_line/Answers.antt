@@ -4,10 +4,12 @@ use Rattle.std.proofs.lemmas.Option.{same_Some, none-some}
 use Rattle.std.proofs.lemmas.Result.{IfOk-from_err}
 use Rattle.books_model.specs.Interpreter.{outcome_of}
 use Rattle.books_report.specs.Inner.Audit.{HasRun, BeginsWithLine, BeginsWithNone}
-use Rattle.books_report.specs.Output.{Ran, journal_line}
+use Rattle.books_report.specs.Journals.{journal_line}
+use Rattle.books_report.specs.Output.{Ran}
 use Rattle.books_report.specs.Lines.{ran_of_line}
 use Rattle.books_report.proofs.Checks.Audits.{named, begins_with_line, expected_begins}
 use Rattle.books_report.proofs.check.run_next_line.Goals as goal
+use Rattle.books_report.specs.Words.{reply_words}
 
 pub returns-in_default : goal.returns-in_default
 returns-in_default c = record {
@@ -46,7 +48,8 @@ returns c = record {
         (ran.reply ∙ ap (λ s. (outcome_of s c.args.books.now).0) script_is) (ran.books ∙ ap (λ s. (outcome_of s c.args.books.now).1) script_is) refl
         c.from.result c.args.text.now c.name-name.result.now c.as_bytes.result.now left.now (omega (arith, at, c.from.ensures)) c.name-name.ensures
         (c.as_bytes.ensures.value ∙ c.in_ok-write_line.ensures
-        ∙ ap (λ l. l ++ journal_line c.from.result c.name-name.result.now (ran_of_line line c.in_ok-reply.reply)) c.new-expected.ensures.bytes) found.2 e
+        ∙ ap (λ l. l ++ journal_line reply_words c.from.result c.name-name.result.now
+        (ran_of_line line c.in_ok-reply.reply)) c.new-expected.ensures.bytes) found.2 e
     right_by None e = tt
 
     wrong_by : (r : Option (Bor (List ℕ))) → IfNone r ((left : List ℕ) → c.args.text.now ≢ c.as_bytes.result.now ++ left)
@@ -67,4 +70,5 @@ returns c = record {
         (done.reply ∙ ap (λ s. (outcome_of s c.args.books.now).0) script_is) (done.books ∙ ap (λ s. (outcome_of s c.args.books.now).1) script_is) refl
         c.from.result c.args.text.now c.name-name.result.now c.as_bytes.result.now ran behind (omega (arith, at, c.from.ensures)) c.name-name.ensures
         (c.as_bytes.ensures.value ∙ c.in_ok-write_line.ensures
-        ∙ ap (λ l. l ++ journal_line c.from.result c.name-name.result.now (ran_of_line line c.in_ok-reply.reply)) c.new-expected.ensures.bytes) m its e)
+        ∙ ap (λ l. l ++ journal_line reply_words c.from.result c.name-name.result.now
+        (ran_of_line line c.in_ok-reply.reply)) c.new-expected.ensures.bytes) m its e)

@@ -3,17 +3,17 @@ use Rattle.std.specs.Slice.Iter.{iter_rest}
 use Rattle.std.specs.String.{string_bytes}
 use Rattle.std.specs.List.{flat_map}
 use Rattle.std.proofs.lemmas.List.{nil_from_length}
-use Rattle.books_model.specs.Words.{value_word}
+use Rattle.books_model.specs.Words.{word_of_value}
 use Rattle.books_report.proofs.Outputs.Journals.{piece_next, spaced}
 use Rattle.books_report.proofs.words.write_values.Goals as goal
 
 pub loop-value-preserved : goal.loop-value-preserved
 loop-value-preserved c =
-    piece_next (spaced value_word) _ (string_bytes c.loop-value.text) _ (iter_rest c.loop-value.value-iterator) (iter_rest c.next.new.self)
+    piece_next (spaced word_of_value) _ (string_bytes c.loop-value.text) _ (iter_rest c.loop-value.value-iterator) (iter_rest c.next.new.self)
     c.in-Some.value.now c.loop-value.invariant c.in-Some.ensures.steps c.in_ok-write_value.ensures
 
 pub returns : goal.returns
 returns c =
     sym (append-nil _)
-    ∙ sym (ap (λ values. string_bytes c.loop-value.text ++ flat_map (spaced value_word) values) (nil_from_length _ c.in-None.ensures.steps.0))
+    ∙ sym (ap (λ values. string_bytes c.loop-value.text ++ flat_map (spaced word_of_value) values) (nil_from_length _ c.in-None.ensures.steps.0))
     ∙ c.loop-value.invariant

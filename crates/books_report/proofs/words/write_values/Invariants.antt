@@ -2,11 +2,11 @@ use Rattle.std.proofs.Common.{◌≡◌, ◌++◌}
 use Rattle.std.specs.Slice.Iter.{iter_rest}
 use Rattle.std.specs.String.{string_bytes}
 use Rattle.std.specs.List.{flat_map}
-use Rattle.books_model.specs.Words.{value_word}
+use Rattle.books_model.specs.Words.{word_of_value}
 use Rattle.books_report.proofs.Outputs.Journals.{spaced}
 use Rattle.books_report.proofs.words.write_values.Given as goal
 
 -- the text so far and the values that are left are the whole
 abbrev pub invariant-loop-value : goal.invariant-loop-value
 invariant-loop-value l =
-    string_bytes l.text ++ flat_map (spaced value_word) (iter_rest l.value-iterator) ≡ string_bytes l.fn.text ++ flat_map (spaced value_word) l.values
+    string_bytes l.text ++ flat_map (spaced word_of_value) (iter_rest l.value-iterator) ≡ string_bytes l.fn.text ++ flat_map (spaced word_of_value) l.values

@@ -23,4 +23,5 @@ lay_empty-requires c =
 pub new-requires : goal.new-requires
 new-requires c =
     let long : length c.lay_empty.new.words ≡ 2681 = omega (arith, c.lay_empty.ensures.others.count, c.deref_mut.ensures.len, c.in_ok-words.ensures) in
-    laid_good 2681 (HasMapApart (tree_part MAP)) _ c.in_ok-words.words.items c.lay_empty.new.words (omega (arith, c.deref_mut.ensures.len, c.in_ok-words.ensures)) long c.lay_empty.ensures.order
+    laid_good 2681 (HasMapApart (tree_part MAP)) _ c.in_ok-words.words.items c.lay_empty.new.words
+    (omega (arith, c.deref_mut.ensures.len, c.in_ok-words.ensures)) long c.lay_empty.ensures.order

@@ -17,8 +17,8 @@ loop-before-init g c =
           (λ book k. none_listed instruments c.in_ok-last.last book c.new-all.result.items c.new-all.ensures.items k.0 k.1);
     }
 
-pub order_of-requires-clause-stands : goal.order_of-requires-clause-stands
-order_of-requires-clause-stands g c = looked_stands c.loop-before.invariant.looks c.requires.stands
+pub resting_order-requires-clause-stands : goal.resting_order-requires-clause-stands
+resting_order-requires-clause-stands g c = looked_stands c.loop-before.invariant.looks c.requires.stands
 
 pub returns-clause-told : goal.returns-clause-told
 returns-clause-told g c =

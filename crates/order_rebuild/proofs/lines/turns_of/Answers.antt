@@ -5,7 +5,7 @@ use Rattle.history_model.specs.declared.item.LockUse.{LockUse}
 use Rattle.history_model.specs.declared.placed.Spot.{Spot}
 use Rattle.order_rebuild.specs.declared.turn.Turn.{Turn}
 use Rattle.order_rebuild.specs.declared.turn.TheConstants.{LINE}
-use Rattle.order_rebuild.specs.Turns.{caller_code, AreTurns, GainTurns}
+use Rattle.order_rebuild.specs.Turns.{line_place, AreTurns, GainTurns}
 use Rattle.order_rebuild.proofs.Makes.{turns_more}
 use Rattle.order_rebuild.proofs.lines.turns_of.Goals as goal
 
@@ -21,8 +21,8 @@ loop-p-preserved g c =
     let gains : GainTurns s.uses p (length s.uses) old new =
     subst (λ (us : List LockUse). GainTurns us p (length us) old new) c.uses.ensures c.in_ok-push_turns.ensures in
     let fits = subst (λ (n : ℕ). n < LINE) c.index.ensures c.code_of_caller-code.ensures.fits in
-    let code : c.code_of_caller-code.result ≡ caller_code s.caller s.index =
-    c.code_of_caller-code.ensures.is ∙ (ap (λ (n : ℕ). caller_code n c.index.result) c.caller.ensures
-    ∙ ap (λ (n : ℕ). caller_code s.caller n) c.index.ensures) in
+    let code : c.code_of_caller-code.result ≡ line_place s.caller s.index =
+    c.code_of_caller-code.ensures.is ∙ (ap (λ (n : ℕ). line_place n c.index.result) c.caller.ensures
+    ∙ ap (λ (n : ℕ). line_place s.caller n) c.index.ensures) in
     let all = c.in_ok-push.ensures.items ∙ ap (λ (n : ℕ). new ++ record { code = n; item = p } ∷ []) code in
     subst (λ (turns : List Turn). AreTurns list (p + 1) turns) (sym all) (turns_more list p s old new c.loop-p.invariant at gains fits)

@@ -1,13 +1,14 @@
 use Rattle.std.proofs.Common.{◌≡◌, ℕ, List, Bool, false, slice_get, slice_set, take, Some, sym, ◌∙◌, subst, arith, length-set}
 use Rattle.std.specs.BinaryHeap.{heap_items}
-use Rattle.order_rebuild.specs.Order.{IsRest, IsNext}
+use Rattle.order_rebuild.proofs.Open.{IsRest}
+use Rattle.order_rebuild.specs.Order.{IsNext}
 use Rattle.order_rebuild.proofs.Marks.{count-set, rest_first, rest_more, each_more, next_open, order_done}
 use Rattle.order_rebuild.proofs.Begin.{first_waits, state_first, each_first, nothing}
 use Rattle.order_rebuild.proofs.Come.{comer_known, comer_here, comer_least, gone_placed, stopped_placed, ready_placed, none_listed}
 use Rattle.order_rebuild.proofs.placing.place_all.Goals as goal
 
-pub settle_all-requires-clause-waits : goal.settle_all-requires-clause-waits
-settle_all-requires-clause-waits c = first_waits c.args.lines.now c.requires.rows c.args.next.now c.args.wait.now c.requires.wait
+pub queue_all-requires-clause-waits : goal.queue_all-requires-clause-waits
+queue_all-requires-clause-waits c = first_waits c.args.lines.now c.requires.rows c.args.next.now c.args.wait.now c.requires.wait
 
 pub all-init : goal.all-init
 all-init c = let l = c.args.lines.now in let r = c.requires in record {
@@ -15,9 +16,9 @@ all-init c = let l = c.args.lines.now in let r = c.requires in record {
   rest = λ list lines. subst (λ (o : List ℕ). IsRest list o c.args.left.now) (sym r.out)
       (rest_first list c.args.left.now (r.sized ∙ lines.count) (λ p lt. r.left p (omega (arith, r.sized))));
   each = λ list lines. each_first list c.args.out.now.items r.out;
-  state = state_first l r.rows c.args.left.now c.args.next.now c.args.wait.now c.settle_all.new.wait
-      (heap_items c.args.ready) (heap_items c.settle_all.new.ready) r.wait r.left r.ready r.next r.first
-      c.in_ok-settle_all.ensures.waits c.in_ok-settle_all.ensures.closed c.in_ok-settle_all.ensures.ready;
+  state = state_first l r.rows c.args.left.now c.args.next.now c.args.wait.now c.queue_all.new.wait
+      (heap_items c.args.ready) (heap_items c.queue_all.new.ready) r.wait r.left r.ready r.next r.first
+      c.in_ok-queue_all.ensures.waits c.in_ok-queue_all.ensures.closed c.in_ok-queue_all.ensures.ready;
 }
 
 pub all-smaller : goal.all-smaller

@@ -1,6 +1,6 @@
 use Rattle.std.proofs.Common.{◌++◌, ◌∷◌, codes, ap, ◌∙◌}
 use Rattle.std.specs.String.{string_bytes}
-use Rattle.script_reader.specs.declared.words.TheConstants.{SPACE}
+use Rattle.script_reader.specs.declared.text.words.TheConstants.{SPACE}
 use Rattle.script_reader.specs.Text.{number}
 use Rattle.books_report.proofs.AnyStore.Printing.{feed_pushed}
 use Rattle.record_text.proofs.Printing.{header_of}

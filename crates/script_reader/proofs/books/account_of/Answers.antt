@@ -6,11 +6,11 @@ use Rattle.script_reader.specs.declared.books.Row.TheVariants as row
 use Rattle.script_reader.specs.Forms.{accounts}
 use Rattle.script_reader.specs.Inner.BooksRows.{IsRow}
 use Rattle.script_reader.specs.Rows.{HasNumbers, numbers_fault}
-use Rattle.script_reader.specs.Inner.Rows.{account_ranges}
-use Rattle.script_reader.proofs.Printing.Printed.{is_late_in}
-use Rattle.script_reader.proofs.WithoutFault.BooksFaultless.{printed}
+use Rattle.script_reader.proofs.books.RowRanges.{account_ranges}
+use Rattle.script_reader.proofs.books.Printing.Printed.{is_late_in}
+use Rattle.script_reader.proofs.books.WithoutFault.BooksFaultless.{printed}
 use Rattle.script_reader.proofs.LineFaults.Refusing.{accounts_late, late_row, numbers_row, read_row, account_fault, gives_account}
-use Rattle.script_reader.proofs.Tokens.Ranging.{first_read}
+use Rattle.script_reader.proofs.text.Tokens.Ranging.{first_read}
 use Rattle.script_reader.proofs.Finding.{account_low}
 use Rattle.script_reader.proofs.books.account_of.Goals as goal
 use Rattle.script_reader.proofs.books.account_of.Goals.{Else-is_past_accounts, In_ok-account}

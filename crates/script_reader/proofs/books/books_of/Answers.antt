@@ -4,9 +4,10 @@ use Rattle.std.proofs.lemmas.Result.{err_from_is_err_and}
 use Rattle.std.specs.List.{flat_map}
 use Rattle.script_reader.specs.declared.fault.Refusal.TheVariants as refusal
 use Rattle.script_reader.specs.Text.{line}
-use Rattle.script_reader.specs.Faults.{fault_of, AreFaultless, IsFaultyBehind, header_version}
-use Rattle.script_reader.proofs.WithoutFault.BooksFaultless.{books_faultless}
-use Rattle.script_reader.proofs.Printing.Extending.{header_adds, books_of_header}
+use Rattle.script_reader.proofs.books.NoneFaulty.{AreFaultless}
+use Rattle.script_reader.specs.Faults.{fault_of, IsFaultyBehind, header_version}
+use Rattle.script_reader.proofs.books.WithoutFault.BooksFaultless.{books_faultless}
+use Rattle.script_reader.proofs.books.Printing.Extending.{header_adds, books_of_header}
 use Rattle.script_reader.proofs.Judging.{behind_end, behind_line, behind_more}
 use Rattle.script_reader.proofs.books.books_of.Goals as goal
 

@@ -4,16 +4,17 @@ use Rattle.std.proofs.lemmas.List.Concat.{flat_map-append}
 use Rattle.std.proofs.lemmas.Result.{err_from_is_err_and}
 use Rattle.books_model.specs.Books.{ClearingBooks}
 use Rattle.books_model.specs.Ranges.{AreInRange}
-use Rattle.script_reader.specs.declared.version.Version.{Version}
+use Rattle.script_reader.specs.declared.books.version.Version.{Version}
 use Rattle.script_reader.specs.Versions.{AreBooksWithin}
 use Rattle.script_reader.specs.Text.{line}
 use Rattle.script_reader.specs.Inner.LinesAsWords.{books_words}
 use Rattle.script_reader.specs.Forms.{Words}
-use Rattle.script_reader.specs.Faults.{AreFaultless, fault_of}
-use Rattle.script_reader.proofs.Versions.{row_within}
+use Rattle.script_reader.proofs.books.NoneFaulty.{AreFaultless}
+use Rattle.script_reader.specs.Faults.{fault_of}
+use Rattle.script_reader.proofs.books.Versions.{row_within}
 use Rattle.script_reader.proofs.LineFaults.LineKinds.{only_word}
-use Rattle.script_reader.proofs.WithoutFault.BooksFaultless.{books_faultless}
-use Rattle.script_reader.proofs.Texts.Following.{line_shorter, more_text}
+use Rattle.script_reader.proofs.books.WithoutFault.BooksFaultless.{books_faultless}
+use Rattle.script_reader.proofs.books.Texts.Following.{line_shorter, more_text}
 use Rattle.script_reader.proofs.Judging.{behind_end, behind_line, behind_more, faultless_rest}
 use Rattle.script_reader.proofs.books.fill.Goals as goal
 

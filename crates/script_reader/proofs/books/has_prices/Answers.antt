@@ -3,7 +3,7 @@ use Rattle.std.specs.Option.{is_some}
 use Rattle.std.specs.Cmp.{nat_cmp_total}
 use Rattle.std.specs.Ordering.{nat_cmp}
 use Rattle.std.proofs.lemmas.Bool.{lt-ltb}
-use Rattle.script_reader.proofs.Printing.Sections.{each_entry}
+use Rattle.script_reader.proofs.books.Printing.Sections.{each_entry}
 use Rattle.script_reader.proofs.Finding.{found_any}
 use Rattle.script_reader.proofs.books.has_prices.Goals as goal
 

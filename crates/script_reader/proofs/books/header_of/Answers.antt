@@ -4,7 +4,7 @@ use Rattle.books_model.specs.Books.{empty_books}
 use Rattle.books_model.specs.Ranges.{IsWithin}
 use Rattle.script_reader.specs.Versions.{AreBooksWithin}
 use Rattle.script_reader.specs.Inner.LinesAsWords.{books_words}
-use Rattle.script_reader.proofs.Printing.Extending.{header_adds, books_of_header}
+use Rattle.script_reader.proofs.books.Printing.Extending.{header_adds, books_of_header}
 use Rattle.script_reader.proofs.books.header_of.Goals as goal
 use Rattle.script_reader.proofs.books.header_of.Goals.{After-new}
 

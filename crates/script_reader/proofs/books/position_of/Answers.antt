@@ -4,18 +4,18 @@ use Rattle.std.specs.FinMap as map
 use Rattle.std.proofs.lemmas.Result.{err_from_is_err_and}
 use Rattle.books_model.specs.declared.limits.TheConstants.{GREATEST_ACCOUNT}
 use Rattle.books_model.specs.Ranges.{IsWithin}
-use Rattle.script_reader.specs.declared.version.Version.{Version}
+use Rattle.script_reader.specs.declared.books.version.Version.{Version}
 use Rattle.script_reader.specs.declared.books.Row.TheVariants as row
-use Rattle.script_reader.specs.Forms.{accounts, quantities, value_at}
+use Rattle.script_reader.specs.Forms.{accounts, quantities, word_value}
 use Rattle.script_reader.specs.Inner.BooksRows.{IsRow}
 use Rattle.script_reader.specs.Inner.LinesAsWords.{books_words}
 use Rattle.script_reader.specs.Faults.{fault_of}
 use Rattle.script_reader.specs.Rows.{HasNumbers, numbers_fault}
-use Rattle.script_reader.specs.Inner.Rows.{position_ranges}
-use Rattle.script_reader.proofs.Printing.Printed.{reasons, is_low_in}
-use Rattle.script_reader.proofs.WithoutFault.BooksFaultless.{printed}
+use Rattle.script_reader.proofs.books.RowRanges.{position_ranges}
+use Rattle.script_reader.proofs.books.Printing.Printed.{reasons, is_low_in}
+use Rattle.script_reader.proofs.books.WithoutFault.BooksFaultless.{printed}
 use Rattle.script_reader.proofs.LineFaults.Refusing.{has_no_block, late_row, numbers_row, read_row, some_is, position_fault, gives_position}
-use Rattle.script_reader.proofs.Tokens.Ranging.{first_read, second_read}
+use Rattle.script_reader.proofs.text.Tokens.Ranging.{first_read, second_read}
 use Rattle.script_reader.proofs.Finding.{position_low, given_is_found}
 use Rattle.script_reader.proofs.books.position_of.Goals as goal
 use Rattle.script_reader.proofs.books.position_of.Goals.{In_ok-account, Else-is_some, Else-is_none, Else-is_none-2}
@@ -55,9 +55,9 @@ returns-in_err-account-clause-err c =
 
 -- what is wrong with the line, its numbers read
 wrong : (version : Version) (c : In_ok-account) {low account price full : Bool}
-    → is_low_in 2 (value_at c.args.words.now 1, value_at c.args.words.now 2) (printed version c.args.books.now) ≡ low
-    → not (list_any (λ e. e.0 == value_at c.args.words.now 1) (map.entries c.args.books.now.accounts)) ≡ account
-    → not (list_any (λ e. e.0 == value_at c.args.words.now 2) (map.entries c.args.books.now.prices)) ≡ price
+    → is_low_in 2 (word_value c.args.words.now 1, word_value c.args.words.now 2) (printed version c.args.books.now) ≡ low
+    → not (list_any (λ e. e.0 == word_value c.args.words.now 1) (map.entries c.args.books.now.accounts)) ≡ account
+    → not (list_any (λ e. e.0 == word_value c.args.words.now 2) (map.entries c.args.books.now.prices)) ≡ price
     → has_no_block c.args.books.now ≡ full
     → fault_of (books_words version c.args.books.now) c.args.words.now ≡ reasons false false false false low account price full
 wrong version c = read_row (position_fault version c.args.books.now c.ranges-2.ensures c.args.words.now c.requires)
@@ -65,16 +65,16 @@ wrong version c = read_row (position_fault version c.args.books.now c.ranges-2.e
 
 -- the position rises, its account is given, and its instrument has a price
 rises : (version : Version) (c : Else-is_some) → 1 ≤ c.in_ok-account.instrument
-    → is_low_in 2 (value_at c.args.words.now 1, value_at c.args.words.now 2) (printed version c.args.books.now) ≡ false
+    → is_low_in 2 (word_value c.args.words.now 1, word_value c.args.words.now 2) (printed version c.args.books.now) ≡ false
 rises version c some = position_low _ version c.args.books.now _ _ _ _ _ some c.in_ok-account.ensures.found.1 c.in_ok-account.ensures.found.2
     c.position_after.ensures.first ∙ sym c.is_some.ensures ∙ c.if-is_some.false
 
-given : (c : Else-is_none) → not (list_any (λ e. e.0 == value_at c.args.words.now 1) (map.entries c.args.books.now.accounts)) ≡ false
-given c = ap not (given_is_found c.args.books.now.accounts c.in_ok-account.account (value_at c.args.words.now 1)
+given : (c : Else-is_none) → not (list_any (λ e. e.0 == word_value c.args.words.now 1) (map.entries c.args.books.now.accounts)) ≡ false
+given c = ap not (given_is_found c.args.books.now.accounts c.in_ok-account.account (word_value c.args.words.now 1)
     c.in_ok-account.ensures.found.1 c.cash.result c.cash.ensures ∙ c.is_none.ensures ∙ ap not c.if-is_none.false)
 
-priced : (c : Else-is_none-2) → not (list_any (λ e. e.0 == value_at c.args.words.now 2) (map.entries c.args.books.now.prices)) ≡ false
-priced c = ap not (given_is_found c.args.books.now.prices c.in_ok-account.instrument (value_at c.args.words.now 2)
+priced : (c : Else-is_none-2) → not (list_any (λ e. e.0 == word_value c.args.words.now 2) (map.entries c.args.books.now.prices)) ≡ false
+priced c = ap not (given_is_found c.args.books.now.prices c.in_ok-account.instrument (word_value c.args.words.now 2)
     c.in_ok-account.ensures.found.2 c.price.result c.price.ensures ∙ c.is_none-2.ensures ∙ ap not c.if-is_none-2.false)
 
 pub returns-then-is_some-clause-err : goal.returns-then-is_some-clause-err
@@ -88,14 +88,14 @@ pub returns-then-is_none-clause-err : goal.returns-then-is_none-clause-err
 returns-then-is_none-clause-err c version =
     let at = goal.at.returns-then-is_none-clause-err c in
     wrong version at.In_ok-account (rises version at.Else-is_some (instrument_within at.In_ok-account).0)
-    (ap not (given_is_found c.args.books.now.accounts c.in_ok-account.account (value_at c.args.words.now 1)
+    (ap not (given_is_found c.args.books.now.accounts c.in_ok-account.account (word_value c.args.words.now 1)
     c.in_ok-account.ensures.found.1 c.cash.result c.cash.ensures ∙ c.is_none.ensures ∙ ap not c.if-is_none.true)) refl refl
 
 pub returns-then-is_none-2-clause-err : goal.returns-then-is_none-2-clause-err
 returns-then-is_none-2-clause-err c version =
     let at = goal.at.returns-then-is_none-2-clause-err c in
     wrong version at.In_ok-account (rises version at.Else-is_some (instrument_within at.In_ok-account).0) (given at.Else-is_none)
-    (ap not (given_is_found c.args.books.now.prices c.in_ok-account.instrument (value_at c.args.words.now 2)
+    (ap not (given_is_found c.args.books.now.prices c.in_ok-account.instrument (word_value c.args.words.now 2)
     c.in_ok-account.ensures.found.2 c.price.result c.price.ensures ∙ c.is_none-2.ensures ∙ ap not c.if-is_none-2.true)) refl
 
 pub returns-then-is_full-clause-err : goal.returns-then-is_full-clause-err

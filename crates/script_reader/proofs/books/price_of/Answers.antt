@@ -1,16 +1,16 @@
 use Rattle.std.proofs.Common.{lit<, ◌≡◌, ◌∷◌, [], false, codes, Some, refl, sym, subst, ◌∙◌, arith}
 use Rattle.std.proofs.lemmas.Result.{err_from_is_err_and}
 use Rattle.books_model.specs.Ranges.{IsWithin}
-use Rattle.script_reader.specs.declared.version.Version.{Version}
+use Rattle.script_reader.specs.declared.books.version.Version.{Version}
 use Rattle.script_reader.specs.declared.books.Row.TheVariants as row
 use Rattle.script_reader.specs.Forms.{prices}
 use Rattle.script_reader.specs.Inner.BooksRows.{IsRow}
 use Rattle.script_reader.specs.Rows.{HasNumbers, numbers_fault}
-use Rattle.script_reader.specs.Inner.Rows.{price_ranges}
-use Rattle.script_reader.proofs.Printing.Printed.{is_late_in}
-use Rattle.script_reader.proofs.WithoutFault.BooksFaultless.{printed}
+use Rattle.script_reader.proofs.books.RowRanges.{price_ranges}
+use Rattle.script_reader.proofs.books.Printing.Printed.{is_late_in}
+use Rattle.script_reader.proofs.books.WithoutFault.BooksFaultless.{printed}
 use Rattle.script_reader.proofs.LineFaults.Refusing.{prices_late, late_row, numbers_row, read_row, price_fault, gives_price}
-use Rattle.script_reader.proofs.Tokens.Ranging.{first_read}
+use Rattle.script_reader.proofs.text.Tokens.Ranging.{first_read}
 use Rattle.script_reader.proofs.Finding.{price_low}
 use Rattle.script_reader.proofs.books.price_of.Goals as goal
 use Rattle.script_reader.proofs.books.price_of.Goals.{Else-is_past_prices, In_ok-instrument}

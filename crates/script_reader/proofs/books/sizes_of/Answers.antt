@@ -8,10 +8,10 @@ use Rattle.script_reader.specs.Number.{is_number}
 use Rattle.script_reader.specs.Lines.{word_at}
 use Rattle.script_reader.specs.Forms.{Words, is_header, is_in_range}
 use Rattle.script_reader.specs.Faults.{first_reason, header_fault, header_version}
-use Rattle.script_reader.proofs.Versions.{blocks_exact}
+use Rattle.script_reader.proofs.books.Versions.{blocks_exact}
 use Rattle.script_reader.proofs.Conditions.{and_true}
-use Rattle.script_reader.proofs.Tokens.Ranging.{ranged_true, ranged_false, ranged_value}
-use Rattle.script_reader.proofs.Tokens.Pairs.{not_both, pair_false}
+use Rattle.script_reader.proofs.text.Tokens.Ranging.{ranged_true, ranged_false, ranged_value}
+use Rattle.script_reader.proofs.text.Tokens.Pairs.{not_both, pair_false}
 use Rattle.script_reader.proofs.books.sizes_of.Goals as goal
 
 -- what is wrong with a header whose words and whose numbers are tested

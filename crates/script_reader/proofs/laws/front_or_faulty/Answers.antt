@@ -1,4 +1,4 @@
-use Rattle.script_reader.proofs.Texts.FrontLaws.{front_either, never_both}
+use Rattle.script_reader.proofs.books.Texts.FrontLaws.{front_either, never_both}
 use Rattle.script_reader.proofs.laws.front_or_faulty.Goals as goal
 
 pub returns : goal.returns

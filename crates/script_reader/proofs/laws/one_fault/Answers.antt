@@ -1,4 +1,4 @@
-use Rattle.script_reader.proofs.Texts.Deciding.{one_fault}
+use Rattle.script_reader.proofs.books.Texts.Deciding.{one_fault}
 use Rattle.script_reader.proofs.laws.one_fault.Goals as goal
 
 pub returns : goal.returns

@@ -1,4 +1,4 @@
-use Rattle.script_reader.proofs.Listed.Telling.{one_fault}
+use Rattle.script_reader.proofs.language.Listed.Telling.{one_fault}
 use Rattle.script_reader.proofs.laws.one_fault_in.Goals as goal
 
 pub returns : goal.returns

@@ -1,4 +1,4 @@
-use Rattle.script_reader.proofs.Texts.FrontLaws.{one_front}
+use Rattle.script_reader.proofs.books.Texts.FrontLaws.{one_front}
 use Rattle.script_reader.proofs.laws.one_front.Goals as goal
 
 pub returns : goal.returns

@@ -1,4 +1,4 @@
-use Rattle.script_reader.proofs.Texts.OneInput.{one_input}
+use Rattle.script_reader.proofs.books.Texts.OneInput.{one_input}
 use Rattle.script_reader.proofs.laws.one_input.Goals as goal
 
 pub returns : goal.returns

@@ -1,4 +1,4 @@
-use Rattle.script_reader.proofs.Listed.Telling.{one_text}
+use Rattle.script_reader.proofs.language.Listed.Telling.{one_text}
 use Rattle.script_reader.proofs.laws.one_text_in.Goals as goal
 
 pub returns : goal.returns

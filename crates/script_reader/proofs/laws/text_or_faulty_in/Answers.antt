@@ -1,4 +1,4 @@
-use Rattle.script_reader.proofs.Listed.Reached.{either, never_both}
+use Rattle.script_reader.proofs.language.Listed.Reached.{either, never_both}
 use Rattle.script_reader.proofs.laws.text_or_faulty_in.Goals as goal
 
 pub returns : goal.returns

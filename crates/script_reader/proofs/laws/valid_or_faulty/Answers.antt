@@ -1,4 +1,4 @@
-use Rattle.script_reader.proofs.Texts.Deciding.{either, not_both}
+use Rattle.script_reader.proofs.books.Texts.Deciding.{either, not_both}
 use Rattle.script_reader.proofs.laws.valid_or_faulty.Goals as goal
 
 pub returns : goal.returns

@@ -2,11 +2,12 @@ use Rattle.std.proofs.Common.{List, All, ◌++◌, map, ap, ◌∙◌, subst, sy
 use Rattle.std.proofs.lemmas.Result.{IfOk-weaker}
 use Rattle.std.specs.String.{string_bytes}
 use Rattle.script_reader.specs.Journal.{IsPlace}
-use Rattle.books_report.specs.Output.{journal_lines}
+use Rattle.books_report.specs.Journals.{journal_lines}
 use Rattle.worker_pool.specs.Days.{Done, place_of_item}
 use Rattle.twoplsf.specs.Day.{ran_of_item}
 use Rattle.twoplsf.proofs.Days.{items_places, joined_is}
 use Rattle.twoplsf.proofs.answer.shared_output.Goals as goal
+use Rattle.books_report.specs.Words.{reply_words}
 
 pub write_shared-requires-clause-places : goal.write_shared-requires-clause-places
 write_shared-requires-clause-places g c _ _ =
@@ -19,6 +20,7 @@ returns g c =
     IfOk-weaker c.with_closing.result _ _
     (λ text told. joined_is input c.args.workers c.args.day.now c.requires.day text.items (string_bytes c.in_ok-head.head)
     (string_bytes c.in_ok-journal.journal) c.args.closing.now c.requires.closing c.in_ok-head.ensures.ok
-    (c.in_ok-journal.ensures ∙ ap (λ items. string_bytes c.in_ok-head.head ++ journal_lines input 1 (map ran_of_item items)) c.deref.ensures.value)
+    (c.in_ok-journal.ensures ∙ ap (λ items. string_bytes c.in_ok-head.head
+    ++ journal_lines reply_words input.callers 1 (map ran_of_item items)) c.deref.ensures.value)
     told)
     c.with_closing.ensures

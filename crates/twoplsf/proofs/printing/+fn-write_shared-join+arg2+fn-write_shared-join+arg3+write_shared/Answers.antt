@@ -1,9 +1,10 @@
 use Rattle.std.proofs.Common.{◌≡◌, ◌+◌, ◌++◌, IfOk, length, map, refl, subst, ◌∙◌}
 use Rattle.std.specs.String.{string_bytes}
-use Rattle.books_report.specs.Output.{journal_lines}
+use Rattle.books_report.specs.Journals.{journal_lines}
 use Rattle.twoplsf.specs.Day.{ran_of_item}
 use Rattle.twoplsf.proofs.Printed.{pieces_joined}
 use Rattle.twoplsf.proofs.printing.+fn-write_shared-join+arg2+fn-write_shared-join+arg3+write_shared.Goals as goal
+use Rattle.books_report.specs.Words.{reply_words}
 
 pub returns : goal.returns
 returns g t c =
@@ -11,9 +12,10 @@ returns g t c =
     let first = c.args.first in
     let front = c.split_at.result.0.now in
     let back = c.split_at.result.1.now in
-    let one = subst (λ o. IfOk o (λ whole. string_bytes whole ≡ string_bytes c.args.text ++ journal_lines input first (map ran_of_item front)))
+    let one = subst (λ o. IfOk o (λ whole. string_bytes whole ≡ string_bytes c.args.text
+    ++ journal_lines reply_words input.callers first (map ran_of_item front)))
     c.in_ok-whole.was c.join-whole.ensures.first in
-    let other = subst (λ o. IfOk o (λ more. string_bytes more ≡ journal_lines input (first + length front) (map ran_of_item back)))
+    let other = subst (λ o. IfOk o (λ more. string_bytes more ≡ journal_lines reply_words input.callers (first + length front) (map ran_of_item back)))
     c.in_ok-more.was c.join-whole.ensures.second in
     pieces_joined input first (first + length front) c.args.done.now front back
     (string_bytes c.args.text) (string_bytes c.in_ok-whole.whole) c.deref.result.now (string_bytes c.push_str.new.self)

@@ -62,4 +62,5 @@ returns-in-Ok-clause-complete_check g c =
 pub returns-in-Ok-clause-complete_making : goal.returns-in-Ok-clause-complete_making
 returns-in-Ok-clause-complete_making g c =
     let complete = rw c.deref.ensures.value at c.serve.ensures.complete_making in
-    where_ok _ c.in-Ok.is (λ making write. one_of_two c.last_code.result c.serve.result.status status.Done status.OutOfMemory c.last_code.ensures (complete making write))
+    where_ok _ c.in-Ok.is (λ making write. one_of_two c.last_code.result c.serve.result.status status.Done status.OutOfMemory c.last_code.ensures
+    (complete making write))

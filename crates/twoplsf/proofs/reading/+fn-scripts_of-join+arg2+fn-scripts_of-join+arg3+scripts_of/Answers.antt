@@ -1,6 +1,6 @@
 use Rattle.std.proofs.Common.{sym, subst, IfSome}
 use Rattle.script_reader.specs.Pieces.{AreScripts}
-use Rattle.script_reader.proofs.Texts.Piecing.{both_pieces}
+use Rattle.script_reader.proofs.books.Texts.Piecing.{both_pieces}
 use Rattle.twoplsf.proofs.reading.+fn-scripts_of-join+arg2+fn-scripts_of-join+arg3+scripts_of.Goals as goal
 
 pub returns : goal.returns

@@ -1,5 +1,5 @@
-use Rattle.script_reader.proofs.Texts.Deciding.{not_both}
-use Rattle.script_reader.proofs.Texts.OneInput.{one_input}
+use Rattle.script_reader.proofs.books.Texts.Deciding.{not_both}
+use Rattle.script_reader.proofs.books.Texts.OneInput.{one_input}
 use Rattle.twoplsf.proofs.reading.read_shared.Goals as goal
 
 pub returns-in-Some-clause-read : goal.returns-in-Some-clause-read

@@ -40,7 +40,7 @@ returns-in-Ok-run_command g c =
     c.bytes_for.ensures.taken c.bytes_for.ensures.reads) is c.in-Ok.ensures.given
     (rw c.deref.ensures.value at c.in-Ok-run_command.ensures) (λ many. no_error c.in-Ok.bytes _ _ (c.in-Ok.ensures.above_limit many))
 
--- where there was no memory for the answer
+-- if there was no memory for the answer
 pub returns : goal.returns
 returns g c =
     let words = texts_of c.args.words.now in let command = c.in-Some.command in let is = c.in-Some.ensures.some in

@@ -14,14 +14,14 @@ never : Rose 0 0 → ⊥
 never (inl less) = omega arith
 never (inr last) = omega arith
 
--- of four, where two in the middle do not hold
+-- of four, if two in the middle do not hold
 first_or_last : {A B C D : Type 0} → (A ⊎ B ⊎ C ⊎ D) → (B → ⊥) → (C → ⊥) → A ⊎ D
 first_or_last (inl a) b c = inl a
 first_or_last (inr (inl h)) b c = absurd (b h)
 first_or_last (inr (inr (inl h))) b c = absurd (c h)
 first_or_last (inr (inr (inr d))) b c = inr d
 
--- of two and of three, where the second does not hold
+-- of two and of three, if the second does not hold
 first : {A B : Type 0} → A ⊎ B → (B → ⊥) → A
 first (inl a) b = a
 first (inr h) b = absurd (b h)

@@ -17,8 +17,10 @@ insert_greatest-requires-clause-order c =
     let books = c.requires.books.0 in
     let stand = c.requires.books.1.stands in
     rw (c.tree.ensures, c.deref_mut.ensures.value)
-    (order_taken (tree_part (tree_of c.args.shape.now)) (is_one (tree_of c.args.shape.now)) (tree_stays (tree_of c.args.shape.now)) c.args.words.items c.in_ok-words.words.items
-    c.in_ok-words.block c.in_ok-words.ensures books.accounts stand.parts.tree_used stand.parts.free (tree_apart c.args.shape.now c.args.words.items books stand))
+    (order_taken (tree_part (tree_of c.args.shape.now)) (is_one (tree_of c.args.shape.now))
+    (tree_stays (tree_of c.args.shape.now)) c.args.words.items c.in_ok-words.words.items
+    c.in_ok-words.block c.in_ok-words.ensures books.accounts stand.parts.tree_used stand.parts.free
+    (tree_apart c.args.shape.now c.args.words.items books stand))
 
 pub insert_greatest-requires-clause-spine : goal.insert_greatest-requires-clause-spine
 insert_greatest-requires-clause-spine c =
@@ -31,8 +33,10 @@ insert_greatest-requires-clause-unused c =
     let books = c.requires.books.0 in
     let stand = c.requires.books.1.stands in
     rw (c.tree.ensures, c.deref_mut.ensures.value)
-    (unused_taken (tree_part (tree_of c.args.shape.now)) (is_one (tree_of c.args.shape.now)) (tree_stays (tree_of c.args.shape.now)) c.args.words.items c.in_ok-words.words.items
-    c.in_ok-words.block c.in_ok-words.ensures books.accounts stand.parts.tree_used stand.parts.free (tree_apart c.args.shape.now c.args.words.items books stand))
+    (unused_taken (tree_part (tree_of c.args.shape.now)) (is_one (tree_of c.args.shape.now))
+    (tree_stays (tree_of c.args.shape.now)) c.args.words.items c.in_ok-words.words.items
+    c.in_ok-words.block c.in_ok-words.ensures books.accounts stand.parts.tree_used stand.parts.free
+    (tree_apart c.args.shape.now c.args.words.items books stand))
 
 pub insert_greatest-requires-clause-lacks : goal.insert_greatest-requires-clause-lacks
 insert_greatest-requires-clause-lacks c =
@@ -43,7 +47,8 @@ insert_greatest-requires-clause-lacks c =
     (tree_apart c.args.shape.now c.args.words.items books stand).free_lists)
 
 -- the words that are left
-kept : (c : In_ok-insert_greatest) → take c.in_ok-words.words.len (c.insert_greatest.new.words ++ drop (length c.insert_greatest.new.words) c.in_ok-words.words.items)
+kept : (c : In_ok-insert_greatest)
+    → take c.in_ok-words.words.len (c.insert_greatest.new.words ++ drop (length c.insert_greatest.new.words) c.in_ok-words.words.items)
     ≡ c.insert_greatest.new.words
 kept c =
     let long : c.in_ok-words.words.len ≡ length c.insert_greatest.new.words =
@@ -64,6 +69,7 @@ returns-clause-built c =
     x c.in_ok-words.words.items c.in_ok-words.block c.in_ok-words.ensures
     books.accounts built.stands.parts.tree_used built.stands.parts.free (tree_apart shape x books built.stands)
     c.args.account c.args.cash y c.requires.books.2 puts own in
-    let stands = account_put shape x y books built.stands c.args.account c.args.cash c.requires.books.2 c.requires.books.3 c.requires.account c.requires.cash New put in
+    let stands = account_put shape x y books built.stands c.args.account c.args.cash
+    c.requires.books.2 c.requires.books.3 c.requires.account c.requires.cash New put in
     rw (kept (goal.at.returns-clause-built c).In_ok-insert_greatest)
     (built_of shape x y (λ b. put_cash b c.args.account c.args.cash) books built put.keeps.count stands)

@@ -45,7 +45,8 @@ insert_absent-requires-clause-absent c =
     let stand = c.requires.books.1.stands in
     rw (c.chains.ensures, c.deref_mut.ensures.value, c.price_key-key.ensures)
     (absent_taken (chain_part (chains_of shape)) (is_one (chains_of shape)) (chains_stay (chains_of shape)) x c.in_ok-words.words.items c.in_ok-words.block
-    c.in_ok-words.ensures (chained books) stand.parts.chain_used stand.parts.free (chains_apart shape x books stand) (key_of (goal.at.insert_absent-requires-clause-absent c).In_ok-words) (absent (goal.at.insert_absent-requires-clause-absent c).In_ok-words))
+    c.in_ok-words.ensures (chained books) stand.parts.chain_used stand.parts.free (chains_apart shape x books stand)
+    (key_of (goal.at.insert_absent-requires-clause-absent c).In_ok-words) (absent (goal.at.insert_absent-requires-clause-absent c).In_ok-words))
 
 pub insert_absent-requires-clause-unused : goal.insert_absent-requires-clause-unused
 insert_absent-requires-clause-unused c =

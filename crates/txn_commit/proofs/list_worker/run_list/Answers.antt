@@ -50,7 +50,12 @@ returns-in_err-item g c =
     let failed = c.from_residual.ensures.0 in
     let i = c.loop-index.invariant in
     let e = c.run_listed.ensures.next in
-    let next : IsNext c.args.pass.now c.run_listed.new.pass = record { table_stays = e.table_stays ∙ i.table; idle = e.idle; who_stays = e.who_stays ∙ i.who } in
+    let next : IsNext c.args.pass.now c.run_listed.new.pass = record {
+      table_stays = e.table_stays ∙ i.table;
+      idle = e.idle;
+      who_stays = e.who_stays
+          ∙ i.who;
+    } in
     search IfOk-from_err
 
 pub returns-in_err-push : goal.returns-in_err-push
@@ -58,7 +63,12 @@ returns-in_err-push g c =
     let failed = c.from_residual-in_err-push.ensures.0 in
     let i = c.loop-index.invariant in
     let e = c.run_listed.ensures.next in
-    let next : IsNext c.args.pass.now c.run_listed.new.pass = record { table_stays = e.table_stays ∙ i.table; idle = e.idle; who_stays = e.who_stays ∙ i.who } in
+    let next : IsNext c.args.pass.now c.run_listed.new.pass = record {
+      table_stays = e.table_stays ∙ i.table;
+      idle = e.idle;
+      who_stays = e.who_stays
+          ∙ i.who;
+    } in
     search IfOk-from_err
 
 pub returns : goal.returns

@@ -3,7 +3,8 @@ use Rattle.std.proofs.lemmas.Result.{IfOk-from_err}
 use Rattle.history_model.specs.Views.{number}
 use Rattle.txn_threads.specs.Passes.{IsNext}
 use Rattle.word_table.specs.Desks.{AreGoodWords}
-use Rattle.txn_commit.specs.Inner.ListWork.{HasRun, IsUnderWay, RanFirst}
+use Rattle.txn_commit.specs.Inner.ListWork.{HasRun, RanFirst}
+use Rattle.txn_commit.proofs.UnderWay.{IsUnderWay}
 use Rattle.txn_commit.proofs.ListWork.{first_none, first_passes, first_runs, jobs_more, jobs_within, list_count, run_none}
 use Rattle.txn_commit.proofs.list_worker.run_own.Goals as goal
 use Rattle.txn_commit.proofs.list_worker.run_own.Goals.{then-caller-workers+in_ok-run_list, else-caller-workers}

@@ -1,5 +1,5 @@
 use Rattle.word_table.specs.Desks.{AreGoodWords}
-use Rattle.txn_commit.specs.Inner.ListWork.{IsUnderWay}
+use Rattle.txn_commit.proofs.UnderWay.{IsUnderWay}
 use Rattle.txn_commit.proofs.list_worker.run_own.Given as goal
 
 -- of the callers before this one those of the pass were run

@@ -84,12 +84,12 @@ returns-in-Ok g c = let inv = c.loop-restarts.invariant in let first = c.args.at
     (not_halted ran.halt (c.in-Ok.ensures.done)) c.run.ensures.sound.stands in
     let desk = same_desk ran.desk.now at.desk.now ran.pass.ghost_name at.pass.ghost_name ran.began.value at.began.value c.run.ensures.origin ∙ inv.desk in
     let shape = ap (λ d. d.shape) desk ∙ sym c.requires.job in
-    let commits = c.in-Ok-settle.ensures.entry in
-    let new = c.settle.new.attempt.pass.now.view in
+    let commits = c.in-Ok-commit_or_undo.ensures.entry in
+    let new = c.commit_or_undo.new.attempt.pass.now.view in
     record {
-      name = c.settle.ensures.name
+      name = c.commit_or_undo.ensures.name
           ∙ (same_name ran.desk.now at.desk.now ran.pass.ghost_name at.pass.ghost_name ran.began.value at.began.value c.run.ensures.origin ∙ inv.name);
-      desk = c.settle.ensures.desk ∙ same_table ran.desk.now c.args.attempt.now.desk.now desk;
+      desk = c.commit_or_undo.ensures.desk ∙ same_table ran.desk.now c.args.attempt.now.desk.now desk;
       seat = seat_after_commit first ran.pass.now.view new c.decision-kept.result.0 commits same.seat;
       call = ap (λ (v : View). v.call) commits ∙ (same.call ∙ c.requires.call);
       undone = ap (λ (v : View). v.undo) commits;
@@ -97,16 +97,16 @@ returns-in-Ok g c = let inv = c.loop-restarts.invariant in let first = c.args.at
           gets_entry (g.S.Shape.word_count ran.desk.now.shape) (g.S.Shape.good ran.desk.now.shape)
           (IsGood (g.S.Shape.word_count c.args.attempt.now.desk.now.shape) (g.S.Shape.good c.args.attempt.now.desk.now.shape))
           (g.J.Job.means c.args.job.now) c.decision-kept.result.0 c.args.call first
-          ran.pass.now.view c.settle.new.attempt.pass.now.view
-          (record { call = c.args.call; restarts = c.loop-restarts.restarts; uses = c.in-Ok-settle.uses; answer = c.decision-kept.result.1 })
+          ran.pass.now.view c.commit_or_undo.new.attempt.pass.now.view
+          (record { call = c.args.call; restarts = c.loop-restarts.restarts; uses = c.in-Ok-commit_or_undo.uses; answer = c.decision-kept.result.1 })
           same c.requires.floor c.requires.call
           commits
           refl
           (ap (λ (l : List Abandoned). length l) runs.abandoned
           ∙ (ap (λ (p : PassView). length p.view.abandoned) (same_pass ran.desk.now at.desk.now ran.pass.ghost_name
           at.pass.ghost_name ran.began.value at.began.value c.run.ensures.origin ∙ inv.began) ∙ inv.restarts))
-          c.in-Ok-settle.ensures.uses
-          c.in-Ok-settle.ensures.knew
+          c.in-Ok-commit_or_undo.ensures.uses
+          c.in-Ok-commit_or_undo.ensures.knew
           (meant (g.J.Job.means c.args.job.now) g.S.Shape.word_count g.S.Shape.good ran.desk.now.shape
           (g.J.Job.shape c.args.job.now) ran.pass.now.view.trace (is_kept c.in-Ok.verdict) c.decision-kept.result.0
           (answer_of c.in-Ok.verdict) c.decision-kept.result.1
@@ -194,18 +194,18 @@ loop-restarts-preserved g c = let inv = c.loop-restarts.invariant in let first =
 pub returns-in_default-clause-seen : goal.returns-in_default-clause-seen
 returns-in_default-clause-seen g c = let inv = c.loop-restarts.invariant in let first = c.args.attempt.now.pass.now.view in let at =
     c.loop-restarts.attempt in let ran = c.run.new.w in
-    undone_seen first ran.pass.now.view c.settle.new.attempt.pass.now.view
+    undone_seen first ran.pass.now.view c.commit_or_undo.new.attempt.pass.now.view
     (ran_on first ran.began.value at.began.value at.pass.now ran.pass.now.view inv.call
     (same_pass ran.desk.now at.desk.now ran.pass.ghost_name at.pass.ghost_name ran.began.value at.began.value
     c.run.ensures.origin) inv.began c.run.ensures.sound.call) c.in_default.ensures.undone
 
 pub returns-in_default-clause-left : goal.returns-in_default-clause-left
 returns-in_default-clause-left g c = let ran = c.run.new.w in
-    footprint_undone ran.pass.now.view c.settle.new.attempt.pass.now.view c.in_default.ensures.undone c.run.ensures.sound.footprint
+    footprint_undone ran.pass.now.view c.commit_or_undo.new.attempt.pass.now.view c.in_default.ensures.undone c.run.ensures.sound.footprint
 
 pub returns-in_default-clause-last : goal.returns-in_default-clause-last
 returns-in_default-clause-last g c = let inv = c.loop-restarts.invariant in let at = c.loop-restarts.attempt in let ran = c.run.new.w in
-    let new = c.settle.new.attempt.pass.now.view in
+    let new = c.commit_or_undo.new.attempt.pass.now.view in
     let runs = still_runs ran.desk.now.seats ran.halt ran.began.value.view ran.pass.now.view
     (not_halted ran.halt (c.in-Ok.ensures.done)) c.run.ensures.sound.stands in
     let desk = same_desk ran.desk.now at.desk.now ran.pass.ghost_name at.pass.ghost_name ran.began.value at.began.value c.run.ensures.origin ∙ inv.desk in

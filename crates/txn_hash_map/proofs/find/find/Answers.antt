@@ -1,7 +1,8 @@
 use Rattle.std.proofs.Common.{◌≡◌, ◌+◌, ◌*◌, ◌-◌, ◌<◌, Some, refl, ap, ◌∙◌, subst, rules, arith}
 use Rattle.std.proofs.lemmas.Result.{IfOk-from_err}
 use Rattle.txn_words.specs.Calls.{GoesOn}
-use Rattle.txn_hash_map.specs.Searches.{IsPassed, IsFoundAt, IsMissing, IsLink}
+use Rattle.txn_hash_map.proofs.Passed.{IsPassed}
+use Rattle.txn_hash_map.specs.Searches.{IsFoundAt, IsMissing, IsLink}
 use Rattle.txn_hash_map.proofs.Steps.{bucket_fits, passed_none, passed_end, passed_more, passed_found, passed_all}
 use Rattle.txn_words.proofs.Looks.{looks_none, looks_map, some_from}
 use Rattle.txn_words.proofs.CallLaws.{goes, goes_call, goes_then, goes_as}

@@ -20,7 +20,8 @@ zeros c = c.deref_mut.ensures.value ∙ c.in_ok-words.ensures.items_if_clones_eq
 pub returns-clause-count : goal.returns-clause-count
 returns-clause-count c =
     let d = (goal.at.returns-clause-count c).After-lay_free in
-    whole_count _ _ c.in_ok-words.words.items c.deref_mut.result.now c.lay_free.new.words c.deref.result.now c.arena.result c.deref_mut.ensures.len (zeros d) c.lay_free.ensures.others
+    whole_count _ _ c.in_ok-words.words.items c.deref_mut.result.now c.lay_free.new.words c.deref.result.now c.arena.result c.deref_mut.ensures.len
+    (zeros d) c.lay_free.ensures.others
 
 pub returns-clause-stands : goal.returns-clause-stands
 returns-clause-stands c =

@@ -15,5 +15,6 @@ invariant-loop-operation g l =
       left : l.number + length (iter_rest l.operation-iterator) ≡ 1 + length l.fn.script;
       each : All (g.S.Store.is_operation l.shape) (iter_rest l.operation-iterator);
       run : Leads words g.W.Shape.Shape l.fn.w l.w
-          (Turns (g.S.Store.stands l.shape) (SoFar (g.S.Store.stands l.shape) (g.S.Store.step l.shape) l.fn.script l.values l.number (iter_rest l.operation-iterator)));
+          (Turns (g.S.Store.stands l.shape)
+          (SoFar (g.S.Store.stands l.shape) (g.S.Store.step l.shape) l.fn.script l.values l.number (iter_rest l.operation-iterator)));
     }

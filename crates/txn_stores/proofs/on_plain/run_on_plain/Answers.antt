@@ -15,15 +15,18 @@ run_on_plain-requires-clause-good g c =
     c.requires.good
 
 -- what the job did with the words
-means : (g : _) (c : In_ok-verdict g) → ScriptMeans (g.S.Store.stands c.args.shape.now) (g.S.Store.step c.args.shape.now) c.args.script.now c.args.words.now.items
+means : (g : _) (c : In_ok-verdict g) → ScriptMeans (g.S.Store.stands c.args.shape.now)
+    (g.S.Store.step c.args.shape.now) c.args.script.now c.args.words.now.items
     (is_kept c.in_ok-verdict.verdict) (answer_of c.in_ok-verdict.verdict) (after c.in_ok-verdict.plain.trace c.in_ok-copy.copy.items)
 means g c =
     let verdict = c.in_ok-verdict.verdict in
     let words = c.in_ok-copy.copy.items in
     let left = after c.in_ok-verdict.plain.trace words in
-    subst (λ z. ScriptMeans (g.S.Store.stands c.args.shape.now) (g.S.Store.step c.args.shape.now) c.args.script.now z (is_kept verdict) (answer_of verdict) left)
+    subst (λ z. ScriptMeans (g.S.Store.stands c.args.shape.now) (g.S.Store.step c.args.shape.now) c.args.script.now z (is_kept verdict)
+    (answer_of verdict) left)
     (c.in_ok-copy.ensures.items ∙ c.deref.ensures.value)
-    (subst (λ (job : ScriptOn g.row.S.Denot g.row.S-Op.Denot). ScriptMeans (g.S.Store.stands job.shape) (g.S.Store.step job.shape) job.script words (is_kept verdict)
+    (subst (λ (job : ScriptOn g.row.S.Denot g.row.S-Op.Denot). ScriptMeans (g.S.Store.stands job.shape) (g.S.Store.step job.shape) job.script words
+    (is_kept verdict)
     (answer_of verdict) left) c.new-job.ensures c.in_ok-verdict.ensures.meaning)
 
 pub returns-in-Keep-clause-words : goal.returns-in-Keep-clause-words
@@ -43,5 +46,6 @@ returns-in-Keep-clause-count g c =
 pub returns-in-Revert-clause-words : goal.returns-in-Revert-clause-words
 returns-in-Revert-clause-words g c =
     let d = (goal.at.returns-in-Revert-clause-words g c).In_ok-verdict in
-    refused_stands (g.S.Store.stands c.args.shape.now) (g.S.Store.step c.args.shape.now) c.args.script.now c.args.words.now.items (is_kept c.in_ok-verdict.verdict)
+    refused_stands (g.S.Store.stands c.args.shape.now) (g.S.Store.step c.args.shape.now) c.args.script.now c.args.words.now.items
+    (is_kept c.in_ok-verdict.verdict)
     (answer_of c.in_ok-verdict.verdict) (after c.in_ok-verdict.plain.trace c.in_ok-copy.copy.items) (means g d) (ap is_kept c.in-Revert.is)

@@ -1,7 +1,9 @@
 use Rattle.std.proofs.Common.{List, ap, ◌∙◌}
 use Rattle.std.proofs.lemmas.Result.{IfOk-weaker}
-use Rattle.books_report.specs.Stores.Lines.{lent}
-use Rattle.books_report.specs.Stores.Output.{state_left, text_of, RanOf}
+use Rattle.books_report.specs.declared.stores.reply.StoreReply.{StoreReply}
+use Rattle.books_report.specs.Lines.{lent}
+use Rattle.books_report.specs.Journals.{RanOf}
+use Rattle.books_report.specs.Stores.Output.{state_left, text_of}
 use Rattle.txn_stores.proofs.Days.{left_printed, output_is, places_fit, scripts_are}
 use Rattle.txn_stores.proofs.run.text_of.Goals as goal
 
@@ -21,7 +23,7 @@ returns-clause-text g c =
     let same = scripts_are store g.S.Store.stands c.args.closed.now c.args.done.now c.requires.day _ _
     (c.deref.ensures.value ∙ c.in_ok-lines.ensures) (ap lent c.deref-2.ensures.value ∙ c.in_ok-replies.ensures) in
     IfOk-weaker c.text.result _ _
-    (λ text told. told ∙ ap (λ (l : List (RanOf g.row.S-Value.Denot)). text_of store l (store.closing (state_left store l))) same) c.text.ensures
+    (λ text told. told ∙ ap (λ (l : List (RanOf (StoreReply g.row.S-Value.Denot))). text_of store l (store.closing (state_left store l))) same) c.text.ensures
 
 pub returns-clause-output : goal.returns-clause-output
 returns-clause-output g c =
@@ -30,4 +32,4 @@ returns-clause-output g c =
     (c.deref.ensures.value ∙ c.in_ok-lines.ensures) (ap lent c.deref-2.ensures.value ∙ c.in_ok-replies.ensures) in
     IfOk-weaker c.text.result _ _
     (λ text told. output_is store g.S.Store.stands c.args.closed.now c.args.done.now c.requires.day text.items
-    (told ∙ ap (λ (l : List (RanOf g.row.S-Value.Denot)). text_of store l (store.closing (state_left store l))) same)) c.text.ensures
+    (told ∙ ap (λ (l : List (RanOf (StoreReply g.row.S-Value.Denot))). text_of store l (store.closing (state_left store l))) same)) c.text.ensures

@@ -6,7 +6,7 @@ use Rattle.txn_threads.proofs.run.run_clients.Goals as goal
 
 pub close-requires : goal.close-requires
 close-requires g c =
-    let served = c.in_ok-clients.ensures in
+    let served = c.in_ok-clients.ensures.worked in
     record { all = all_passes c.in_ok-desk.desk c.in_ok-clients.passes.items served.of_desk served.seats }
 
 pub returns-clause-good : goal.returns-clause-good
@@ -24,7 +24,7 @@ pub returns-clause-worked : goal.returns-clause-worked
 returns-clause-worked g c =
     let desk = c.in_ok-desk.desk in
     let passes = c.in_ok-clients.passes.items in
-    let served = c.in_ok-clients.ensures in
+    let served = c.in_ok-clients.ensures.worked in
     let closed = c.in-Ok.ensures in
     record {
       desk = desk;

@@ -4,7 +4,8 @@ use Rattle.txn_words.specs.Calls.{GoesOn}
 use Rattle.txn_alloc.specs.FreeLists.{block_at}
 use Rattle.txn_words.proofs.Looks.{looks_none, looks_map, looks_grow, looks_each, looks_from}
 use Rattle.txn_words.proofs.CallLaws.{goes, goes_then, goes_as}
-use Rattle.txn_tree_map.specs.Searches.{HasTop, IsPassed, IsNamed, IsEnd, IsFoundAt, IsMissing, IsLink, IsPlace, IsPlaceOrKey}
+use Rattle.txn_tree_map.proofs.Searches.Passed.{IsPassed}
+use Rattle.txn_tree_map.specs.Searches.{HasTop, IsNamed, IsEnd, IsFoundAt, IsMissing, IsLink, IsPlace, IsPlaceOrKey}
 use Rattle.txn_tree_map.proofs.Held.Places.{at_tree}
 use Rattle.txn_tree_map.proofs.Searches.SearchSteps.{passed_tree, passed_top, passed_end, passed_all, passed_found, passed_down}
 use Rattle.txn_tree_map.proofs.Searches.Links.{passed_place, passed_near}

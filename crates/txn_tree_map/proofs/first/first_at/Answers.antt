@@ -5,7 +5,8 @@ use Rattle.txn_alloc.specs.FreeLists.{block_at}
 use Rattle.txn_words.proofs.Looks.{looks_none, looks_map, looks_grow, looks_each, looks_from}
 use Rattle.txn_words.proofs.CallLaws.{goes, goes_then, goes_as}
 use Rattle.txn_tree_map.specs.Searches.{HasTop, IsNamed, IsEnd, IsLink, IsPlace, IsPlaceOrKey}
-use Rattle.txn_tree_map.specs.Sums.{IsNear, IsFirstFrom}
+use Rattle.txn_tree_map.proofs.Summed.{IsNear}
+use Rattle.txn_tree_map.specs.Sums.{IsFirstFrom}
 use Rattle.txn_tree_map.proofs.Held.Places.{at_tree}
 use Rattle.txn_tree_map.proofs.Searches.FirstSteps.{near_none, near_top, near_end, near_all, near_down}
 use Rattle.txn_tree_map.proofs.Searches.Links.{near_place, near_near}

@@ -10,7 +10,8 @@ pub write-requires-clause-within : goal.write-requires-clause-within
 write-requires-clause-within g c =
     let p = c.in_ok-last.last in
     let one = c.in_ok-last.ensures in
-    let some = some_from g.W.Words g.W.Shape.Shape c.args.w.now c.gather.new.w one.goes_on.shape (g.met.W.Words.fits c.gather.new.w one.goes_on.sound) in
+    let some = some_from g.W.Words g.W.Shape.Shape c.args.w.now c.join_all_but_last.new.w one.goes_on.shape
+    (g.met.W.Words.fits c.join_all_but_last.new.w one.goes_on.sound) in
     let within = last_within c.args.map.now c.args.hole c.args.left c.args.right _ _ _ _ p.place p.name
     (leads_plain g.W.Words g.W.Shape.Shape _ _ _ one.gathered) some in
     omega (arith, within, ap g.W.Shape.Shape.word_count one.goes_on.shape)
@@ -42,7 +43,7 @@ returns-clause-reads g c =
 pub returns-in_err-last : goal.returns-in_err-last
 returns-in_err-last g c =
     let failed = c.from_residual.ensures.0 in
-    let on : GoesOn g.W.Words c.args.w.now c.gather.new.w c.from_residual.result = goes_as c.in_err-last.ensures.goes_on (search rules) in
+    let on : GoesOn g.W.Words c.args.w.now c.join_all_but_last.new.w c.from_residual.result = goes_as c.in_err-last.ensures.goes_on (search rules) in
     search IfOk-from_err
 
 pub returns-in_err-write : goal.returns-in_err-write

@@ -5,7 +5,8 @@ use Rattle.txn_alloc.specs.FreeLists.{block_at}
 use Rattle.txn_words.proofs.Looks.{looks_none, looks_map, looks_grow, looks_each, looks_from}
 use Rattle.txn_words.proofs.CallLaws.{goes, goes_then, goes_as}
 use Rattle.txn_tree_map.specs.Trees.{priority_of}
-use Rattle.txn_tree_map.specs.Searches.{HasTop, IsPassed, IsNamed, IsEnd, IsSeat, IsLink, IsPlace, IsPlaceOrKey}
+use Rattle.txn_tree_map.proofs.Searches.Passed.{IsPassed}
+use Rattle.txn_tree_map.specs.Searches.{HasTop, IsNamed, IsEnd, IsSeat, IsLink, IsPlace, IsPlaceOrKey}
 use Rattle.txn_tree_map.proofs.Searches.SearchSteps.{passed_top, passed_down}
 use Rattle.txn_tree_map.proofs.Inserts.Seats.{passed_missing, missing_other, seat_end, seat_all, seat_here}
 use Rattle.txn_tree_map.proofs.Searches.Links.{passed_place, passed_near}

@@ -68,4 +68,5 @@ pub returns : goal.returns
 returns c =
     let none : c.pop.new.self.items ≡ [] = nil_from_length c.pop.new.self.items (omega (arith, (c.in_default.ensures.cases).1, c.pop.new.self.ok)) in
     let whole : c.loop-block.blocks.items ≡ [] = c.in_default.ensures.items ∙ append-nil c.pop.new.self.items ∙ none in
-    rw none (up_all c.args.map.now c.args.key c.args.words.now (subst (λ (bs : List ℕ). IsUp c.args.map.now c.args.key c.args.words.now bs) whole c.loop-block.invariant))
+    rw none (up_all c.args.map.now c.args.key c.args.words.now
+    (subst (λ (bs : List ℕ). IsUp c.args.map.now c.args.key c.args.words.now bs) whole c.loop-block.invariant))

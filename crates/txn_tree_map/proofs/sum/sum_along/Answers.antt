@@ -4,7 +4,8 @@ use Rattle.txn_words.proofs.ReadLaws.{sees_same}
 use Rattle.txn_alloc.specs.EntryMaps.{HasMap}
 use Rattle.txn_words.proofs.Looks.{looks_none, looks_map, looks_then, looks_only, looks_from, each_looked, each_from, reads_from}
 use Rattle.txn_tree_map.specs.Trees.{tree_part}
-use Rattle.txn_tree_map.specs.Sums.{IsAnyWord, IsTotal, IsNext, HasNoneTo}
+use Rattle.txn_tree_map.proofs.Summed.{IsTotal}
+use Rattle.txn_tree_map.specs.Sums.{IsAnyWord, IsNext, HasNoneTo}
 use Rattle.txn_tree_map.proofs.Held.Places.{at_tree}
 use Rattle.txn_tree_map.proofs.InOrder.SumSteps.{summed_none, summed_more, total_none, total_all, total_high}
 use Rattle.txn_tree_map.proofs.InOrder.SumCalls.{reads_on, sums_range}

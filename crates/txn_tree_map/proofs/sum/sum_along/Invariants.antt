@@ -6,7 +6,8 @@ use Rattle.txn_words.specs.Calls.{InEachState}
 use Rattle.txn_words.specs.Looks.{Looks}
 use Rattle.txn_alloc.specs.EntryMaps.{MayReadRange}
 use Rattle.txn_tree_map.specs.Trees.{tree_part}
-use Rattle.txn_tree_map.specs.Sums.{IsAnyWord, IsSummed}
+use Rattle.txn_tree_map.proofs.Summed.{IsSummed}
+use Rattle.txn_tree_map.specs.Sums.{IsAnyWord}
 use Rattle.txn_tree_map.specs.Walks.{IsWalk}
 use Rattle.txn_tree_map.proofs.sum.sum_along.Given as goal
 

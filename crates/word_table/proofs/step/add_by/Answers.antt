@@ -10,4 +10,5 @@ fetch_add-requires g c = let t = c.args.table.now in let s = c.args.seat.now in 
     step_allowed (GroundHolds g.S.Shape.word_count g.S.Shape.good) _ t c.table.view_is own.table_id own.id own.me s c.seat.view_is c.args.word
     (λ k. (k + 1) % 2 ^ 64) (Tells g.A.Kind.sound g.A.Kind.step) c.requires.table.0 c.requires.table.1
     (add_allowed (IsGood (g.S.Shape.word_count t.key.shape) (g.S.Shape.good t.key.shape)) t.key.seats t.key.base.items t.table_id.slots s.id s.me
-    c.args.step.now g.A.Kind.step c.requires.kind c.args.word c.requires.action.0 c.requires.may g.A.Kind.sound c.requires.sound c.requires.action.1 c.requires.room)
+    c.args.step.now g.A.Kind.step c.requires.kind c.args.word c.requires.action.0
+    c.requires.may g.A.Kind.sound c.requires.sound c.requires.action.1 c.requires.room)

@@ -9,4 +9,4 @@ steal_as-requires-clause-takes g c = takes c.loop.pass.id (view c.loop.pass) (su
 
 pub steal_as-requires-clause-empty : goal.steal_as-requires-clause-empty
 steal_as-requires-clause-empty g c =
-    finds_few c.loop.pass.id (view c.loop.pass) (min (stealer_flavor c.args.thief.now) 1) (ap (λ (k : ℕ). min k 1) c.requires.fifo)
+    finds_few c.loop.pass.id (view c.loop.pass) (min (stealer_flavor c.args.stealer.now) 1) (ap (λ (k : ℕ). min k 1) c.requires.fifo)

@@ -16,14 +16,14 @@ loop-caller-init g c = record {
   who = refl;
   made = c.requires.made;
   count = omega (arith, c.requires.few);
-  run = λ h more is before. same_had c.args.shop.now.input.now h more c.args.share.now.done.items (λ x. omega (arith, is x)) before;
+  run = λ h more is before. same_had c.args.work.now.input.now h more c.args.share.now.done.items (λ x. omega (arith, is x)) before;
 }
 
 pub run_caller-requires-clause-made : goal.run_caller-requires-clause-made
 run_caller-requires-clause-made g c =
     let i = c.loop-caller.invariant in
     let same : seat_of c.loop-caller.share ≡ seat_of c.args.share.now = ap (λ (w : List ℕ). slice_index w 0) i.who in
-    subst (λ k. HasMade c.args.shop.now.desk.now c.args.shop.now.input.now k c.loop-caller.share.pass c.loop-caller.share.done.items) (sym same) i.made
+    subst (λ k. HasMade c.args.work.now.desk.now c.args.work.now.input.now k c.loop-caller.share.pass c.loop-caller.share.done.items) (sym same) i.made
 
 pub run_caller-requires-clause-room : goal.run_caller-requires-clause-room
 run_caller-requires-clause-room g c =
@@ -46,7 +46,7 @@ loop-caller-preserved g c =
       all_come = one_given at.yielded (into_iter_items at.caller-iterator) (into_iter_items c.next.new.self) _ caller steps.0 i.all_come;
       len_is = omega (arith, i.len_is, steps.1, ap (λ l. length l) steps.0);
       who = e.who ∙ i.who;
-      made = subst (λ k. HasMade c.args.shop.now.desk.now c.args.shop.now.input.now k c.run_caller.new.share.pass
+      made = subst (λ k. HasMade c.args.work.now.desk.now c.args.work.now.input.now k c.run_caller.new.share.pass
           c.run_caller.new.share.done.items) same e.made;
       count = omega (arith, e.count, i.count, length-append at.yielded (caller ∷ []));
       run = λ h more is before.

@@ -12,8 +12,8 @@ invariant-loop-caller g l = record {
   all_come : l.yielded ++ into_iter_items l.caller-iterator ≡ into_iter_items l.initial.caller-iterator;
   len_is : into_iter_len l.caller-iterator ≡ length (into_iter_items l.caller-iterator);
   who : l.share.pass.view.who ≡ l.fn.share.pass.view.who;
-  made : HasMade l.shop.desk.now l.shop.input.now (seat_of l.fn.share) l.share.pass l.share.done.items;
+  made : HasMade l.work.desk.now l.work.input.now (seat_of l.fn.share) l.share.pass l.share.done.items;
   count : length l.share.done.items ≤ MOST_CALLERS * MOST_SCRIPTS + length l.yielded * MOST_SCRIPTS;
   run : (h more : ℕ → ℕ) → ((x : ℕ) → more x ≡ h x + times x l.yielded)
-      → RunsEach l.shop.input.now h l.fn.share.done.items → RunsEach l.shop.input.now more l.share.done.items;
+      → RunsEach l.work.input.now h l.fn.share.done.items → RunsEach l.work.input.now more l.share.done.items;
 }

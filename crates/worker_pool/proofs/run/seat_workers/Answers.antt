@@ -3,29 +3,31 @@ use Rattle.std.proofs.lemmas.List.Elements.{All-pop, All-push, All-same}
 use Rattle.std.specs.Vec.Iter.{into_iter_items}
 use Rattle.history_model.specs.Views.{number}
 use Rattle.word_table.specs.Copies.{PassView}
-use Rattle.worker_pool.specs.declared.taker.Taker.{Taker}
+use Rattle.worker_pool.specs.declared.queue.Queue.{Queue}
+use Rattle.worker_pool.specs.declared.worker.Share.{Share}
 use Rattle.worker_pool.specs.declared.worker.Worker.{Worker}
 use Rattle.worker_pool.specs.Inner.Dealing.{IsNewRow}
 use Rattle.worker_pool.specs.Inner.Workers.{number_of, workers_of, IsSeated}
 use Rattle.worker_pool.proofs.Apart.{as_many_apart, one_apart}
 use Rattle.worker_pool.proofs.Ending.{RowOf}
-use Rattle.worker_pool.proofs.Opening.{new_end, new_unused}
+use Rattle.worker_pool.proofs.Opening.{new_queue, new_unused}
 use Rattle.worker_pool.proofs.Seating.{next_owner, next_pass, numbers_of, one_has, owner_seated, owners_more, seated_at}
 use Rattle.worker_pool.proofs.Yielded.{one_given, all_given, numbers_push}
 use Rattle.worker_pool.proofs.run.seat_workers.Goals as goal
 
 pub loop-pass-preserved : goal.loop-pass-preserved
 loop-pass-preserved g c =
-    let thieves = c.args.shop.now.thieves.now in
-    let desk = c.args.shop.now.desk.now in
+    let stealers = c.args.work.now.stealers.now in
+    let desk = c.args.work.now.desk.now in
     let owners = c.args.owners.items in
     let at = c.loop-pass in
     let i = at.invariant in
     let pass = c.in-Some.pass in
     let own = c.in-Some-pop.own in
     let row = c.in-Some-pop-2.row in
-    let taker : Taker = record { own = own; passes = row; seat = c.len.result; count = 0 } in
-    let worker : Worker = record { taker = taker; share = record { pass = pass; done = c.new-done.result; readers = c.in_ok-readers.readers }; failed = false } in
+    let queue : Queue = record { own = own; passes = row; seat = c.len.result; count = 0 } in
+    let share : Share = record { pass = pass; done = c.new-done.result; readers = c.in_ok-readers.readers } in
+    let worker : Worker = record { queue = queue; share = share; failed = false } in
     let before = workers_of at.workers.items in
     let more : workers_of c.push.new.self.items ≡ before ++ worker ∷ [] =
     one_apart at.workers.items c.push.new.self.items c.new-in-loop-pass.result worker c.in_ok-push.ensures.items c.new-in-loop-pass.ensures in
@@ -41,9 +43,9 @@ loop-pass-preserved g c =
     omega (arith, ap (λ l. length l) whole, length-append at.yielded (into_iter_items at.pass-iterator), ap (λ l. length l) steps.0) in
     let seat : c.len.result ≡ length at.yielded = omega (arith, c.len.ensures, at.workers.ok, many, as_many_apart at.workers.items) in
     let own_at = subst (λ n. own ≡ get_or owners n own) many here in
-    let end = new_end thieves owners (length c.args.passes.items) (length at.yielded) taker c.requires.shown
+    let is_queue = new_queue stealers owners (length c.args.passes.items) (length at.yielded) queue c.requires.shown
     c.requires.count.0 c.requires.few c.requires.free its own_at within seat refl in
-    let unused = new_unused thieves owners (length c.args.passes.items) (length at.yielded) taker c.requires.shown
+    let unused = new_unused stealers owners (length c.args.passes.items) (length at.yielded) queue c.requires.shown
     c.requires.count.0 c.requires.few c.requires.free its own_at within refl in
     record {
       all_come = one_given at.yielded (into_iter_items at.pass-iterator) (into_iter_items c.next.new.self) _ pass steps.0 i.all_come;
@@ -52,9 +54,9 @@ loop-pass-preserved g c =
       owners = owners_more before (workers_of c.push.new.self.items) at.owners.items c.pop.new.self.items owners worker
           c.in-Some-pop.ensures.items more i.owners;
       rows = left.0;
-      seated = All-same (IsSeated thieves desk) _ _ more
-          (All-push (IsSeated thieves desk) before worker i.seated
-          (seated_at thieves desk (length at.yielded) worker end unused new c.new-done.ensures.items refl));
+      seated = All-same (IsSeated stealers desk) _ _ more
+          (All-push (IsSeated stealers desk) before worker i.seated
+          (seated_at stealers desk (length at.yielded) worker is_queue unused new c.new-done.ensures.items refl));
       numbers = numbers_push number_of (λ (p : PassView). number p.view) before (workers_of c.push.new.self.items)
           at.yielded worker pass more refl i.numbers;
     }
@@ -65,4 +67,4 @@ returns-clause-numbers g c =
     let none = c.in-None.ensures.steps in
     let whole = at.invariant.all_come ∙ c.into_iter-pass-iterator.ensures.into_iter_gives.0 in
     let all = all_given at.yielded (into_iter_items at.pass-iterator) c.args.passes.items (omega (arith, at.invariant.left, none.0)) whole in
-    at.invariant.numbers ∙ ap (map (λ (p : PassView). number p.view)) all ∙ numbers_of c.args.shop.now.desk.now c.args.passes.items c.requires.passes
+    at.invariant.numbers ∙ ap (map (λ (p : PassView). number p.view)) all ∙ numbers_of c.args.work.now.desk.now c.args.passes.items c.requires.passes

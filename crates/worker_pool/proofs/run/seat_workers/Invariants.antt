@@ -13,8 +13,8 @@ invariant-loop-pass g l = record {
   all_come : l.yielded ++ into_iter_items l.pass-iterator ≡ into_iter_items l.initial.pass-iterator;
   left : into_iter_len l.pass-iterator ≡ length (into_iter_items l.pass-iterator);
   level : length l.rows.items ≡ into_iter_len l.pass-iterator;
-  owners : map (λ (worker : Worker). worker.taker.own) (workers_of l.workers.items) ++ reverse l.owners.items ≡ l.fn.owners.items;
+  owners : map (λ (worker : Worker). worker.queue.own) (workers_of l.workers.items) ++ reverse l.owners.items ≡ l.fn.owners.items;
   rows : All (λ row. IsNewRow l.fn.owners.items row.items) l.rows.items;
-  seated : All (IsSeated l.shop.thieves.now l.shop.desk.now) (workers_of l.workers.items);
+  seated : All (IsSeated l.work.stealers.now l.work.desk.now) (workers_of l.workers.items);
   numbers : map number_of (workers_of l.workers.items) ≡ map (λ (p : PassView). number p.view) l.yielded;
 }

@@ -1,8 +1,8 @@
 use Rattle.std.proofs.Common.{◌≡◌, ℕ, ◌+◌, List, slice_index, refl, sym, ap, ◌∙◌, subst}
+use Rattle.script_reader.specs.Gathered.{script_at}
 use Rattle.books_model.specs.declared.script.Part.{Part}
 use Rattle.history_model.specs.Fitting.{IsGood}
 use Rattle.history_model.specs.Views.{number}
-use Rattle.script_reader.specs.Input.{script_at}
 use Rattle.txn_books.specs.declared.shape.BooksShape.{BooksShape}
 use Rattle.txn_books.specs.Layout.{words_of}
 use Rattle.txn_books.specs.Meaning.{ScriptMeans, ScriptOn}
@@ -14,8 +14,8 @@ use Rattle.worker_pool.proofs.worker.run_script.Goals as goal
 
 pub returns-clause-made : goal.returns-clause-made
 returns-clause-made g c = λ done made.
-    let desk = c.args.shop.now.desk.now in
-    let input = c.args.shop.now.input.now in
+    let desk = c.args.work.now.desk.now in
+    let input = c.args.work.now.input.now in
     let old = c.args.pass.now in
     let new = c.transact.new.pass in
     let receipt = c.in_ok-receipt.receipt in
@@ -31,10 +31,11 @@ returns-clause-made g c = λ done made.
       reply = receipt.answer;
     } in
     let shape_is : job.shape ≡ desk.shape = ap (λ (j : ScriptOn). j.shape) c.new-job.ensures ∙ sym c.requires.fit.shape_is in
-    let script_is : job.script ≡ script_at input c.args.caller c.args.index = ap (λ (j : ScriptOn). j.script) c.new-job.ensures ∙ c.script-script.ensures in
+    let script_is : job.script ≡ script_at input.callers c.args.caller c.args.index = ap (λ (j : ScriptOn). j.script) c.new-job.ensures
+    ∙ c.script-script.ensures in
     let good = IsGood (words_of desk.shape) (IsGoodFor desk.shape) in
     let gets = subst (λ (s : BooksShape). GetsEntry good
-    (ScriptMeans s (script_at input c.args.caller c.args.index)) (number old.view) (old.view.call + 1) old.view.seen new.view.seen receipt) shape_is
+    (ScriptMeans s (script_at input.callers c.args.caller c.args.index)) (number old.view) (old.view.call + 1) old.view.seen new.view.seen receipt) shape_is
     (subst (λ (script : List Part). GetsEntry good (ScriptMeans job.shape script) (number old.view) (old.view.call + 1)
     old.view.seen new.view.seen receipt) script_is e.entry) in
     let named : c.who.result ≡ number old.view = c.who.ensures.number ∙ ap (λ (w : List ℕ). slice_index w 0) e.seat.who in

@@ -1,7 +1,7 @@
 use Rattle.std.proofs.Common.{◌≡◌, ℕ, ◌∷◌, ◌+◌, ◌++◌, [], List, length, slice_index, sym, ap, ◌∙◌, subst, subst₂, arith, length-append, ◌<◌}
 use Rattle.std.proofs.lemmas.Result.{IfOk-from_err}
+use Rattle.script_reader.specs.Gathered.{caller_at}
 use Rattle.history_model.specs.Views.{number}
-use Rattle.script_reader.specs.Input.{caller_at}
 use Rattle.worker_pool.specs.Days.{Done}
 use Rattle.worker_pool.specs.Inner.Makers.{HasMade, RanScripts}
 use Rattle.worker_pool.proofs.Running.{ran_script}
@@ -16,15 +16,15 @@ loop-index-preserved g c =
     let same : number at.pass.view ≡ number c.args.pass.now.view = ap (λ (w : List ℕ). slice_index w 0) i.who in
     let place = c.in_ok-item.ensures.place in
     let made = c.in_ok-item.ensures.made at.done.items
-    (subst (λ n. HasMade c.args.shop.now.desk.now c.args.shop.now.input.now n at.pass at.done.items) (sym same) i.made) in
+    (subst (λ n. HasMade c.args.work.now.desk.now c.args.work.now.input.now n at.pass at.done.items) (sym same) i.made) in
     record {
       who = c.run_script.ensures.who ∙ i.who;
-      made = subst (λ (l : List Done). HasMade c.args.shop.now.desk.now c.args.shop.now.input.now
+      made = subst (λ (l : List Done). HasMade c.args.work.now.desk.now c.args.work.now.input.now
           (number c.args.pass.now.view) c.run_script.new.pass l) (sym is)
-          (subst (λ n. HasMade c.args.shop.now.desk.now c.args.shop.now.input.now n c.run_script.new.pass (at.done.items ++ item ∷ [])) same made);
-      run = λ h none before. ran_script c.args.shop.now.input.now h c.args.caller at.index at.done.items c.push.new.self.items item none (
-        subst (λ n. n < length c.args.shop.now.input.now.callers) (sym place.0) c.requires.caller,
-        subst₂ (λ b j. j < length (caller_at c.args.shop.now.input.now b).scripts) (sym place.0) (sym place.1)
+          (subst (λ n. HasMade c.args.work.now.desk.now c.args.work.now.input.now n c.run_script.new.pass (at.done.items ++ item ∷ [])) same made);
+      run = λ h none before. ran_script c.args.work.now.input.now h c.args.caller at.index at.done.items c.push.new.self.items item none (
+        subst (λ n. n < length c.args.work.now.input.now.callers) (sym place.0) c.requires.caller,
+        subst₂ (λ b j. j < length (caller_at c.args.work.now.input.now.callers b).scripts) (sym place.0) (sym place.1)
             (omega (arith, c.loop-index-test.true, at.auto.index-end)),
       )
           place.0 place.1 is (i.run h none before);
@@ -46,10 +46,10 @@ returns-in_err-push g c =
 pub returns : goal.returns
 returns g c =
     let i = c.loop-index.invariant in
-    let all : c.loop-index.index ≡ length (caller_at c.args.shop.now.input.now c.args.caller).scripts = omega arith in
+    let all : c.loop-index.index ≡ length (caller_at c.args.work.now.input.now.callers c.args.caller).scripts = omega arith in
     record {
       who = i.who;
       made = i.made;
-      run = λ h none before. subst (λ n. RanScripts c.args.shop.now.input.now h c.args.caller n c.loop-index.done.items) all (i.run h none before);
+      run = λ h none before. subst (λ n. RanScripts c.args.work.now.input.now h c.args.caller n c.loop-index.done.items) all (i.run h none before);
       count = i.count ∙ ap (λ (n : ℕ). length c.args.done.now.items + n) all;
     }

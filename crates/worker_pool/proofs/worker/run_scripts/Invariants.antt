@@ -7,7 +7,7 @@ use Rattle.worker_pool.proofs.worker.run_scripts.Given as goal
 abbrev pub invariant-loop-index : goal.invariant-loop-index
 invariant-loop-index g l = record {
   who : l.pass.view.who ≡ l.fn.pass.view.who;
-  made : HasMade l.shop.desk.now l.shop.input.now (number l.fn.pass.view) l.pass l.done.items;
-  run : (h : ℕ → ℕ) → h l.caller ≡ 0 → RanScripts l.shop.input.now h l.caller 0 l.fn.done.items → RanScripts l.shop.input.now h l.caller l.index l.done.items;
+  made : HasMade l.work.desk.now l.work.input.now (number l.fn.pass.view) l.pass l.done.items;
+  run : (h : ℕ → ℕ) → h l.caller ≡ 0 → RanScripts l.work.input.now h l.caller 0 l.fn.done.items → RanScripts l.work.input.now h l.caller l.index l.done.items;
   count : length l.done.items ≡ length l.fn.done.items + l.index;
 }

@@ -45,10 +45,10 @@ back c =
 -- and else the changes are put in
 put_in : (c : After-drop_front)
     → the_view (record c.self.inside {
-      accounts = c.settle.new.values;
-      positions = c.settle-2.new.values;
+      accounts = c.apply_changes.new.values;
+      positions = c.apply_changes-2.new.values;
       prices =
-          c.settle-3.new.values;
+          c.apply_changes-3.new.values;
       calls = c.drop_front.new.queue;
     }) ≡ changed_books (the_view c.self.inside) c.args.changes.now
 put_in c =
@@ -57,9 +57,9 @@ put_in c =
     same_parts books _ (changed books.accounts changes.accounts.entries) _
     (changed books.positions changes.positions.entries) _ (changed books.prices changes.prices.entries) _
     (drop changes.taken (books.calls ++ changes.added.items))
-    (c.settle.ensures ∙ changed-roomier nat_cmp_total exact_unsigned books.accounts _ changes.accounts.entries c.make_all_room.ensures.accounts)
-    (c.settle-2.ensures ∙ changed-roomier positions_total exact_positions books.positions _ changes.positions.entries c.make_all_room.ensures.positions)
-    (c.settle-3.ensures ∙ changed-roomier nat_cmp_total exact_unsigned books.prices _ changes.prices.entries c.make_all_room.ensures.prices)
+    (c.apply_changes.ensures ∙ changed-roomier nat_cmp_total exact_unsigned books.accounts _ changes.accounts.entries c.make_all_room.ensures.accounts)
+    (c.apply_changes-2.ensures ∙ changed-roomier positions_total exact_positions books.positions _ changes.positions.entries c.make_all_room.ensures.positions)
+    (c.apply_changes-3.ensures ∙ changed-roomier nat_cmp_total exact_unsigned books.prices _ changes.prices.entries c.make_all_room.ensures.prices)
     (c.drop_front.ensures ∙ ap (drop changes.taken) (c.append_all.ensures
     ∙ ap (λ queue. queue ++ c.deref.result.now) c.reserve.ensures.items ∙ ap (λ added. books.calls ++ added) c.deref.ensures.value))
 

@@ -4,9 +4,8 @@ use Rattle.std.specs.Slice.Iter.{iter_rest}
 use Rattle.std.specs.String.{string_bytes}
 use Rattle.std.proofs.lemmas.List.Elements.{All-drop}
 use Rattle.books_report.specs.declared.line.Line.{Line}
-use Rattle.books_report.specs.Lines.{place_of_line}
-use Rattle.books_report.specs.Stores.Lines.{lent}
-use Rattle.books_report.specs.Stores.Output.{IsPlaceOf}
+use Rattle.books_report.specs.Lines.{place_of_line, lent}
+use Rattle.script_reader.specs.Journal.{IsPlaceOf}
 use Rattle.books_report.proofs.AnyStore.Printing.{line_next}
 use Rattle.books_report.proofs.stores.text.write_journal.Goals as goal
 

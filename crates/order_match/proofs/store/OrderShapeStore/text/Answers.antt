@@ -1,7 +1,7 @@
 use Rattle.std.proofs.Common.{◌≡◌, List, sym, ap, ◌∙◌, subst}
 use Rattle.std.proofs.lemmas.Result.{IfOk-weaker}
 use Rattle.history_model.specs.Fitting.{IsGood}
-use Rattle.books_report.specs.Stores.Lines.{lent, scripts_of}
+use Rattle.books_report.specs.Lines.{lent, scripts_of}
 use Rattle.books_report.specs.Stores.Output.{state_left}
 use Rattle.order_text.specs.declared.order.Resting.{Resting}
 use Rattle.order_text.specs.Output.{closing_of, order_store, text_of, AreByNumber}

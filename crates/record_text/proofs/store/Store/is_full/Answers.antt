@@ -1,5 +1,5 @@
 use Rattle.std.proofs.Common.{◌+◌, ◌*◌, nat_lt, sym, ap, ◌∙◌, arith}
-use Rattle.record_text.specs.Records.{is_full}
+use Rattle.record_text.specs.Records.{is_store_full}
 use Rattle.record_text.proofs.Rooms.{blocks_of_tree}
 use Rattle.record_text.proofs.store.Store.is_full.Goals as goal
 
@@ -11,4 +11,4 @@ pub returns : goal.returns
 returns c =
     ap (λ n. nat_lt c.self.inside.blocks (2 * n + 2)) c.len.ensures.len
     ∙ ap (λ n. nat_lt c.self.inside.blocks (n + 2)) (sym (blocks_of_tree c.self.inside.records c.len.ensures.ordered))
-    ∙ ap (λ s. is_full s.blocks s.records) c.self.view_is
+    ∙ ap (λ s. is_store_full s.blocks s.records) c.self.view_is

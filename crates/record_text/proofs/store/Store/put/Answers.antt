@@ -4,7 +4,7 @@ use Rattle.std.specs.Cmp.{nat_cmp_total}
 use Rattle.std.proofs.lemmas.Map.Lookups.{exact_unsigned}
 use Rattle.books_model.proofs.Maps.Trees.{from_entries-inserted}
 use Rattle.record_text.specs.contracts.store.Store.{the_view}
-use Rattle.record_text.specs.Records.{RecordStore, is_full}
+use Rattle.record_text.specs.Records.{RecordStore, is_store_full}
 use Rattle.record_text.specs.Ranges.{HasRoom}
 use Rattle.books_report.specs.Stores.Interpreter.Step.{Gives}
 use Rattle.record_text.proofs.Puts.{contains_tree, has_room, is_put, lacks_blocks, put_value}
@@ -33,7 +33,7 @@ returns-then-is_full-clause-step c =
 
 -- the record is put
 not_lacking : (c : Joined-is_there)
-    → (not (finite.contains_key c.args.self.now.records c.args.id) && is_full c.args.self.now.blocks c.args.self.now.records) ≡ false
+    → (not (finite.contains_key c.args.self.now.records c.args.id) && is_store_full c.args.self.now.blocks c.args.self.now.records) ≡ false
 not_lacking c = elim c.else-not-is_there.branch [
   | else-not-is_there-via-then-not-is_there+else-is_full w ↦ other_not _ _ (sym w.is_full.ensures ∙ w.if-is_full.false)
   | else-not-is_there-via-else-not-is_there w ↦ one_is _ _

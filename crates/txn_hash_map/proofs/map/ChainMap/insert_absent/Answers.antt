@@ -90,7 +90,12 @@ returns-clause-frame c =
       count = put.count;
       same = λ a no. put.others a (λ e. no (inl e)) (λ m. no (inr (inl (
         c.args.block,
-        inr (entry_map.insert o.entries c.args.key c.args.value, set.insert o.used c.args.block, (apart c o.entries o.used o.free o.holds).map, in_here o.used c.args.block),
+        inr (
+          entry_map.insert o.entries c.args.key c.args.value,
+          set.insert o.used c.args.block,
+          (apart c o.entries o.used o.free o.holds).map,
+          in_here o.used c.args.block,
+        ),
         m,
       ))));
     }

@@ -3,7 +3,7 @@ use Rattle.std.specs.FinMap as finite
 use Rattle.std.specs.FinMap.{entries_sorted}
 use Rattle.std.proofs.lemmas.Result.{IfOk-weaker}
 use Rattle.history_model.specs.Fitting.{IsGood}
-use Rattle.books_report.specs.Stores.Lines.{lent, scripts_of}
+use Rattle.books_report.specs.Lines.{lent, scripts_of}
 use Rattle.books_report.specs.Stores.Output.{state_left}
 use Rattle.record_text.specs.Output.{closing_of, record_store, text_of, AreByRank, Printed}
 use Rattle.record_text.specs.Records.{index_of}
@@ -29,7 +29,8 @@ closing_is c =
 
 pub records_text-requires-clause-by_rank : goal.records_text-requires-clause-by_rank
 records_text-requires-clause-by_rank c =
-    subst (λ (l : List Printed). AreByRank l) (sym (closing_is c)) (let rest = state_left (record_store c.args.input.now) (scripts_of c.args.lines.now (lent c.args.replies.now)) in
+    subst (λ (l : List Printed). AreByRank l) (sym (closing_is c))
+    (let rest = state_left (record_store c.args.input.now) (scripts_of c.args.lines.now (lent c.args.replies.now)) in
     printed_by_rank (finite.entries (index_of rest)) (entries_sorted (index_of rest)))
 
 pub returns : goal.returns

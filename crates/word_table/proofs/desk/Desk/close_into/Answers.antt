@@ -19,7 +19,7 @@ closed_of g c = let t = c.of-made.result.value in record {
 
 closes : (g : Over) (c : goal.After-free g)
     → IsClosed (IsGood (g.S.Shape.word_count c.args.self.shape) (g.S.Shape.good c.args.self.shape)) c.args.passes.items (closed_of g c)
-closes g c = let t = c.self.inside.table in let i = c.self.invariant in let d = c.close_with-closed in let s = c.gather-seat in
+closes g c = let t = c.self.inside.table in let i = c.self.invariant in let d = c.close_with-closed in let s = c.join_passes-seat in
     desk_closed g.S.Shape.word_count g.S.Shape.good
     (record { table = t.table_id; base = t.key.base.items; seats = t.key.seats; shape = t.key.shape }) c.args.self c.args.passes.items
     (record { base = t.key.base.items; seats = t.key.seats; shape = t.key.shape; records = s.result.me.0.seen; words = c.copy_words.new.words.items })

@@ -2,7 +2,7 @@ use Rattle.std.proofs.Common.{◌≡◌, ℕ, List, length, slice_index, refl, s
 use Rattle.std.proofs.lemmas.Result.{IfOk-from_err}
 use Rattle.history_model.specs.Views.{number}
 use Rattle.worker_pool.specs.Inner.Makers.{HasMade}
-use Rattle.worker_pool.specs.Inner.Takers.{had, IsEndOf}
+use Rattle.worker_pool.specs.Inner.Queues.{had, IsQueueOf}
 use Rattle.worker_pool.specs.Inner.Workers.{number_of}
 use Rattle.worker_pool.proofs.Making.{made_nothing}
 use Rattle.worker_pool.proofs.Running.{ran_nothing, same_had}
@@ -13,12 +13,12 @@ loop-init g c =
     let s = c.requires.seated in
     let w = c.args.self.now in
     record {
-      end = s.end;
+      queue = s.queue;
       dealt = refl;
       who = refl;
-      made = made_nothing c.args.shop.now.desk.now c.args.shop.now.input.now (number_of w) w.share.pass
+      made = made_nothing c.args.work.now.desk.now c.args.work.now.input.now (number_of w) w.share.pass
           w.share.done.items s.fresh.of_table s.fresh.idle s.who_is s.fresh.no_call s.fresh.nothing_seen s.nothing_done;
-      run = λ few. ran_nothing c.args.shop.now.input.now (had w.taker) 0 s.unused.none w.share.done.items s.nothing_done;
+      run = λ few. ran_nothing c.args.work.now.input.now (had w.queue) 0 s.unused.none w.share.done.items s.nothing_done;
       count = omega (arith, ap (λ l. length l) s.nothing_done);
     }
 
@@ -26,7 +26,7 @@ pub run_caller-requires-clause-made : goal.run_caller-requires-clause-made
 run_caller-requires-clause-made g c =
     let i = c.loop.invariant in
     let same : number c.loop.self.share.pass.view ≡ number_of c.args.self.now = ap (λ (w : List ℕ). slice_index w 0) i.who in
-    subst (λ k. HasMade c.args.shop.now.desk.now c.args.shop.now.input.now k c.loop.self.share.pass c.loop.self.share.done.items) (sym same) i.made
+    subst (λ k. HasMade c.args.work.now.desk.now c.args.work.now.input.now k c.loop.self.share.pass c.loop.self.share.done.items) (sym same) i.made
 
 pub loop-preserved : goal.loop-preserved
 loop-preserved g c =
@@ -35,12 +35,12 @@ loop-preserved g c =
     let e = c.in_ok-run_caller.ensures in
     let same : number c.loop.self.share.pass.view ≡ number_of c.args.self.now = ap (λ (w : List ℕ). slice_index w 0) i.who in
     record {
-      end = subst (λ k. IsEndOf c.args.shop.now.thieves.now k c.next-in-loop.new.self) i.end.seat_is n.end;
+      queue = subst (λ k. IsQueueOf c.args.work.now.stealers.now k c.next-in-loop.new.self) i.queue.seat_is n.queue;
       dealt = n.dealt ∙ i.dealt;
       who = e.who ∙ i.who;
-      made = subst (λ k. HasMade c.args.shop.now.desk.now c.args.shop.now.input.now k c.run_caller.new.share.pass
+      made = subst (λ k. HasMade c.args.work.now.desk.now c.args.work.now.input.now k c.run_caller.new.share.pass
           c.run_caller.new.share.done.items) same e.made;
-      run = e.run (had c.loop.self.taker) (had c.next-in-loop.new.self) n.some i.run;
+      run = e.run (had c.loop.self.queue) (had c.next-in-loop.new.self) n.some i.run;
       count = omega (arith, e.count, i.count, n.count);
     }
 
@@ -53,10 +53,10 @@ returns-in_default g c =
       who = i.who;
       dealt = n.dealt ∙ i.dealt;
       worked = record {
-        end = subst (λ k. IsEndOf c.args.shop.now.thieves.now k c.next-in-loop.new.self) (i.end.seat_is ∙ sym same) n.end;
-        made = subst (λ k. HasMade c.args.shop.now.desk.now c.args.shop.now.input.now k c.loop.self.share.pass c.loop.self.share.done.items) (sym same) i.made;
-        run = same_had c.args.shop.now.input.now (had c.loop.self.taker) (had c.next-in-loop.new.self) c.loop.self.share.done.items n.none i.run;
-        few = omega (arith, i.count, i.end.count);
+        queue = subst (λ k. IsQueueOf c.args.work.now.stealers.now k c.next-in-loop.new.self) (i.queue.seat_is ∙ sym same) n.queue;
+        made = subst (λ k. HasMade c.args.work.now.desk.now c.args.work.now.input.now k c.loop.self.share.pass c.loop.self.share.done.items) (sym same) i.made;
+        run = same_had c.args.work.now.input.now (had c.loop.self.queue) (had c.next-in-loop.new.self) c.loop.self.share.done.items n.none i.run;
+        few = omega (arith, i.count, i.queue.count);
       };
     }
 

@@ -1,0 +1,14 @@
+-- How many uses are such.
+use Rattle.std.specs.Prelude.{ℕ, Bool, List}
+use Rattle.std.specs.List.{sum_by}
+use Rattle.history_model.specs.Sets.{flag}
+use Rattle.history_model.specs.declared.item.LockUse.{LockUse}
+use Rattle.history_model.specs.declared.placed.Spot.{Spot}
+
+-- how many of the uses are such
+abbrev pub count_uses : (LockUse → Bool) → List LockUse → ℕ
+count_uses f us = sum_by (λ u. flag (f u)) us
+
+-- how many of the uses of all items
+abbrev pub count_all : (LockUse → Bool) → List Spot → ℕ
+count_all f list = sum_by (λ s. count_uses f s.uses) list

@@ -1,0 +1,10 @@
+-- Lines of books and scripts without a fault.
+use Rattle.std.specs.Prelude.{List}
+use Rattle.script_reader.specs.Reading.{HaveNoFault}
+use Rattle.script_reader.specs.Forms.{Words}
+use Rattle.script_reader.specs.Faults.{fault_of}
+
+-- no line of a list is faulty beside the lines before it and those of the list ahead of it, and none is the last of a
+-- text
+abbrev pub AreFaultless : List Words → List Words → Type 0
+AreFaultless = HaveNoFault fault_of

@@ -1,0 +1,15 @@
+use Rattle.std.proofs.Common.{◌≡◌, ◌++◌, length}
+use Rattle.std.specs.Vec.Iter.{into_iter_items, into_iter_len}
+use Rattle.script_reader.specs.Input.{callers_of}
+use Rattle.script_reader.specs.Inner.Gatherings.{callers_in, IsEven}
+use Rattle.script_reader.specs.Inner.OfVersion.{AreCallersOf}
+use Rattle.script_reader.proofs.books.pieces.input_of.Given as goal
+
+abbrev pub invariant-loop-submitted : goal.invariant-loop-submitted
+invariant-loop-submitted l = record {
+  even : IsEven l.callers;
+  made : callers_in l.callers ≡ callers_of l.yielded;
+  valid : AreCallersOf l.fn.opening.version l.fn.opening.books (callers_of l.yielded);
+  sized : into_iter_len l.submitted-iterator ≡ length (into_iter_items l.submitted-iterator);
+  whole : l.fn.scripts.items ≡ l.yielded ++ into_iter_items l.submitted-iterator;
+}

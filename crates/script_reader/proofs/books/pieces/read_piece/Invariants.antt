@@ -1,0 +1,14 @@
+use Rattle.std.proofs.Common.{◌≡◌, ◌++◌, All, length}
+use Rattle.std.specs.List.{flat_map}
+use Rattle.script_reader.specs.Grammar.{submission_lines}
+use Rattle.script_reader.specs.Pieces.{CanStand}
+use Rattle.script_reader.proofs.books.pieces.read_piece.Given as goal
+
+abbrev pub invariant-loop-lines : goal.invariant-loop-lines
+invariant-loop-lines l = record {
+  text : l.piece ≡ flat_map submission_lines l.scripts.items ++ l.lines;
+  each : All (CanStand l.version l.books) l.scripts.items;
+}
+
+abbrev pub decreases-loop-lines : goal.decreases-loop-lines
+decreases-loop-lines l = length l.lines

@@ -1,8 +1,0 @@
-use Rattle.std.proofs.Common.{◌≡◌, true, min, take}
-use Rattle.std.specs.Str.{all_ascii_digits}
-use Rattle.std.specs.Str.Parse.{digits_value}
-use Rattle.script_reader.proofs.Tokens.Numerals.{greatest_u64}
-use Rattle.script_reader.proofs.numbers.value_of.Given as goal
-
-abbrev pub invariant-loop-b : goal.invariant-loop-b
-invariant-loop-b l = (all_ascii_digits (take l.b-index l.word) ≡ true) × (l.value ≡ min (digits_value 10 (take l.b-index l.word)) greatest_u64)

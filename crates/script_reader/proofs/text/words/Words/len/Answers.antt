@@ -1,0 +1,7 @@
+use Rattle.std.proofs.Common.{◌==◌, length, ap, arith}
+use Rattle.std.proofs.lemmas.List.Splits.{length-slice_split}
+use Rattle.script_reader.specs.declared.text.words.TheConstants.{SPACE}
+use Rattle.script_reader.proofs.text.words.Words.len.Goals as goal
+
+pub returns : goal.returns
+returns c = omega (arith, c.self.invariant.counted, length-slice_split (λ b. b == SPACE) c.self.inside.line.now, ap length c.self.view_is)

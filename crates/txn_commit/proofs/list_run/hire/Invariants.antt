@@ -1,9 +1,0 @@
-use Rattle.std.proofs.Common.{◌≡◌, [], All, length}
-use Rattle.txn_commit.proofs.list_run.hire.Given as goal
-
--- so many workers were hired, who have run nothing
-abbrev pub invariant-loop : goal.invariant-loop
-invariant-loop g l = record {
-  count : length l.hired.items ≡ l.counter;
-  new : All (λ worker. (worker.lists.now ≡ l.lists) × (worker.workers ≡ l.workers) × (worker.done.items ≡ [])) l.hired.items;
-}

@@ -1,0 +1,17 @@
+-- How far a search along a chain has come.
+use Rattle.std.specs.Prelude.{◌≡◌, ℕ, ◌+◌, List, ◌++◌, None, length}
+use Rattle.txn_hash_map.specs.declared.map.ChainMap.{ChainMap}
+use Rattle.txn_alloc.specs.EntryMaps.{Cell, value_of, HasKeysOnce}
+use Rattle.txn_hash_map.specs.Chains.{HasChain, bucket_of, IsLaid}
+use Rattle.txn_hash_map.specs.Searches.{place_after}
+
+-- the chain of the key's bucket begins with so many cells that do not have the key, and then goes on at the place
+pub record IsPassed (map : ChainMap) (key place passed : ℕ) (words : List ℕ) : Type 0 where
+  pub laid : IsLaid map words
+  pub front : List Cell
+  pub rest : List Cell
+  pub chain : HasChain map.arena words (map.buckets + bucket_of key) (front ++ rest)
+  pub once : HasKeysOnce (front ++ rest)
+  pub at : place ≡ place_after map.arena (map.buckets + bucket_of key) front
+  pub lacking : value_of key front ≡ None
+  pub count : length front ≡ passed
