@@ -1,22 +1,13 @@
 -- What changes do to books in range.
-use Rattle.std.proofs.Common.{◌≡◌, ◌≢◌, if◌then◌else◌, ℕ, ◌+◌, ◌<◌, ◌≤◌, Bool, true, false, cond, drop, Option, Some, None, IsSome, IfSome, is_some, ◌==◌, refl}
-use Rattle.std.proofs.Common.{sym, ap, subst, ◌∙◌, arith, eq-eqb}
-use Rattle.std.specs.Cmp.{nat_cmp_total}
-use Rattle.std.specs.Ordering.{nat_cmp, eq_by_cmp}
-use Rattle.std.specs.FinMap as map
-use Rattle.std.proofs.lemmas.List.Elements.{All-drop}
-use Rattle.std.proofs.lemmas.List.{length-drop}
-use Rattle.std.proofs.lemmas.Map.Lookups.{exact_unsigned}
-use Rattle.std.proofs.lemmas.Map.Views.{tells_apart}
-use Rattle.books_model.specs.declared.limits.TheConstants.{GREATEST_PRICE, GREATEST_QUANTITY}
-use Rattle.books_model.specs.Books.{ClearingBooks, position_cmp, used, put_cash, put_price, put_quantity}
-use Rattle.books_model.specs.Ranges.{AreInRange, IsWithin, IsCall, IsInstrumentOf}
-use Rattle.books_model.specs.Interpreter.{holds_any, is_full, put_position}
-use Rattle.books_model.specs.Inner.Draft.{set_account, set_position, set_price}
+use Rattle.books_model.proofs.Common.{◌≡◌, ◌≢◌, if◌then◌else◌, ℕ, ◌+◌, ◌<◌, ◌≤◌, Bool, true, false, cond, drop, Option, Some, None, IsSome, IfSome, is_some}
+use Rattle.books_model.proofs.Common.{◌==◌, refl, sym, ap, subst, ◌∙◌, arith, eq-eqb, nat_cmp_total, nat_cmp, eq_by_cmp, All-drop, length-drop, exact_unsigned}
+use Rattle.books_model.proofs.Common.{tells_apart, GREATEST_PRICE, GREATEST_QUANTITY, ClearingBooks, position_cmp, used, put_cash, put_price, put_quantity}
+use Rattle.books_model.proofs.Common.{AreInRange, IsWithin, IsCall, IsInstrumentOf, holds_any, is_full, put_position, set_account, set_position, set_price}
 use Rattle.books_model.proofs.Maps.Comparing.{below_most}
 use Rattle.books_model.proofs.Maps.Trees.{positions_total, exact_positions}
 use Rattle.books_model.proofs.InRange.{put_price-in_range, put_quantity-in_range, used_after_price, used_after_position}
 use Rattle.books_model.proofs.Maps.Entries.{len-set_at, len_positive, none_found}
+use Rattle.std.specs.FinMap as map
 
 -- how many blocks are used after an account is changed
 pub used_account : (books : ClearingBooks) (a : ℕ) (w : Option ℕ)

@@ -1,15 +1,13 @@
 -- Books that stay in range.
-use Rattle.std.proofs.Common.{◌≡◌, ℕ, ◌+◌, ◌<◌, ◌≤◌, length, ◌∷◌, [], Option, Some, None, IsSome, inl, inr, refl, sym, subst, ◌∙◌, arith, length-append}
-use Rattle.std.specs.Cmp.{nat_cmp_total}
-use Rattle.std.specs.Ordering.{nat_cmp}
-use Rattle.std.specs.FinMap as map
+use Rattle.books_model.proofs.Common.{◌≡◌, ℕ, ◌+◌, ◌<◌, ◌≤◌, length, ◌∷◌, [], Option, Some, None, IsSome, inl, inr, refl, sym, subst, ◌∙◌, arith, length-append}
+use Rattle.books_model.proofs.Common.{nat_cmp_total, nat_cmp, exact_unsigned, GREATEST_CASH, GREATEST_PRICE, GREATEST_QUANTITY, ClearingBooks, put_call}
+use Rattle.books_model.proofs.Common.{put_cash, put_price, put_quantity, used, position_cmp, AreInRange, IsWithin, IsAccountNumber, IsCall, IsInstrumentOf}
 use Rattle.std.proofs.lemmas.List.Elements.{All-push}
-use Rattle.std.proofs.lemmas.Map.Lookups.{exact_unsigned}
 use Rattle.std.proofs.lemmas.Option.{none-some}
 use Rattle.books_model.proofs.Maps.Trees.{positions_total, exact_positions, found_after_insert, stays_after_insert, len_after_change, len_after_insert}
-use Rattle.books_model.specs.declared.limits.TheConstants.{MOST_BLOCKS, MOST_INSTRUMENTS, MOST_RING, GREATEST_CASH, GREATEST_PRICE, GREATEST_QUANTITY}
-use Rattle.books_model.specs.Books.{ClearingBooks, empty_books, put_call, put_cash, put_price, put_quantity, used, position_cmp}
-use Rattle.books_model.specs.Ranges.{AreInRange, IsWithin, IsAccountNumber, IsCall, IsInstrumentOf}
+use Rattle.books_model.specs.declared.limits.TheConstants.{MOST_BLOCKS, MOST_INSTRUMENTS, MOST_RING}
+use Rattle.books_model.specs.Books.{empty_books}
+use Rattle.std.specs.FinMap as map
 
 -- empty books are in range
 pub empty_books-in_range : (blocks instruments ring : ℕ) → IsWithin 1 MOST_BLOCKS blocks

@@ -1,3 +1,5 @@
+-- what several proofs import
+pub mod Common
 -- maps of numbers, by their entries in the order of their keys
 pub mod Maps
 -- books that stay in range

@@ -1,31 +1,18 @@
 -- Sums over books: cash between two accounts, and what positions are worth.
-use Rattle.std.proofs.Common.{◌≡◌, ℕ, ◌+◌, ◌*◌, ◌^◌, ◌<◌, ◌≤◌, Bool, true, false, cond, ◌&&◌, not}
-use Rattle.std.proofs.Common.{◌==◌, nat_lt, nat_le, List, [], ◌∷◌, length, Option, Some, None}
-use Rattle.std.proofs.Common.{IsSome, IfSome, unwrap_or, refl, sym, ap, ◌∙◌, arith, eq-eqb}
+use Rattle.books_model.proofs.Common.{◌≡◌, ℕ, ◌+◌, ◌*◌, ◌^◌, ◌<◌, ◌≤◌, Bool, true, false, cond, ◌&&◌, not, ◌==◌, nat_lt, List, [], ◌∷◌, length, Option, Some}
+use Rattle.books_model.proofs.Common.{None, IsSome, IfSome, unwrap_or, refl, sym, ap, ◌∙◌, arith, eq-eqb, IsTotalOrder, nat_cmp_total, tied_itself, Ordering}
+use Rattle.books_model.proofs.Common.{Less, Equal, Greater, nat_cmp, eq_by_cmp, is_eq, is_lt, entries_between, AllByRecursion, sum_by, list_any}
+use Rattle.books_model.proofs.Common.{IsStrictlySortedBy, keys_of, nat_tests, sum_by-cons, sorted_tail, CmpEqualImpliesEq, exact_unsigned, GREATEST_CASH}
+use Rattle.books_model.proofs.Common.{GREATEST_PRICE, GREATEST_QUANTITY, Change, ClearingBooks, position_cmp, price_of, AreInRange, IsWithin, cash_between}
+use Rattle.books_model.proofs.Common.{worth_of, holds_any, KnowBefore, changed, set_at, before_between, now_between}
+use Rattle.std.proofs.Common.{nat_le}
 use Rattle.std.proofs.Math.Nat.{mul-le-mul}
-use Rattle.std.specs.Cmp.{IsTotalOrder, nat_cmp_total, tied_itself}
-use Rattle.std.specs.declared.cmp.Ordering.{Ordering}
-use Rattle.std.specs.declared.cmp.Ordering.TheVariants.{Less, Equal, Greater}
 use Rattle.std.specs.declared.ops.Bound.TheVariants.{Included}
-use Rattle.std.specs.Ordering.{nat_cmp, eq_by_cmp, is_eq, is_le, is_lt}
-use Rattle.std.specs.BTreeMap.Range.{entries_between}
-use Rattle.std.specs.List.{AllByRecursion, sum_by, list_any}
-use Rattle.std.specs.List.Sorted.{IsStrictlySortedBy}
-use Rattle.std.specs.Map.{keys_of}
-use Rattle.std.specs.FinMap as map
-use Rattle.std.proofs.lemmas.Bool.Decides.{nat_tests}
-use Rattle.std.proofs.lemmas.List.Sums.{sum_by-cons}
-use Rattle.std.proofs.lemmas.Map.Keys.{sorted_tail}
-use Rattle.std.proofs.lemmas.Map.Lookups.{CmpEqualImpliesEq, exact_unsigned}
-use Rattle.books_model.specs.declared.limits.TheConstants.{GREATEST_CASH, GREATEST_PRICE, GREATEST_QUANTITY}
-use Rattle.books_model.specs.declared.overlay.Change.{Change}
-use Rattle.books_model.specs.Books.{ClearingBooks, position_cmp, price_of}
-use Rattle.books_model.specs.Ranges.{AreInRange, IsWithin}
-use Rattle.books_model.specs.Interpreter.{cash_between, worth_of, holds_any}
-use Rattle.books_model.specs.Inner.Changes.{KnowBefore, changed, set_at, before_between, now_between}
+use Rattle.std.specs.Ordering.{is_le}
 use Rattle.books_model.proofs.Maps.Trees.{positions_total, exact_positions, entries-from_entries}
 use Rattle.books_model.proofs.Maps.Changes.{get-changed, change_at_first, none_further, KnowBefore-further, KnowBefore-past, now_or}
 use Rattle.books_model.proofs.Maps.Entries.{weigh, All-entries, some_found, sum_by-filter, sum_by-same, sum_by-plus, sum_by-most, sum_by-set_at, sum_by-one}
+use Rattle.std.specs.FinMap as map
 
 -- the tests of a range are those of its ends
 tests_of : (a b k : ℕ) → (is_le (nat_cmp a k) && not (is_lt (nat_cmp b k))) ≡ (nat_le a k && nat_le k b)

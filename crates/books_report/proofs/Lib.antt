@@ -1,3 +1,5 @@
+-- what several proofs import
+pub mod Common
 -- the text of outputs: of replies, journals and closing books
 pub mod Outputs
 -- walks over the maps of books, in the order of their keys

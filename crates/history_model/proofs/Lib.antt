@@ -1,3 +1,5 @@
+-- what several proofs import
+pub mod Common
 -- lists by their places
 pub mod ListPlaces
 -- traces: what they leave and what fits them, their notes and marks

@@ -1,19 +1,16 @@
 -- Sums of weights that are all the same, and how many entries a map has at most.
-use Rattle.std.proofs.Common.{◌≡◌, ◌≢◌, ℕ, zero, suc, ◌+◌, ◌*◌, ◌<◌, ◌≤◌, ◌==◌, ◌&&◌, Bool, true, false, cond, List, [], ◌∷◌, Option, Some, None, sum_by}
-use Rattle.std.proofs.Common.{count_by, inl, inr, refl, sym, ap, ◌∙◌, true≢false, arith}
-use Rattle.std.specs.declared.cmp.Ordering.{Ordering}
-use Rattle.std.specs.Cmp.{IsTotalOrder, nat_cmp_total, tied_itself}
-use Rattle.std.specs.Ordering.{nat_cmp, eq_by_cmp, is_eq}
-use Rattle.std.specs.FinMap as map
-use Rattle.std.proofs.lemmas.Bool.{ne_eqb}
+use Rattle.input_maker.proofs.Common.{◌≡◌, ◌≢◌, ℕ, zero, suc, ◌+◌, ◌*◌, ◌<◌, ◌≤◌, ◌==◌, ◌&&◌, Bool, true, false, cond, List, [], ◌∷◌, Option, Some, None}
+use Rattle.input_maker.proofs.Common.{sum_by, inl, inr, refl, sym, ap, ◌∙◌, true≢false, arith, Ordering, nat_cmp_total, nat_cmp, eq_by_cmp, ne_eqb, sum_by-cons}
+use Rattle.input_maker.proofs.Common.{exact_unsigned, position_cmp, positions_total, exact_positions, AllByRecursion-weaker, All-entries, weigh, sums}
+use Rattle.std.proofs.Common.{count_by}
+use Rattle.std.specs.Cmp.{IsTotalOrder, tied_itself}
+use Rattle.std.specs.Ordering.{is_eq}
 use Rattle.std.proofs.lemmas.Bool.Decides.{eqb_tells}
-use Rattle.std.proofs.lemmas.List.Sums.{sum_by-cons}
-use Rattle.std.proofs.lemmas.Map.Lookups.{CmpEqualImpliesEq, exact_unsigned}
-use Rattle.books_model.specs.Books.{position_cmp}
-use Rattle.books_model.proofs.Maps.Trees.{positions_total, exact_positions}
-use Rattle.books_model.proofs.Maps.Entries.{AllByRecursion-weaker, All-entries, weigh, sum_by-one}
+use Rattle.std.proofs.lemmas.Map.Lookups.{CmpEqualImpliesEq}
+use Rattle.books_model.proofs.Maps.Entries.{sum_by-one}
 use Rattle.script_reader.proofs.Conditions.{count_always}
-use Rattle.books_report.proofs.Order.Classes.{sums, by_classes}
+use Rattle.books_report.proofs.Order.Classes.{by_classes}
+use Rattle.std.specs.FinMap as map
 
 -- what those weigh that pass a test, if each of them weighs the same
 pub same_weight : {A : Type 0} (t : A → Bool) (w : A → ℕ) (d : ℕ) (xs : List A) → ((x : A) → t x ≡ true → w x ≡ d)

@@ -1,20 +1,14 @@
 -- What a generated day comes to, in whatever order its scripts are run.
-use Rattle.std.proofs.Common.{ℕ, ◌+◌, ◌*◌, ◌≤◌, Bool, List, [], ◌∷◌, ◌++◌, length, get_or, sum_by, refl, sym, ap, subst, ◌∙◌, append-nil, length-append, arith}
-use Rattle.std.specs.List.{AllByRecursion}
+use Rattle.input_maker.proofs.Common.{ℕ, ◌+◌, ◌*◌, ◌≤◌, Bool, List, [], ◌∷◌, ◌++◌, length, get_or, sum_by, refl, sym, ap, subst, ◌∙◌, length-append, arith}
+use Rattle.input_maker.proofs.Common.{AllByRecursion, recursion_from_All, script_at, operations_of, outcome_of, AllByRecursion-weaker, sum_by-most}
+use Rattle.input_maker.proofs.Common.{MOST_SCRIPTS, ClearingInput, Place, IsJournal, books_after, made_books, deposits_of}
+use Rattle.books_report.proofs.Common.{count_scripts, IsPlace}
+use Rattle.std.proofs.Common.{append-nil}
 use Rattle.std.proofs.lemmas.List.{get_or_append_left}
-use Rattle.std.proofs.lemmas.List.Elements.{recursion_from_All}
-use Rattle.script_reader.specs.Gathered.{script_at}
-use Rattle.books_model.specs.Scripts.{operations_of}
-use Rattle.books_model.specs.Interpreter.{outcome_of}
-use Rattle.books_model.proofs.Maps.Entries.{AllByRecursion-weaker, sum_by-most}
-use Rattle.script_reader.specs.declared.limits.TheConstants.{MOST_SCRIPTS}
-use Rattle.script_reader.specs.Input.{ClearingInput, count_scripts}
-use Rattle.script_reader.specs.Journal.{Place, IsPlace, IsJournal}
-use Rattle.books_report.specs.Output.{books_after}
 use Rattle.books_report.proofs.Order.Turns.{length_of_journal, next_of_journal}
-use Rattle.input_maker.specs.Made.{made_books, made_input}
+use Rattle.input_maker.specs.Made.{made_input}
 use Rattle.input_maker.specs.Statements.{AreForMake}
-use Rattle.input_maker.specs.Days.{all_deposits, deposits_of, FirstKindIsDone, MadeCash, MadeQuantities, NoneIsFull, SecondKindKeepsCash}
+use Rattle.input_maker.specs.Days.{all_deposits, FirstKindIsDone, MadeCash, MadeQuantities, NoneIsFull, SecondKindKeepsCash}
 use Rattle.input_maker.proofs.Opening.{account_found, account_there, made_books_in_range}
 use Rattle.input_maker.proofs.Calling.{made_inputs}
 use Rattle.input_maker.proofs.Rooms.{AreOfDay}
@@ -28,7 +22,7 @@ opening_day = record {
   range = made_books_in_range;
   blocks = refl;
   instruments = refl;
-  accounts = record { only = λ a cash found. (account_found a cash found).0; every = account_there };
+  accounts = record { only = λ a cash found. (account_found a found).0; every = account_there };
 }
 
 -- the scripts of an input are made, and not too many
@@ -36,13 +30,13 @@ record HasMade (input : ClearingInput) : Type 0 where
   made : (p : Place) → IsPlace input p → IsMadeOnce (script_at input.callers p.caller p.index)
   few : count_scripts input.callers ≤ MOST_SCRIPTS
 
-input_made : (seed callers scripts : ℕ) → AreForMake seed callers scripts → HasMade (made_input seed callers scripts)
-input_made seed callers scripts h = record {
+input_made : {seed callers scripts : ℕ} → AreForMake seed callers scripts → HasMade (made_input seed callers scripts)
+input_made {seed} {callers} {scripts} h = record {
   made = λ p there. callers_made seed callers (callers * scripts) p.caller (record { name = []; scripts = [] }) there.0 p.index [] there.1;
   few = (made_inputs seed callers scripts h).valid.callers.few_scripts;
 }
 
-module _ (input : ClearingInput) (h : HasMade input) where
+module _ {input : ClearingInput} (h : HasMade input) where
   module _ (before behind : List Place) (j : IsJournal input (before ++ behind)) where
     -- the scripts in front of an order are made and not too many, and have so few deposits
     front_made : AllByRecursion (λ p. IsMadeOnce (script_at input.callers p.caller p.index)) before
@@ -57,7 +51,7 @@ module _ (input : ClearingInput) (h : HasMade input) where
     front_deposits : sum_by (deposits_at input) before ≤ length before * 300
     front_deposits = sum_by-most (deposits_at input) 300 before
         (AllByRecursion-weaker (λ p. IsMadeOnce (script_at input.callers p.caller p.index)) (λ p. deposits_at input p ≤ 300)
-        (λ p m. deposits_most m.0 (script_at input.callers p.caller p.index) m.1) before front_made)
+        (λ p m. deposits_most m.1) before front_made)
 
     -- what they leave
     front_leaves : Leave (sum_by (deposits_at input) before) made_books (books_after input made_books before)
@@ -73,7 +67,7 @@ module _ (input : ClearingInput) (h : HasMade input) where
       let front = front_leaves before (place ∷ behind) j in (
         made.0,
         made.1,
-        script_goes made.0 (script_at input.callers place.caller place.index) (books_after input made_books before) front.day
+        script_goes front.day
             (omega (arith, front.cash, opening_cash, front_deposits before (place ∷ behind) j, front_few before (place ∷ behind) j)) made.1,
       )
 
@@ -85,27 +79,27 @@ module _ (input : ClearingInput) (h : HasMade input) where
 
 pub made_cash : MadeCash
 made_cash seed callers scripts order h j =
-    let left = all_leave (made_input seed callers scripts) (input_made seed callers scripts h) order j in
+    let left = all_leave (input_made h) order j in
     left.cash ∙ ap (λ n. n + all_deposits (made_input seed callers scripts)) opening_cash
 
 pub made_quantities : MadeQuantities
 made_quantities seed callers scripts order h j =
-    (all_leave (made_input seed callers scripts) (input_made seed callers scripts h) order j).quantities ∙ opening_quantities
+    (all_leave (input_made h) order j).quantities ∙ opening_quantities
 
 pub first_kind_is_done : FirstKindIsDone
 first_kind_is_done seed callers scripts before place behind s first =
     let input = made_input seed callers scripts in
-    let next = next_goes input (input_made seed callers scripts s.range) before place behind s.journal in
-    next.2.done (kind_is next.0 (script_at input.callers place.caller place.index) next.1 first)
+    let next = next_goes (input_made s.range) before place behind s.journal in
+    next.2.done (kind_is next.0 next.1 first)
 
 pub second_kind_keeps_cash : SecondKindKeepsCash
 second_kind_keeps_cash seed callers scripts before place behind s second =
     let input = made_input seed callers scripts in
     let script = script_at input.callers place.caller place.index in
-    let next = next_goes input (input_made seed callers scripts s.range) before place behind s.journal in
-    let none = deposits_none next.0 (operations_of script) next.1.each (kind_is_not next.0 script next.1 second) in
+    let next = next_goes (input_made s.range) before place behind s.journal in
+    let none = deposits_none next.0 (operations_of script) next.1.each (kind_is_not next.0 next.1 second) in
     omega (arith, next.2.left.cash, none)
 
 pub none_is_full : NoneIsFull
 none_is_full seed callers scripts before place behind s =
-    (next_goes (made_input seed callers scripts) (input_made seed callers scripts s.range) before place behind s.journal).2.not_full
+    (next_goes (input_made s.range) before place behind s.journal).2.not_full

@@ -1,26 +1,20 @@
 -- A generated text is small enough to be read.
-use Rattle.std.proofs.Common.{◌≡◌, ℕ, Bool, ◌+◌, ◌*◌, ◌%◌, ◌<◌, ◌≤◌, List, [], ◌∷◌, ◌++◌, codes, map, length, refl, ap, length-append}
-use Rattle.std.proofs.Common.{arith}
-use Rattle.std.specs.List.{AllByRecursion, flat_map, join_with_byte, range_with_len}
+use Rattle.input_maker.proofs.Common.{◌≡◌, ℕ, Bool, ◌+◌, ◌*◌, ◌%◌, ◌<◌, ◌≤◌, List, [], ◌∷◌, ◌++◌, codes, map, length, refl, ap, length-append, arith}
+use Rattle.input_maker.proofs.Common.{AllByRecursion, flat_map, range_with_len, length-map-range_with_len, Op, Part, operations_of, AllByRecursion-weaker}
+use Rattle.input_maker.proofs.Common.{sum_by-most, One, line, header_line, account_line, price_line, position_line, books_lines, books_operation_words}
+use Rattle.input_maker.proofs.Common.{script_lines, end_line, Submission, submission_lines, made_books, positions_to, state_of_script, made_submission}
+use Rattle.books_report.proofs.Common.{number, finish_line}
+use Rattle.script_reader.proofs.Common.{scripts_line}
+use Rattle.std.specs.List.{join_with_byte}
 use Rattle.std.proofs.lemmas.Fmt.{length-decimal-le}
 use Rattle.std.proofs.lemmas.List.Concat.{length-flat_map}
-use Rattle.std.proofs.lemmas.List.FromFn.{length-map-range_with_len}
-use Rattle.books_model.specs.declared.script.Op.{Op}
-use Rattle.books_model.specs.declared.script.Part.{Part}
-use Rattle.books_model.specs.Scripts.{operations_of}
 use Rattle.input_maker.proofs.Listing.{lines_alone}
-use Rattle.books_model.proofs.Maps.Entries.{AllByRecursion-weaker, sum_by-most}
 use Rattle.script_reader.specs.declared.text.words.TheConstants.{SPACE, LINE_FEED}
-use Rattle.script_reader.specs.declared.books.version.Version.TheVariants.{One}
-use Rattle.script_reader.specs.Text.{line, number, header_line, account_line, price_line, position_line, books_lines, books_operation_words, script_lines}
-use Rattle.script_reader.specs.Text.{scripts_line, end_line, finish_line}
-use Rattle.script_reader.specs.Input.{Submission}
-use Rattle.script_reader.specs.Grammar.{submission_lines}
-use Rattle.input_maker.specs.Made.{made_books, accounts_to, prices_to, positions_to, caller_name, state_of_script, made_submission, submissions_to}
+use Rattle.input_maker.specs.Made.{accounts_to, prices_to, caller_name, submissions_to}
 use Rattle.input_maker.specs.Statements.{MadeInputsFit}
 use Rattle.input_maker.proofs.Opening.{all_mapped, accounts_length, prices_length, positions_length, IsPosition, positions_hold, opening_lines}
-use Rattle.input_maker.proofs.Making.{IsMade, IsMadeOnce, made_deposit, made_price, made_next, made_sum, made_move, made_trade, made_margin}
-use Rattle.input_maker.proofs.Making.{made_show, script_made}
+use Rattle.input_maker.proofs.Making.{IsMade, IsMadeOnce, made_deposit, made_price, made_next, made_sum, made_move, made_trade, made_margin, made_show}
+use Rattle.input_maker.proofs.Making.{script_made}
 
 -- the bytes of words, with one behind each
 abbrev size_of : List (List ℕ) → ℕ
@@ -67,11 +61,11 @@ line5 k u v w x =
     omega (arith, e, line_length k (u ∷ v ∷ w ∷ x ∷ []))
 
 -- three lists in a row, and four, are no longer than their bounds together
-row3 : (a b c : List ℕ) (k l m : ℕ) → length a ≤ k → length b ≤ l → length c ≤ m → length (a ++ b ++ c) ≤ k + l + m
-row3 a b c k l m p q r = omega (arith, p, q, r, length-append (a ++ b) c, length-append a b)
+row3 : (a b c : List ℕ) {k l m : ℕ} → length a ≤ k → length b ≤ l → length c ≤ m → length (a ++ b ++ c) ≤ k + l + m
+row3 a b c p q r = omega (arith, p, q, r, length-append (a ++ b) c, length-append a b)
 
-row4 : (a b c d : List ℕ) (k l m n : ℕ) → length a ≤ k → length b ≤ l → length c ≤ m → length d ≤ n → length (a ++ b ++ c ++ d) ≤ k + l + m + n
-row4 a b c d k l m n p q r s = omega (arith, s, row3 a b c k l m p q r, length-append (a ++ b ++ c) d)
+row4 : (a b c d : List ℕ) {k l m n : ℕ} → length a ≤ k → length b ≤ l → length c ≤ m → length d ≤ n → length (a ++ b ++ c ++ d) ≤ k + l + m + n
+row4 a b c d p q r s = omega (arith, s, row3 a b c p q r, length-append (a ++ b ++ c) d)
 
 -- a number of a generated text has few digits
 three : (n : ℕ) → n < 1000 → length (number n) ≤ 3
@@ -154,7 +148,7 @@ submission_short seed callers n =
     let k : length (codes "script") ≡ 6 = refl in
     let head : length begins ≤ 12 = omega (arith, k, line2 (codes "script") s.caller, name_length (n % callers)) in
     let end : length end_line ≤ 4 = omega arith in
-    let all = row3 begins (script_lines s.script) end_line 12 78 4 head (script_short s.script (script_made (state_of_script seed n))) end in
+    let all = row3 begins (script_lines s.script) end_line head (script_short s.script (script_made (state_of_script seed n))) end in
     omega (arith, all)
 
 submissions_short : (seed callers n : ℕ) → length (flat_map submission_lines (submissions_to seed callers n)) ≤ n * 100
@@ -174,8 +168,8 @@ price_short i price few most =
     let k : length (codes "price") ≡ 5 = refl in
     omega (arith, k, line3 (codes "price") (number i) (number price), three i (omega (arith, few)), three price (omega (arith, most)))
 
-position_short : (a i quantity : ℕ) → a ≤ 200 → i ≤ 8 → quantity ≤ 100 → length (position_line ((a, i), quantity)) ≤ 22
-position_short a i quantity few less most =
+position_short : {a i : ℕ} (quantity : ℕ) → a ≤ 200 → i ≤ 8 → quantity ≤ 100 → length (position_line ((a, i), quantity)) ≤ 22
+position_short {a} {i} quantity few less most =
     let k : length (codes "position") ≡ 8 = refl in
     omega (
       arith,
@@ -204,7 +198,7 @@ positions_short : length (flat_map position_line (positions_to 200)) ≤ 35200
 positions_short =
     let each =
     AllByRecursion-weaker (λ e. IsPosition e.0 e.1) (λ e. length (position_line e) ≤ 22)
-    (λ e h. position_short e.0.0 e.0.1 e.1 h.0.1 h.1.1 (omega (arith, h.2))) (positions_to 200) positions_hold in
+    (λ e h. position_short e.1 h.0.1 h.1.1 (omega (arith, h.2))) (positions_to 200) positions_hold in
     omega (arith, positions_length, lines_most position_line 22 (positions_to 200) each)
 
 header_short : length (header_line One made_books) ≤ 60
@@ -219,7 +213,7 @@ books_short =
     let accounts : List ℕ = flat_map account_line (accounts_to 200) in
     let prices : List ℕ = flat_map price_line (prices_to 8) in
     let positions : List ℕ = flat_map position_line (positions_to 200) in
-    let all = row4 (header_line One made_books) accounts prices positions 60 4000 120 35200 header_short accounts_short prices_short positions_short in
+    let all = row4 (header_line One made_books) accounts prices positions header_short accounts_short prices_short positions_short in
     let same : length (books_lines One made_books) ≡ length (header_line One made_books ++ accounts ++ prices ++ positions) = ap length opening_lines in
     omega (arith, all, same)
 
@@ -229,6 +223,6 @@ made_inputs_fit seed callers scripts range =
     let written : List ℕ = flat_map submission_lines (submissions_to seed callers n) in
     let begins : length scripts_line ≤ 8 = omega arith in
     let ends : length finish_line ≤ 7 = omega arith in
-    let all = row4 (books_lines One made_books) scripts_line written finish_line 40000 8 (n * 100) 7 books_short begins
+    let all = row4 (books_lines One made_books) scripts_line written finish_line books_short begins
     (submissions_short seed callers n) ends in
     omega (arith, range.few, all)

@@ -1,3 +1,5 @@
+-- what several proofs import
+pub mod Common
 -- lists of what is made, with one more
 pub mod Listing
 -- the opening books are in their ranges

@@ -1,17 +1,12 @@
 -- Lists of what is made, with one more.
-use Rattle.std.proofs.Common.{map, codes, ◌≡◌, ℕ, zero, suc, ◌+◌, ◌*◌, List, [], ◌∷◌, ◌++◌, refl, sym, ap, ◌∙◌, append_assoc, add-one, arith}
-use Rattle.std.specs.List.{flat_map, range_with_len}
-use Rattle.std.proofs.lemmas.List.{append-nil}
+use Rattle.input_maker.proofs.Common.{map, codes, ◌≡◌, ℕ, zero, suc, ◌+◌, ◌*◌, List, [], ◌∷◌, ◌++◌, refl, sym, ap, ◌∙◌, append_assoc, add-one, arith, flat_map}
+use Rattle.input_maker.proofs.Common.{range_with_len, append-nil, Op, end_line, line, books_operation_words, position_line, script_lines, submission_lines}
+use Rattle.input_maker.proofs.Common.{operation_lines, drawn_state, operation_from, state_after_script, made_submission}
 use Rattle.std.proofs.lemmas.List.Concat.{flat_map-append}
 use Rattle.std.proofs.lemmas.List.FromFn.{map-range_with_len_more}
-use Rattle.books_model.specs.declared.script.Op.{Op}
+use Rattle.input_maker.specs.Made.{accounts_to, prices_to, positions_in, positions_to, operations_from, state_after_operations, script_from, script_operations}
+use Rattle.input_maker.specs.Made.{state_of_script, submissions_to}
 use Rattle.books_model.specs.declared.script.Part.TheVariants as part
-use Rattle.script_reader.specs.Text.{end_line, line, books_operation_words, position_line, script_lines}
-use Rattle.script_reader.specs.Grammar.{submission_lines}
-use Rattle.input_maker.specs.Lines.{operation_lines}
-use Rattle.input_maker.specs.Generator.{drawn_state}
-use Rattle.input_maker.specs.Made.{accounts_to, prices_to, positions_in, positions_to, operation_from, operations_from, state_after_operations}
-use Rattle.input_maker.specs.Made.{script_from, script_operations, state_after_script, state_of_script, made_submission, submissions_to}
 
 -- one number more
 range-more : (a n : ℕ) → range_with_len a (suc n) ≡ range_with_len a n ++ (a + n) ∷ []
@@ -19,8 +14,8 @@ range-more a zero = let e : a ≡ a + 0 = omega arith in ap (λ x. x ∷ []) e
 range-more a (suc n) = let e : (a + 1) + n ≡ a + suc n = omega arith in ap (λ l. a ∷ l) (range-more (a + 1) n ∙ ap (λ x. range_with_len (a + 1) n ++ x ∷ []) e)
 
 -- nothing is written
-pub written_none : {X : Type 0} (write : X → List ℕ) (text : List ℕ) (none : List X) → none ≡ [] → text ≡ text ++ flat_map write none
-written_none write text none e = sym (append-nil text) ∙ ap (λ xs. text ++ flat_map write xs) (sym e)
+pub written_none : {X : Type 0} (write : X → List ℕ) {text : List ℕ} {none : List X} → none ≡ [] → text ≡ text ++ flat_map write none
+written_none write {text} e = sym (append-nil text) ∙ ap (λ xs. text ++ flat_map write xs) (sym e)
 
 pub accounts-none : accounts_to 0 ≡ []
 unfolding accounts_to
@@ -63,13 +58,9 @@ positions-more n =
     ∙ ap (λ x. flat_map f (range_with_len 1 n) ++ f x) e
 
 -- they are written
-pub positions_written : (text before now : List ℕ) (n : ℕ) → before ≡ text ++ flat_map position_line (positions_to n)
+pub positions_written : (text : List ℕ) {before now : List ℕ} (n : ℕ) → before ≡ text ++ flat_map position_line (positions_to n)
     → now ≡ before ++ flat_map position_line (positions_in (n + 1) 8) → now ≡ text ++ flat_map position_line (positions_to (n + 1))
-positions_written text before now n h k =
-    k ∙ ap (λ l. l ++ flat_map position_line (positions_in (n + 1) 8)) h
-    ∙ append_assoc text (flat_map position_line (positions_to n)) (flat_map position_line (positions_in (n + 1) 8))
-    ∙ ap (λ l. text ++ l) (sym (flat_map-append position_line (positions_to n) (positions_in (n + 1) 8)))
-    ∙ ap (λ xs. text ++ flat_map position_line xs) (sym (positions-more n))
+positions_written text n h k = simp (k, h, positions-more n, flat_map-append, append_assoc)
 
 pub operations-none : (g x : ℕ) → operations_from g x 0 ≡ []
 unfolding operations_from
@@ -79,9 +70,9 @@ pub operations-more : (g x n : ℕ) → operations_from g x (n + 1) ≡ operatio
 unfolding operations_from
 operations-more g x n = map-range_with_len_more (λ k. operation_from g (state_after_operations k x)) 0 n n (omega arith)
 
-pub states-none : (x : ℕ) → state_after_operations 0 x ≡ x
+pub states-none : {x : ℕ} → state_after_operations 0 x ≡ x
 unfolding state_after_operations
-states-none x = refl
+states-none = refl
 
 pub states-more : (n x : ℕ) → state_after_operations (n + 1) x ≡ drawn_state 5 (state_after_operations n x)
 unfolding state_after_operations
@@ -95,9 +86,9 @@ pub submissions-more : (seed callers n : ℕ) → submissions_to seed callers (n
 unfolding submissions_to
 submissions-more seed callers n = map-range_with_len_more (made_submission seed callers) 0 n n (omega arith)
 
-pub scripts-none : (seed : ℕ) → state_of_script seed 0 ≡ seed
+pub scripts-none : {seed : ℕ} → state_of_script seed 0 ≡ seed
 unfolding state_of_script
-scripts-none seed = refl
+scripts-none = refl
 
 pub scripts-more : (seed n : ℕ) → state_of_script seed (n + 1) ≡ state_after_script (state_of_script seed n)
 unfolding state_of_script

@@ -1,27 +1,22 @@
 -- The opening books are in their ranges.
-use Rattle.std.proofs.Common.{◌≡◌, ℕ, zero, suc, ◌+◌, ◌*◌, ◌<◌, ◌≤◌, Bool, true, false, cond, ◌&&◌, T, List, [], ◌∷◌, ◌++◌, map, length, Option, Some, IsSome}
-use Rattle.std.proofs.Common.{refl, sym, ap, subst, ◌∙◌, length-append, append_assoc, true≢false, arith}
-use Rattle.std.specs.List.{AllByRecursion, flat_map, range_with_len}
-use Rattle.std.specs.declared.cmp.Ordering.{Ordering}
+use Rattle.input_maker.proofs.Common.{◌≡◌, ℕ, zero, suc, ◌+◌, ◌*◌, ◌<◌, ◌≤◌, Bool, true, false, cond, ◌&&◌, List, [], ◌∷◌, ◌++◌, map, length, Option, Some}
+use Rattle.input_maker.proofs.Common.{IsSome, refl, sym, ap, subst, ◌∙◌, length-append, append_assoc, true≢false, arith, AllByRecursion, flat_map}
+use Rattle.input_maker.proofs.Common.{range_with_len, Ordering, nat_cmp, eq_by_cmp, length-map-range_with_len, append-nil, position_cmp, used, IsWithin}
+use Rattle.input_maker.proofs.Common.{AreInRange, One, books_lines, header_line, account_line, price_line, position_line, made_books}
+use Rattle.script_reader.proofs.Common.{AreBooksWithin}
+use Rattle.std.proofs.Common.{T}
 use Rattle.std.specs.declared.cmp.Ordering.TheVariants.{Less, Equal, Greater}
-use Rattle.std.specs.Ordering.{nat_cmp, is_lt, eq_by_cmp, ordering_then}
+use Rattle.std.specs.Ordering.{is_lt, ordering_then}
 use Rattle.std.specs.Cmp.{nat_cmp_is, Equal-is}
-use Rattle.std.specs.FinMap as finmap
 use Rattle.std.specs.FinMap.{nat_cmp-IsAntisymmetric, find, get-from_sorted, entries-from_sorted, len-entries}
 use Rattle.std.specs.FinMap.Entries.{below_all, is_sorted}
-use Rattle.std.proofs.lemmas.List.FromFn.{length-map-range_with_len}
-use Rattle.std.proofs.lemmas.List.{append-nil}
-use Rattle.books_model.specs.Books.{position_cmp, used}
-use Rattle.books_model.specs.Ranges.{IsWithin, AreInRange}
-use Rattle.script_reader.specs.declared.books.version.Version.TheVariants.{One}
-use Rattle.script_reader.specs.Versions.{AreBooksWithin}
-use Rattle.script_reader.specs.Text.{books_lines, header_line, account_line, price_line, position_line}
 use Rattle.script_reader.proofs.books.Printing.Sections.{less_number}
 use Rattle.books_report.proofs.Outputs.Rows.{all_both}
-use Rattle.input_maker.specs.Made.{accounts_to, prices_to, positions_in, positions_to, made_books}
+use Rattle.input_maker.specs.Made.{accounts_to, prices_to, positions_in, positions_to}
+use Rattle.std.specs.FinMap as finmap
 
-and_T : (r : Ordering) (b : Bool) → r ≡ Less → T b → T (is_lt r && b)
-and_T r b less h = subst (λ r. T (is_lt r && b)) (sym less) h
+and_T : {r : Ordering} (b : Bool) → r ≡ Less → T b → T (is_lt r && b)
+and_T {r} b less h = subst (λ r. T (is_lt r && b)) (sym less) h
 
 both_T : (a b : Bool) → T a → T b → T (a && b)
 both_T true b p q = q
@@ -36,7 +31,7 @@ keyed v a n = map (λ i. (i, v i)) (range_with_len a n)
 
 keyed_below : {X : Type 0} (v : ℕ → X) (k a n : ℕ) → k < a → T (below_all nat_cmp k (keyed v a n))
 keyed_below v k a zero less = tt
-keyed_below v k a (suc n) less = and_T (nat_cmp k a) _ (less_number k a less) (keyed_below v k (a + 1) n (omega arith))
+keyed_below v k a (suc n) less = and_T _ (less_number k a less) (keyed_below v k (a + 1) n (omega arith))
 
 keyed_sorted : {X : Type 0} (v : ℕ → X) (a n : ℕ) → T (is_sorted nat_cmp (keyed v a n))
 keyed_sorted v a zero = tt
@@ -58,21 +53,21 @@ all_mapped P f a zero each = tt
 all_mapped P f a (suc n) each = (each a (omega arith) (omega arith), all_mapped P f (a + 1) n (λ k low high. each k (omega arith) (omega arith)))
 
 -- what holds of all entries holds of one that is found
-found_holds : {K X : Type 0} (R : K → K → Ordering) (same : (x y : K) → R x y ≡ Equal → x ≡ y) (P : K → X → Type 0) (q : K) (v : X) (es : List (K × X))
+found_holds : {K X : Type 0} (R : K → K → Ordering) (same : (x y : K) → R x y ≡ Equal → x ≡ y) (P : K → X → Type 0) (q : K) {v : X} (es : List (K × X))
     → AllByRecursion (λ e. P e.0 e.1) es → find R q es ≡ Some v → P q v
-found_holds R same P q v [] all found = absurd cc
-found_holds R same P q v (e ∷ es) all found =
+found_holds R same P q [] all found = absurd cc
+found_holds R same P q {v} (e ∷ es) all found =
     elim (eq_by_cmp R q e.0) as (λ b. eq_by_cmp R q e.0 ≡ b → cond b (Some e.1) (find R q es) ≡ Some v → P q v) [
       | true ↦ λ is f. let w : e.1 ≡ v = cc in subst (λ w. P q w) w (subst (λ k. P k e.1) (sym (same q e.0 ((Equal-is (R q e.0)).0 is))) all.0)
-      | false ↦ λ is f. found_holds R same P q v es all.1 f
+      | false ↦ λ is f. found_holds R same P q es all.1 f
     ] refl found
 
 -- positions of one account go by instrument, and those of others by account
 own_position : (a i j : ℕ) → i < j → position_cmp (a, i) (a, j) ≡ Less
 own_position a i j less = ap (λ r. ordering_then r (nat_cmp i j)) (equal_of a a refl) ∙ less_number i j less
 
-other_position : (a b i j : ℕ) → a < b → position_cmp (a, i) (b, j) ≡ Less
-other_position a b i j less = ap (λ r. ordering_then r (nat_cmp i j)) (less_number a b less)
+other_position : {a b : ℕ} (i j : ℕ) → a < b → position_cmp (a, i) (b, j) ≡ Less
+other_position {a} {b} i j less = ap (λ r. ordering_then r (nat_cmp i j)) (less_number a b less)
 
 ordered : (x y : Ordering) → ordering_then x y ≡ Equal → (x ≡ Equal) × (y ≡ Equal)
 ordered Less y e = absurd cc
@@ -91,7 +86,7 @@ row a i n rest = map (λ j. ((a, j), 100)) (range_with_len i n) ++ rest
 row_below : (k : ℕ × ℕ) (a i n : ℕ) (rest : List ((ℕ × ℕ) × ℕ)) → ((j : ℕ) → i ≤ j → position_cmp k (a, j) ≡ Less)
     → T (below_all position_cmp k rest) → T (below_all position_cmp k (row a i n rest))
 row_below k a i zero rest each h = h
-row_below k a i (suc n) rest each h = and_T (position_cmp k (a, i)) _ (each i (omega arith)) (row_below k a (i + 1) n rest (λ j le. each j (omega arith)) h)
+row_below k a i (suc n) rest each h = and_T _ (each i (omega arith)) (row_below k a (i + 1) n rest (λ j le. each j (omega arith)) h)
 
 row_sorted : (a i n : ℕ) (rest : List ((ℕ × ℕ) × ℕ)) → ((j : ℕ) → T (below_all position_cmp (a, j) rest))
     → T (is_sorted position_cmp rest) → T (is_sorted position_cmp (row a i n rest))
@@ -106,7 +101,7 @@ rows a n = flat_map (λ a. positions_in a 8) (range_with_len a n)
 rows_below : (k : ℕ × ℕ) (a n : ℕ) → k.0 < a → T (below_all position_cmp k (rows a n))
 unfolding positions_in
 rows_below k a zero less = tt
-rows_below k a (suc n) less = row_below k a 1 8 (rows (a + 1) n) (λ j le. other_position k.0 a k.1 j less) (rows_below k (a + 1) n (omega arith))
+rows_below k a (suc n) less = row_below k a 1 8 (rows (a + 1) n) (λ j le. other_position k.1 j less) (rows_below k (a + 1) n (omega arith))
 
 rows_sorted : (a n : ℕ) → T (is_sorted position_cmp (rows a n))
 unfolding positions_in
@@ -161,23 +156,23 @@ prices_entries = entries-from_sorted nat_cmp (prices_to 8) prices_sorted
 pub positions_entries : finmap.entries made_books.positions ≡ positions_to 200
 positions_entries = entries-from_sorted position_cmp (positions_to 200) positions_sorted
 
-pub account_found : (a cash : ℕ) → finmap.get made_books.accounts a ≡ Some cash → IsWithin 1 200 a × (cash ≡ 1000000)
+pub account_found : (a : ℕ) {cash : ℕ} → finmap.get made_books.accounts a ≡ Some cash → IsWithin 1 200 a × (cash ≡ 1000000)
 unfolding accounts_to
-account_found a cash found =
-    found_holds nat_cmp nat_cmp-IsAntisymmetric (λ a cash. IsWithin 1 200 a × (cash ≡ 1000000)) a cash (accounts_to 200)
+account_found a {cash} found =
+    found_holds nat_cmp nat_cmp-IsAntisymmetric (λ a cash. IsWithin 1 200 a × (cash ≡ 1000000)) a (accounts_to 200)
     (all_mapped {X = ℕ × ℕ} (λ e. IsWithin 1 200 e.0 × (e.1 ≡ 1000000)) (λ a. (a, 1000000)) 1 200 (λ k low high. ((low, omega arith), refl)))
     (sym (get-from_sorted nat_cmp (accounts_to 200) a accounts_sorted) ∙ found)
 
-price_found : (i price : ℕ) → finmap.get made_books.prices i ≡ Some price → IsWithin 1 8 i × (price ≡ 100 * i)
+price_found : (i : ℕ) {price : ℕ} → finmap.get made_books.prices i ≡ Some price → IsWithin 1 8 i × (price ≡ 100 * i)
 unfolding prices_to
-price_found i price found =
-    found_holds nat_cmp nat_cmp-IsAntisymmetric (λ i price. IsWithin 1 8 i × (price ≡ 100 * i)) i price (prices_to 8)
+price_found i {price} found =
+    found_holds nat_cmp nat_cmp-IsAntisymmetric (λ i price. IsWithin 1 8 i × (price ≡ 100 * i)) i (prices_to 8)
     (all_mapped {X = ℕ × ℕ} (λ e. IsWithin 1 8 e.0 × (e.1 ≡ 100 * e.0)) (λ i. (i, 100 * i)) 1 8 (λ k low high. ((low, omega arith), refl)))
     (sym (get-from_sorted nat_cmp (prices_to 8) i prices_sorted) ∙ found)
 
-position_found : (a i quantity : ℕ) → finmap.get made_books.positions (a, i) ≡ Some quantity → IsPosition (a, i) quantity
-position_found a i quantity found =
-    found_holds position_cmp same_position IsPosition (a, i) quantity (positions_to 200) positions_hold
+position_found : (a i : ℕ) {quantity : ℕ} → finmap.get made_books.positions (a, i) ≡ Some quantity → IsPosition (a, i) quantity
+position_found a i found =
+    found_holds position_cmp same_position IsPosition (a, i) (positions_to 200) positions_hold
     (sym (get-from_sorted position_cmp (positions_to 200) (a, i) positions_sorted) ∙ found)
 
 pub account_there : (a : ℕ) → IsWithin 1 200 a → IsSome (finmap.get made_books.accounts a)
@@ -187,9 +182,9 @@ account_there a within =
     get-from_sorted nat_cmp (accounts_to 200) a accounts_sorted ∙ keyed_found {X = ℕ} (λ a. 1000000) a 1 200 within.0 (omega arith) in
     subst (λ (o : Option ℕ). IsSome o) (sym e) refl
 
-price_there : (i : ℕ) → IsWithin 1 8 i → IsSome (finmap.get made_books.prices i)
+price_there : {i : ℕ} → IsWithin 1 8 i → IsSome (finmap.get made_books.prices i)
 unfolding prices_to
-price_there i within =
+price_there {i} within =
     let e : finmap.get made_books.prices i ≡ Some (100 * i) = get-from_sorted nat_cmp (prices_to 8) i prices_sorted
     ∙ keyed_found {X = ℕ} (λ i. 100 * i) i 1 8 within.0 (omega arith) in
     subst (λ (o : Option ℕ). IsSome o) (sym e) refl
@@ -219,10 +214,10 @@ made_books_in_range = record {
   blocks = (omega arith, omega arith);
   instruments = (omega arith, omega arith);
   ring = (omega arith, omega arith);
-  accounts = λ a cash found. let h = account_found a cash found in ((h.0.0, omega (arith, h.0.1)), omega (arith, h.1));
-  prices = λ i price found. let h = price_found i price found in (h.0, (omega (arith, h.0.0, h.1), omega (arith, h.0.1, h.1)));
-  positions = λ a i quantity found. let h = position_found a i quantity found in
-      (account_there a h.0, price_there i h.1, (omega (arith, h.2), omega (arith, h.2)));
+  accounts = λ a cash found. let h = account_found a found in ((h.0.0, omega (arith, h.0.1)), omega (arith, h.1));
+  prices = λ i price found. let h = price_found i found in (h.0, (omega (arith, h.0.0, h.1), omega (arith, h.0.1, h.1)));
+  positions = λ a i quantity found. let h = position_found a i found in
+      (account_there a h.0, price_there h.1, (omega (arith, h.2), omega (arith, h.2)));
   calls = λ k d less. absurd (omega arith);
   queue = omega arith;
   blocks_used = omega (arith, blocks_used);
@@ -230,7 +225,7 @@ made_books_in_range = record {
 
 -- and in the ranges of a text of version 1
 pub made_books_within : AreBooksWithin One made_books
-made_books_within = record { blocks = omega arith; cash = λ a cash found. omega (arith, (account_found a cash found).1) }
+made_books_within = record { blocks = omega arith; cash = λ a cash found. omega (arith, (account_found a found).1) }
 
 -- the lines of the opening books
 pub opening_lines : books_lines One made_books ≡ header_line One made_books ++ flat_map account_line (accounts_to 200)
@@ -241,11 +236,11 @@ opening_lines =
     (prices_entries t) ++ flat_map position_line (positions_entries t))
 
 -- and they are written one kind after the other
-pub opening_written : (text header accounts prices positions : List ℕ) → header ≡ text ++ header_line One made_books
+pub opening_written : (text : List ℕ) {header accounts prices positions : List ℕ} → header ≡ text ++ header_line One made_books
     → accounts ≡ header ++ flat_map account_line (accounts_to 200)
     → prices ≡ accounts ++ flat_map price_line (prices_to 8)
     → positions ≡ prices ++ flat_map position_line (positions_to 200) → positions ≡ text ++ books_lines One made_books
-opening_written text header accounts prices positions h a p q =
+opening_written text h a p q =
     let H = header_line One made_books in
     let A = flat_map account_line (accounts_to 200) in
     let P = flat_map price_line (prices_to 8) in

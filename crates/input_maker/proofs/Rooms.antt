@@ -1,22 +1,16 @@
 -- The books of a generated day: their accounts are the 200 of its opening, so blocks never run out.
-use Rattle.std.proofs.Common.{◌≡◌, ℕ, ◌<◌, ◌≤◌, ◌==◌, true, false, cond, Option, Some, None, IsSome, unwrap_or, inl, inr, refl, sym, ap, subst, arith}
-use Rattle.std.specs.Cmp.{nat_cmp_total}
-use Rattle.std.specs.Ordering.{nat_cmp}
-use Rattle.std.specs.FinMap as map
-use Rattle.std.proofs.lemmas.Bool.{ne_eqb}
-use Rattle.std.proofs.lemmas.Map.Lookups.{exact_unsigned}
-use Rattle.books_model.specs.Books.{ClearingBooks, used, cash_of}
-use Rattle.books_model.specs.Ranges.{AreInRange, IsWithin}
-use Rattle.books_model.specs.Interpreter.{is_full, put_position}
-use Rattle.books_model.specs.Laws.{all_cash, all_held}
-use Rattle.books_model.specs.Inner.Draft.{set_position}
+use Rattle.input_maker.proofs.Common.{◌≡◌, ℕ, ◌<◌, ◌≤◌, ◌==◌, true, false, cond, Option, Some, None, IsSome, inl, inr, refl, sym, ap, subst, arith}
+use Rattle.input_maker.proofs.Common.{nat_cmp_total, nat_cmp, ne_eqb, exact_unsigned, ClearingBooks, used, cash_of, AreInRange, IsWithin, is_full, put_position}
+use Rattle.input_maker.proofs.Common.{all_cash, all_held, AllByRecursion-weaker, All-entries, weigh, positions_total, exact_positions, sums, by_weights}
+use Rattle.input_maker.proofs.Common.{all_quantities}
+use Rattle.books_model.proofs.Common.{set_position}
+use Rattle.std.proofs.Common.{unwrap_or}
 use Rattle.books_model.proofs.Drafts.{used_position}
-use Rattle.books_model.proofs.Maps.Entries.{AllByRecursion-weaker, All-entries, weigh, sum_by-set_at}
-use Rattle.books_model.proofs.Maps.Trees.{positions_total, exact_positions, found_after_insert, stays_after_insert}
+use Rattle.books_model.proofs.Maps.Entries.{sum_by-set_at}
+use Rattle.books_model.proofs.Maps.Trees.{found_after_insert, stays_after_insert}
 use Rattle.script_reader.proofs.books.WithoutFault.BooksFaultless.{some_of}
-use Rattle.books_report.proofs.Order.Classes.{sums, by_weights}
-use Rattle.input_maker.specs.Days.{all_quantities}
 use Rattle.input_maker.proofs.Classes.{numbers_most, pairs_most}
+use Rattle.std.specs.FinMap as map
 
 -- the accounts are those from 1 to 200
 pub record HasAccounts (accounts : map.FinMap nat_cmp ℕ) : Type 0 where
@@ -31,8 +25,8 @@ pub record AreOfDay (books : ClearingBooks) : Type 0 where
   pub accounts : HasAccounts books.accounts
 
 -- they are the same accounts if one of them has other cash
-pub other_cash : (accounts : map.FinMap nat_cmp ℕ) (a cash : ℕ) → HasAccounts accounts → IsWithin 1 200 a → HasAccounts (map.insert accounts a cash)
-other_cash accounts a cash h within = record {
+pub other_cash : {accounts : map.FinMap nat_cmp ℕ} {a : ℕ} (cash : ℕ) → HasAccounts accounts → IsWithin 1 200 a → HasAccounts (map.insert accounts a cash)
+other_cash {accounts} {a} cash h within = record {
   only = λ q w found. elim (found_after_insert nat_cmp_total exact_unsigned accounts a q cash w found) [
     | inl this ↦ subst (IsWithin 1 200) (sym this.0) within
     | inr old ↦ h.only q w old
@@ -40,7 +34,7 @@ other_cash accounts a cash h within = record {
   every = λ q there. stays_after_insert nat_cmp_total accounts a q cash (h.every q there);
 }
 
-module _ (books : ClearingBooks) (h : AreOfDay books) where
+module _ {books : ClearingBooks} (h : AreOfDay books) where
   -- instruments and accounts are below these numbers
   priced : (i price : ℕ) → map.get books.prices i ≡ Some price → i < 9
   priced i price found = omega (arith, (h.range.prices i price found).0.1, h.instruments)

@@ -1,18 +1,13 @@
 -- Sums over the scripts of an input, in whatever order they stand, and over its opening books.
-use Rattle.std.proofs.Common.{◌≡◌, ℕ, zero, suc, ◌+◌, ◌*◌, ◌<◌, ◌==◌, ◌&&◌, true, cond, List, [], length, map, get_or, sum_by, refl, sym, ap, subst, ◌∙◌}
-use Rattle.std.proofs.Common.{eqb-true, arith}
-use Rattle.std.specs.List.{flat_map, range_with_len}
+use Rattle.input_maker.proofs.Common.{◌≡◌, ℕ, zero, suc, ◌+◌, ◌*◌, ◌<◌, ◌==◌, ◌&&◌, true, cond, List, [], length, map, get_or, sum_by, refl, sym, ap, subst}
+use Rattle.input_maker.proofs.Common.{◌∙◌, arith, flat_map, range_with_len, recursion_from_All, sum_by-cons, script_at, Part, all_cash, Caller, ClearingInput}
+use Rattle.input_maker.proofs.Common.{Place, IsJournal, sums-same, by_weights, made_books, all_quantities}
+use Rattle.books_report.proofs.Common.{caller_at}
+use Rattle.std.proofs.Common.{eqb-true}
 use Rattle.std.proofs.lemmas.Bool.{and_parts}
-use Rattle.std.proofs.lemmas.List.Elements.{recursion_from_All}
-use Rattle.std.proofs.lemmas.List.Sums.{sum_by-cons, sum_by-append}
-use Rattle.script_reader.specs.Gathered.{caller_at, script_at}
-use Rattle.books_model.specs.declared.script.Part.{Part}
-use Rattle.books_model.specs.Laws.{all_cash}
-use Rattle.script_reader.specs.Input.{Caller, ClearingInput}
-use Rattle.script_reader.specs.Journal.{Place, IsJournal}
-use Rattle.books_report.proofs.Order.Classes.{sums-same, by_weights, sum_by_all}
-use Rattle.input_maker.specs.Made.{accounts_to, positions_in, positions_to, made_books}
-use Rattle.input_maker.specs.Days.{all_quantities}
+use Rattle.std.proofs.lemmas.List.Sums.{sum_by-append}
+use Rattle.books_report.proofs.Order.Classes.{sum_by_all}
+use Rattle.input_maker.specs.Made.{accounts_to, positions_in, positions_to}
 use Rattle.input_maker.proofs.Opening.{accounts_entries, positions_entries}
 use Rattle.input_maker.proofs.Classes.{same_weight}
 

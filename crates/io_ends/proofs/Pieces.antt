@@ -1,9 +1,8 @@
 -- Bytes that go from one place to another in pieces.
-use Rattle.std.proofs.Common.{◌≡◌, ◌≤◌, ◌+◌, ◌-◌, ℕ, List, ◌++◌, length, take, drop, Option, Some, None, sym, ap, ◌∙◌, arith, append_assoc, length-take}
-use Rattle.std.proofs.Common.{length-drop}
+use Rattle.io_ends.proofs.Common.{◌≡◌, ◌≤◌, ◌+◌, ◌-◌, ◌++◌, length, take, drop, sym, ap, ◌∙◌, arith, Appends, Consumes}
+use Rattle.std.proofs.Common.{ℕ, List, Option, Some, None, append_assoc, length-take, length-drop}
 use Rattle.std.proofs.lemmas.List.{take-append-drop, take_at, drop-drop}
 use Rattle.std.proofs.Math.Seq.{take-add}
-use Rattle.std.specs.Io.KnownBytes.{Appends, Consumes}
 
 -- what is left from a place on is the piece that was copied into the start of a buffer, and what is left after it
 pub prefix_and_rest : (xs piece others : List ℕ) (at n : ℕ) → piece ≡ take n (drop at xs) → at + n ≤ length xs

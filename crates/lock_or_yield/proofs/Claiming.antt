@@ -1,21 +1,16 @@
 -- What claim leaves of what a pass knows, and what it comes to with the scans.
-use Rattle.std.proofs.Common.{◌≡◌, ℕ, ◌-◌, ◌<◌, Bool, true, false, inl, inr, List, Option, Some, None, IsNone, IfSome, [], ◌∷◌, ◌++◌, refl, sym, ap, ◌∙◌, subst}
-use Rattle.std.proofs.Common.{◌==◌, if◌then◌else◌}
-use Rattle.history_model.specs.declared.view.View.{View}
-use Rattle.history_model.specs.Locks.{lock_of_word}
-use Rattle.history_model.specs.Sets.{has, has_pair, without_first}
-use Rattle.history_model.specs.Views.{number, HasWriteGrant}
-use Rattle.history_model.proofs.SetLemmas.{has-join_other, pair-without_other}
-use Rattle.locks_rule.specs.Steps.{after_asking, after_meeting, claim_writer_action, scan_row_action}
+use Rattle.lock_or_yield.proofs.Common.{◌≡◌, ℕ, ◌-◌, ◌<◌, Bool, true, false, inl, inr, List, Some, None, [], ◌∷◌, ◌++◌, refl, sym, ap, ◌∙◌, subst, ◌==◌}
+use Rattle.lock_or_yield.proofs.Common.{if◌then◌else◌, View, lock_of_word, has, has_pair, number, HasWriteGrant, has-join_other, after_asking, after_meeting}
+use Rattle.lock_or_yield.proofs.Common.{scan_row_action, GrantsStay, MetOn, SameCall, GainsAtMost, AsksToWrite, with_locks, ScansClear}
+use Rattle.word_table.proofs.Common.{without_first, pair-without_other, claim_writer_action, ClaimedBy}
+use Rattle.std.proofs.Common.{Option, IsNone, IfSome}
 use Rattle.word_table.specs.declared.answer.Claimed.{Claimed}
-use Rattle.word_table.specs.declared.answer.Claimed.TheVariants as claimed
-use Rattle.word_table.specs.Calls.{ClaimedBy, GrantsStay, MetOn, SameCall}
-use Rattle.lock_or_yield.specs.Asking.{GainsAtMost, AsksToWrite, with_locks}
-use Rattle.lock_or_yield.specs.declared.turn.Intent.TheVariants as intent
 use Rattle.lock_or_yield.specs.Intents.{AsksOnce, MeetsSeat}
-use Rattle.lock_or_yield.specs.Turns.{ScansClear, ScansUpTo}
+use Rattle.lock_or_yield.specs.Turns.{ScansUpTo}
 use Rattle.lock_or_yield.proofs.Steps.{gains_none, gains_one}
 use Rattle.lock_or_yield.proofs.Turning.{nobody_met}
+use Rattle.word_table.specs.declared.answer.Claimed.TheVariants as claimed
+use Rattle.lock_or_yield.specs.declared.turn.Intent.TheVariants as intent
 
 -- claim's answer, and what it leaves
 pub record ClaimLeaves (a : ℕ) (v : View) (r : Claimed) (u : View) : Type 0 where
@@ -123,16 +118,6 @@ claims_and_scans sound a k None old mid new e call grants claims clear met =
 claims_and_scans sound a k (Some j) old mid new e call grants claims clear met =
     let left = claim_leaves sound old a claimed.Pending mid claims in
     claims_up_to sound a j old mid new call grants left.writes left.asked (subst (λ (l : ℕ). ScansUpTo sound l j mid new) e met)
-
-pub scans_nobody : (sound : List ℕ → List View → Type 0) (a k : ℕ) (old mid new : View) → k ≡ lock_of_word a
-    → ClaimedBy sound old a claimed.Pending mid → ScansClear k mid new × HasWriteGrant new k
-    → HasWriteGrant new (lock_of_word a) × (new.met ≡ old.met) × (new.meetings ≡ old.meetings)
-scans_nobody sound a k old mid new e claims clear =
-    let same = (claim_leaves sound old a claimed.Pending mid claims).nobody refl in (
-      subst (λ (l : ℕ). HasWriteGrant new l) e clear.1,
-      ap (λ (x : View). x.met) clear.0.view ∙ same.0,
-      ap (λ (x : View). x.meetings) clear.0.view ∙ same.1,
-    )
 
 scans_meet : (sound : List ℕ → List View → Type 0) (a j : ℕ) (old mid new : View) → SameCall old mid
     → ClaimedBy sound old a claimed.Pending mid → ScansUpTo sound (lock_of_word a) j mid new → MeetsSeat intent.Write sound (lock_of_word a) j old new

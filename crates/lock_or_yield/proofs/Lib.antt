@@ -1,9 +1,9 @@
+-- what several proofs import
+pub mod Common
 -- what share leaves of what a pass knows
 pub mod Steps
 -- what scan leaves of what a pass knows, and how many seats a claim still has to scan
 pub mod Scanning
--- a set without what stands in it is shorter
-pub mod Fewer
 -- what claim leaves of what a pass knows, and what it comes to with the scans
 pub mod Claiming
 -- what a turn comes to, from its steps on locks and the judgement of the seat that it met

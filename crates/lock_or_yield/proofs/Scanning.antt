@@ -1,18 +1,14 @@
 -- What scan leaves of what a pass knows, and how many seats a claim still has to scan.
-use Rattle.std.proofs.Common.{◌≡◌, ◌≢◌, ℕ, zero, suc, ◌+◌, ◌%◌, ◌<◌, ◌≤◌, Bool, true, false, ◌||◌, inl, inr, List, [], ◌∷◌, refl, sym, ap, ◌∙◌, subst, arith}
-use Rattle.std.proofs.Common.{◌==◌, if◌then◌else◌, slice_index}
+use Rattle.lock_or_yield.proofs.Common.{◌≡◌, ◌≢◌, ℕ, zero, suc, ◌+◌, ◌<◌, Bool, true, false, inl, inr, List, [], ◌∷◌, refl, sym, ap, ◌∙◌, subst, arith, ◌==◌}
+use Rattle.lock_or_yield.proofs.Common.{if◌then◌else◌, View, has, has_pair, number, HasWriteGrant, has-join_same, pair-join_same, after_meeting, GrantsStay}
+use Rattle.lock_or_yield.proofs.Common.{IsUnscanned, ScansClear}
+use Rattle.word_table.proofs.Common.{differ, ScannedBy}
+use Rattle.std.proofs.Common.{◌%◌, ◌≤◌, ◌||◌, slice_index}
 use mathlib.Core.Logic.{dite}
 use native.Mathlib.Decide.{ℕ_discrete}
 use Rattle.std.specs.Int.{bit_at}
-use Rattle.history_model.specs.declared.view.View.{View}
-use Rattle.history_model.specs.Sets.{has, has_pair}
-use Rattle.history_model.specs.Views.{number, HasWriteGrant}
-use Rattle.history_model.proofs.SetLemmas.{differ, has-join_same, pair-join_same, pair-join_other}
-use Rattle.locks_rule.specs.Steps.{after_meeting}
+use Rattle.history_model.proofs.SetLemmas.{pair-join_other}
 use Rattle.word_table.specs.declared.answer.Scanned.TheVariants as scanned
-use Rattle.word_table.specs.Calls.{GrantsStay, ScannedBy}
-use Rattle.word_table.specs.Unscanned.{IsUnscanned}
-use Rattle.lock_or_yield.specs.Turns.{ScansClear}
 
 -- 1 if seat j is another and was not found clear for the claim on lock k
 abbrev pub left_at : ℕ → ℕ → List ℕ → List (ℕ × ℕ) → ℕ
@@ -62,9 +58,6 @@ scan_clear sound v k i u s =
       | true ↦ λ e. refl
       | false ↦ λ e. absurd cc
     ] s.answer)
-
-pub clear_none : (k : ℕ) (v : View) → ScansClear k v v
-clear_none k v = record { view = refl; scans = λ l j n. refl; grants = λ l. (λ t. t, λ t. t) }
 
 pub clear_more : (k i : ℕ) (old v new : View) → ScansClear k old v → new ≡ record v { scans = (k, i) ∷ v.scans } → GrantsStay v new → ScansClear k old new
 clear_more k i old v new c e grants =

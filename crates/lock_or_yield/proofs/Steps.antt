@@ -1,16 +1,10 @@
 -- What share leaves of what a pass knows.
-use Rattle.std.proofs.Common.{◌≡◌, ℕ, ◌-◌, Bool, true, false, ◌⊎◌, inl, inr, List, ◌∷◌, refl, sym, ap, ◌∙◌, subst, if◌then◌else◌}
-use Rattle.history_model.specs.declared.view.View.{View}
-use Rattle.history_model.specs.Locks.{lock_of_word}
-use Rattle.history_model.specs.Sets.{has}
-use Rattle.history_model.specs.Views.{number}
-use Rattle.history_model.proofs.SetLemmas.{has-join_old, has-join_other, has-join}
-use Rattle.locks_rule.specs.Steps.{is_free, set_read_bit_action, load_writer_action, after_asking, after_meeting}
+use Rattle.lock_or_yield.proofs.Common.{◌≡◌, ℕ, ◌-◌, Bool, true, false, ◌⊎◌, inl, inr, List, ◌∷◌, refl, sym, ap, ◌∙◌, subst, if◌then◌else◌, View, lock_of_word}
+use Rattle.lock_or_yield.proofs.Common.{has, number, has-join_other, load_writer_action, after_asking, after_meeting, SharedBy, GainsAtMost, AsksToRead}
+use Rattle.word_table.proofs.Common.{has-join_old, has-join, is_free, set_read_bit_action}
 use Rattle.word_table.specs.declared.answer.Shared.{Shared}
-use Rattle.word_table.specs.declared.answer.Shared.TheVariants as shared
-use Rattle.word_table.specs.Calls.{SharedBy}
 use Rattle.word_table.proofs.Calls.Answering.{with_bit_cases}
-use Rattle.lock_or_yield.specs.Asking.{GainsAtMost, AsksToRead}
+use Rattle.word_table.specs.declared.answer.Shared.TheVariants as shared
 
 pub gains_none : (a : ℕ) (xs : List ℕ) → GainsAtMost a xs xs
 gains_none a xs b = (λ t. t, λ t. inr t)

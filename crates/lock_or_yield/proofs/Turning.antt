@@ -1,34 +1,25 @@
 -- What a turn comes to, from its steps on locks and the judgement of the seat that it met.
-use Rattle.std.proofs.Common.{◌≡◌, ◌≢◌, ℕ, zero, suc, ◌+◌, ◌<◌, true, inl, inr, ⊎_elim, List, [], ◌∷◌, ◌++◌, length, Some, None, slice_get, refl, sym}
-use Rattle.std.proofs.Common.{ap, ◌∙◌, subst, arith, eq-eqb}
-use Rattle.std.proofs.Common.{ne_eqb, ◌==◌}
-use Rattle.std.proofs.lemmas.List.{append-nil, length_push}
-use Rattle.history_model.specs.declared.event.Cause.{Cause}
+use Rattle.lock_or_yield.proofs.Common.{◌≡◌, ◌≢◌, ℕ, zero, suc, ◌+◌, ◌<◌, true, inl, inr, ⊎_elim, List, [], ◌∷◌, ◌++◌, length, Some, None, refl, sym, ap, ◌∙◌}
+use Rattle.lock_or_yield.proofs.Common.{subst, arith, ◌==◌, append-nil, Cause, View, IsIn, lock_of_word, has, has_pair, number, pair-join_same}
+use Rattle.lock_or_yield.proofs.Common.{load_writer_action, AreRestartsBounded, SameCall, GrantsStay, GaveWay, MetOn, SharedBy, DeskView, RuleHolds, Intent}
+use Rattle.lock_or_yield.proofs.Common.{GainsAtMost, GainsOn, Asks, AsksToRead, AsksToWrite, draws_once, with_locks, MeetsSome, MeetsAndYields, JudgedToYield}
+use Rattle.lock_or_yield.proofs.Common.{AsksTo, ComesTo, MeetsFirst, TurnsOnce}
+use Rattle.word_table.proofs.Common.{flag, IsGranted, newest, past_causes, with_bit, FoundWait}
+use Rattle.std.proofs.Common.{slice_get, eq-eqb, ne_eqb}
+use Rattle.std.proofs.lemmas.List.{length_push}
 use Rattle.history_model.specs.declared.shape.Shape.{Ghosts as Shapes}
-use Rattle.history_model.specs.declared.view.View.{View}
-use Rattle.history_model.specs.Legal.{IsIn}
-use Rattle.history_model.specs.Locks.{lock_of_word}
-use Rattle.history_model.specs.Sets.{has, without, has_pair, flag}
-use Rattle.history_model.specs.Views.{number, IsGranted}
-use Rattle.history_model.proofs.SetLemmas.{pair-join_same, pair-join_old}
-use Rattle.locks_rule.specs.Steps.{load_writer_action}
-use Rattle.stamps_rule.specs.Causes.{newest, past_causes}
-use Rattle.stamps_rule.specs.Stamps.{AreRestartsBounded}
+use Rattle.history_model.specs.Sets.{without}
+use Rattle.history_model.proofs.SetLemmas.{pair-join_old}
 use Rattle.values_rule.specs.Steps.{after_giving_way}
 use Rattle.word_table.specs.declared.answer.Judged.{Judged}
+use Rattle.lock_or_yield.specs.declared.turn.Tried.{Tried}
+use Rattle.lock_or_yield.specs.Asking.{MeetsNobody}
+use Rattle.lock_or_yield.specs.Turns.{tried_of, JudgesMet, JudgedToWait}
+use Rattle.lock_or_yield.proofs.Steps.{share_leaves}
 use Rattle.word_table.specs.declared.answer.Judged.TheVariants as judged
 use Rattle.word_table.specs.declared.answer.Shared.TheVariants as shared
-use Rattle.word_table.specs.Calls.{SameCall, GrantsStay, GaveWay, MetOn, SharedBy, with_bit}
-use Rattle.word_table.specs.Desks.{DeskView, RuleHolds}
-use Rattle.word_table.specs.Waits.{FoundWait}
-use Rattle.lock_or_yield.specs.declared.turn.Intent.{Intent}
 use Rattle.lock_or_yield.specs.declared.turn.Intent.TheVariants as intent
-use Rattle.lock_or_yield.specs.declared.turn.Tried.{Tried}
 use Rattle.lock_or_yield.specs.declared.turn.Tried.TheVariants as tried
-use Rattle.lock_or_yield.specs.Asking.{GainsAtMost, GainsOn, Asks, AsksToRead, AsksToWrite, draws_once, with_locks, MeetsNobody, MeetsSome, MeetsAndYields}
-use Rattle.lock_or_yield.specs.Turns.{tried_of, JudgesMet, JudgedToWait, JudgedToYield}
-use Rattle.lock_or_yield.specs.Intents.{AsksTo, ComesTo, MeetsFirst, TurnsOnce}
-use Rattle.lock_or_yield.proofs.Steps.{share_leaves}
 
 pub without_one : (j : ℕ) → without j (j ∷ []) ≡ []
 unfolding without

@@ -1,11 +1,7 @@
 -- Two passes that are all passes of a desk, as a test closes it.
-use Rattle.std.proofs.Common.{◌≡◌, ℕ, zero, suc, ◌<◌, ⊎_elim, List, [], ◌∷◌, refl, sym, subst, arith}
+use Rattle.lock_or_yield.proofs.Common.{◌≡◌, ℕ, zero, suc, ◌<◌, ⊎_elim, List, [], ◌∷◌, refl, sym, subst, arith, IsIn, DeskView}
+use Rattle.word_table.proofs.Common.{in_join, none_in, AreAllPasses, PassView}
 use Rattle.history_model.specs.declared.view.Phase.TheVariants.{Idle}
-use Rattle.history_model.specs.Legal.{IsIn}
-use Rattle.values_rule.proofs.Members.{in_join, none_in}
-use Rattle.word_table.specs.Closing.{AreAllPasses}
-use Rattle.word_table.specs.Copies.{PassView}
-use Rattle.word_table.specs.Desks.{DeskView}
 
 -- a fact of both passes is one of each
 each : (P : PassView → Type 0) (a b : PassView) → P a → P b → (p : PassView) → IsIn p (a ∷ b ∷ []) → P p

@@ -1,27 +1,18 @@
 -- What several turns of asking for a lock come to.
-use Rattle.std.proofs.Common.{◌≡◌, ℕ, zero, suc, ◌+◌, ◌<◌, true, ◌⊎◌, inl, inr, ⊎_elim, List, [], ◌∷◌, ◌++◌, None, length, length-append, refl, sym}
-use Rattle.std.proofs.Common.{ap, ◌∙◌, subst}
-use Rattle.std.proofs.Common.{arith}
-use Rattle.std.proofs.lemmas.List.{append-nil, append_assoc}
-use Rattle.history_model.specs.declared.event.Cause.{Cause}
+use Rattle.lock_or_yield.proofs.Common.{◌≡◌, ℕ, zero, suc, ◌+◌, ◌<◌, true, ◌⊎◌, inl, inr, ⊎_elim, List, [], ◌∷◌, ◌++◌, None, length, refl, sym, ap, ◌∙◌, subst}
+use Rattle.lock_or_yield.proofs.Common.{arith, append-nil, Cause, View, IsIn, lock_of_word, number, AreRestartsBounded, GaveWay, DeskView, RuleHolds, Intent}
+use Rattle.lock_or_yield.proofs.Common.{GainsOn, Asks, draws_once, with_locks, MeetsSome, MeetsAndYields, WentOn, AsksTo, ComesTo, TurnsOnce}
+use Rattle.std.proofs.Common.{length-append}
+use Rattle.std.proofs.lemmas.List.{append_assoc}
 use Rattle.history_model.specs.declared.shape.Shape.{Ghosts as Shapes}
-use Rattle.history_model.specs.declared.view.View.{View}
-use Rattle.history_model.specs.Legal.{IsIn}
-use Rattle.history_model.specs.Locks.{lock_of_word}
-use Rattle.history_model.specs.Views.{number}
-use Rattle.stamps_rule.specs.Stamps.{AreRestartsBounded}
-use Rattle.word_table.specs.Calls.{GaveWay}
-use Rattle.word_table.specs.Desks.{DeskView, RuleHolds}
-use Rattle.lock_or_yield.specs.declared.turn.Intent.{Intent}
-use Rattle.lock_or_yield.specs.declared.turn.Intent.TheVariants as intent
-use Rattle.lock_or_yield.specs.declared.turn.Tried.TheVariants as tried
 use Rattle.lock_or_yield.specs.declared.want.Got.{Got}
-use Rattle.lock_or_yield.specs.declared.want.Got.TheVariants as got
-use Rattle.lock_or_yield.specs.Asking.{GainsOn, Asks, draws_once, with_locks, MeetsSome, MeetsAndYields, WentOn}
 use Rattle.lock_or_yield.specs.Turns.{MeetsAndJudges}
-use Rattle.lock_or_yield.specs.Intents.{AsksSince, AsksTo, AsksUntilHeld, ComesTo, IsStepTo, TakesTurn, TurnsOnce}
+use Rattle.lock_or_yield.specs.Intents.{AsksSince, AsksUntilHeld, IsStepTo, TakesTurn}
 use Rattle.lock_or_yield.proofs.Steps.{gains_none, gains_twice}
 use Rattle.lock_or_yield.proofs.Turning.{changed, rest_of, gains_nothing, turn_clear}
+use Rattle.lock_or_yield.specs.declared.turn.Intent.TheVariants as intent
+use Rattle.lock_or_yield.specs.declared.turn.Tried.TheVariants as tried
+use Rattle.lock_or_yield.specs.declared.want.Got.TheVariants as got
 
 in_either : (xs ys : List (ℕ × ℕ)) (p : ℕ × ℕ) → IsIn p (xs ++ ys) → IsIn p xs ⊎ IsIn p ys
 in_either [] ys p h = inr h

@@ -1,22 +1,12 @@
 -- The best price of a side, by the first key of its tree.
-use Rattle.std.proofs.Common.{◌≡◌, ℕ, ◌≤◌, Bool, true, false, min, max, ◌⊎◌, inl, inr, ⊎_elim, List, [], ◌∷◌, map, filter, Option, Some, None}
-use Rattle.std.proofs.Common.{refl, sym, ap, ◌∙◌, subst, arith}
-use Rattle.std.proofs.lemmas.Bool.{cases_lt}
+use Rattle.order_match.proofs.Common.{◌≡◌, ℕ, ◌≤◌, Bool, true, false, min, ◌⊎◌, inl, inr, ⊎_elim, List, [], ◌∷◌, map, filter, Option, Some, None, refl, sym, ap}
+use Rattle.order_match.proofs.Common.{◌∙◌, subst, arith, cases_lt, IsStrictlySortedBy, unwrap_or, nat_cmp, ordering_then, Ordering, Less, Greater, Resting}
+use Rattle.order_match.proofs.Common.{in_order, serving_cmp, is_on, Has, has_mapped, none_tie, serving_total, has_in_order, in_order_has, in_order_sorted}
+use Rattle.order_match.proofs.Common.{resting_key, price_in, side_at, quantities_on, best_on, first_in, first_of}
+use Rattle.std.proofs.Common.{max}
 use Rattle.std.specs.List.{fold, reduce}
-use Rattle.std.specs.List.Sorted.{IsStrictlySortedBy}
-use Rattle.std.specs.Option.{unwrap_or}
-use Rattle.std.specs.Ordering.{nat_cmp, ordering_then}
-use Rattle.std.specs.declared.cmp.Ordering.{Ordering}
-use Rattle.std.specs.declared.cmp.Ordering.TheVariants.{Less, Greater}
-use Rattle.order_text.specs.declared.order.Resting.{Resting}
-use Rattle.order_text.specs.Matching.{in_order, serving_cmp}
-use Rattle.order_text.specs.Orders.{is_on, prices_on}
-use Rattle.order_text.proofs.Members.{Has, has_mapped, mapped_has}
-use Rattle.order_text.proofs.Serving.{none_tie, serving_total}
-use Rattle.order_text.proofs.Sorting.{has_in_order, in_order_has, in_order_sorted}
-use Rattle.order_match.specs.Layout.{resting_key, price_in, side_at}
-use Rattle.order_match.specs.Standing.{quantities_on}
-use Rattle.order_match.specs.Access.{best_on, first_in, first_of}
+use Rattle.order_text.specs.Orders.{prices_on}
+use Rattle.order_text.proofs.Members.{mapped_has}
 use Rattle.order_match.proofs.Books.{price_told}
 use Rattle.order_match.proofs.Served.{AreOrders, nat_greater, on_orders, side_is, sorted_first, trees_served}
 

@@ -1,23 +1,12 @@
 -- What the parts hold for a book, and after a change of it.
-use Rattle.std.proofs.Common.{◌≡◌, ◌≢◌, ℕ, ◌/◌, ◌%◌, ◌==◌, Bool, true, false, cond, not, ◌&&◌, inl, inr, if◌then◌else◌}
-use Rattle.std.proofs.Common.{List, [], ◌∷◌, ◌++◌, filter, Some, None, refl, sym, ap, ◌∙◌, arith, append-nil, eq-eqb, eqb-true, ne_eqb}
+use Rattle.order_match.proofs.Common.{◌≡◌, ◌≢◌, ℕ, ◌/◌, ◌%◌, ◌==◌, Bool, true, false, cond, not, ◌&&◌, inl, inr, if◌then◌else◌, List, [], ◌∷◌, ◌++◌, filter}
+use Rattle.order_match.proofs.Common.{Some, None, refl, sym, ap, ◌∙◌, arith, append-nil, eq-eqb, eqb-true, ne_eqb, option_map, dite, ℕ_discrete, both_ways}
+use Rattle.order_match.proofs.Common.{Resting, OrderBook, all_but, order_at, unique_numbers, Has, has_filtered, filtered_has, Entries, HALF, key_at}
+use Rattle.order_match.proofs.Common.{resting_key, number_in, place_of, price_in, side_of, Held, held_of, places_of, quantities_on, with_places, with_side}
 use Rattle.std.proofs.lemmas.List.Elements.{filter-append}
-use Rattle.std.specs.Option.{option_map}
-use mathlib.Core.Logic.{dite}
-use native.Mathlib.Decide.{ℕ_discrete}
-use Rattle.std.specs.Cmp.{both_ways}
-use Rattle.std.specs.FinMap as finite
-use Rattle.order_text.specs.declared.order.Resting.{Resting}
-use Rattle.order_text.specs.Orders.{OrderBook, all_but, order_at}
-use Rattle.order_text.proofs.Entering.{unique_numbers}
-use Rattle.order_text.proofs.Members.{Has, has_filtered, filtered_has}
-use Rattle.txn_alloc.specs.EntryMaps.{Entries}
-use Rattle.order_match.specs.declared.layout.TheConstants.{HALF}
-use Rattle.order_match.specs.Layout.{key_at, resting_key, number_in, place_of, price_in, side_of}
-use Rattle.order_match.specs.Standing.{Held, held_of, places_of, quantities_on}
-use Rattle.order_match.specs.Access.{with_places, with_side}
 use Rattle.order_match.proofs.Keyed.{first_has, first_is, get_map, map_of, map_with, map_without}
 use Rattle.order_match.proofs.Served.{AreOrders, Fits, filter_alike, filter_twice}
+use Rattle.std.specs.FinMap as finite
 
 -- what a key and a place tell
 pub number_told : (r : Resting) → Fits r → number_in (resting_key r) ≡ r.number
@@ -71,72 +60,78 @@ held_by a b c = λ i. record { last = a i; places = b i; sides = λ side. c side
 abbrev on_side_of : ℕ → Resting → Bool
 on_side_of side r = side_of r == side
 
+abbrev quantity_in : Resting → ℕ
+quantity_in r = r.quantity
+
+abbrev number_of : Resting → ℕ
+number_of r = r.number
+
 module _ (orders : List Resting) (are : AreOrders orders) where
+  abbrev on : ℕ → List Resting
+  on side = filter (on_side_of side) orders
+
   pub unique : (x y : Resting) → Has x orders → Has y orders → x.number ≡ y.number → x ≡ y
   unique = unique_numbers orders are.rising
 
   pub order_there : (r : Resting) → Has r orders → order_at r.number orders ≡ Some r
-  order_there r h = first_is (λ (x : Resting). x.number) (λ (x : Resting). x.number) r.number r orders h refl (λ x k e. unique x r k h e)
+  order_there r h = first_is number_of number_of r.number r orders h refl (λ x k e. unique x r k h e)
 
   pub place_found : (number : ℕ) → finite.get (places_of orders) number ≡ option_map place_of (order_at number orders)
-  place_found number = get_map (λ (x : Resting). x.number) place_of number orders
+  place_found number = get_map number_of place_of number orders
 
   pub order_is : (number : ℕ) (r : Resting) → order_at number orders ≡ Some r → Has r orders × (r.number ≡ number)
-  order_is number r e = first_has (λ (x : Resting). x.number) (λ (x : Resting). x.number) number r orders e
+  order_is number r e = first_has number_of number_of number r orders e
 
   -- the orders of a side
-  pub on_has : (side : ℕ) (x : Resting) → Has x (filter (on_side_of side) orders) → Has x orders × (side_of x ≡ side)
+  pub on_has : (side : ℕ) (x : Resting) → Has x (on side) → Has x orders × (side_of x ≡ side)
   on_has side x h = let t = has_filtered (on_side_of side) orders x h in (t.0, eqb-true (side_of x) side t.1)
 
   pub quantity_found : (r : Resting) → Has r orders → finite.get (quantities_on (side_of r) orders) (resting_key r) ≡ Some r.quantity
-  quantity_found r h = get_map resting_key (λ (x : Resting). x.quantity) (resting_key r) (filter (on_side_of (side_of r)) orders)
-      ∙ ap (option_map (λ (x : Resting). x.quantity))
-      (first_is resting_key (λ (x : Resting). x.quantity) (resting_key r) r (filter (on_side_of (side_of r)) orders)
+  quantity_found r h = get_map resting_key quantity_in (resting_key r) (on (side_of r))
+      ∙ ap (option_map quantity_in)
+      (first_is resting_key quantity_in (resting_key r) r (on (side_of r))
       (filtered_has (on_side_of (side_of r)) orders r h (eq-eqb (side_of r) (side_of r) refl)) refl
       (λ x k e. let t = on_has (side_of r) x k in unique x r t.0 h (keys_number x r (are.fit x t.0) (are.fit r h) e)))
 
   -- without an order
   module _ (r : Resting) (h : Has r orders) where
     pub places_without : places_of (all_but r.number orders) ≡ finite.remove (places_of orders) r.number
-    places_without = map_without (λ (x : Resting). x.number) place_of r.number orders
+    places_without = map_without number_of place_of r.number orders
 
     pub side_without : quantities_on (side_of r) (all_but r.number orders) ≡ finite.remove (quantities_on (side_of r) orders) (resting_key r)
-    side_without = ap (λ (rs : List Resting). map_of resting_key (λ (x : Resting). x.quantity) rs)
+    side_without = ap (map_of resting_key quantity_in)
         (filter_swap (on_side_of (side_of r)) (λ x. not (x.number == r.number)) orders
-        ∙ filter_alike (λ x. not (x.number == r.number)) (λ x. not (resting_key x == resting_key r)) (filter (on_side_of (side_of r)) orders)
+        ∙ filter_alike (λ x. not (x.number == r.number)) (λ x. not (resting_key x == resting_key r)) (on (side_of r))
         (λ x k. let t = on_has (side_of r) x k in ap not (both_ways (x.number == r.number) (resting_key x == resting_key r)
         (λ e. eq-eqb (resting_key x) (resting_key r) (ap resting_key (unique x r t.0 h (eqb-true x.number r.number e))))
         (λ e. eq-eqb x.number r.number (keys_number x r (are.fit x t.0) (are.fit r h) (eqb-true (resting_key x) (resting_key r) e))))))
-        ∙ map_without resting_key (λ (x : Resting). x.quantity) (resting_key r) (filter (on_side_of (side_of r)) orders)
+        ∙ map_without resting_key quantity_in (resting_key r) (on (side_of r))
 
     pub sides_without : (side : ℕ) → side ≢ side_of r → quantities_on side (all_but r.number orders) ≡ quantities_on side orders
-    sides_without side ne = ap (λ (rs : List Resting). map_of resting_key (λ (x : Resting). x.quantity) rs)
+    sides_without side ne = ap (map_of resting_key quantity_in)
         (filter_swap (on_side_of side) (λ x. not (x.number == r.number)) orders
-        ∙ filter_all (λ x. not (x.number == r.number)) (filter (on_side_of side) orders)
+        ∙ filter_all (λ x. not (x.number == r.number)) (on side)
         (λ x k. let t = on_has side x k in ap not (ne_eqb x.number r.number (λ e. ne (sym t.1 ∙ ap side_of (unique x r t.0 h e))))))
 
   -- with one more
   module _ (r : Resting) (new : (x : Resting) → Has x orders → x.number ≢ r.number) (fit : Fits r) where
     pub places_with : places_of (orders ++ r ∷ []) ≡ finite.insert (places_of orders) r.number (place_of r)
-    places_with = map_with (λ (x : Resting). x.number) place_of r orders new
+    places_with = map_with number_of place_of r orders new
 
     pub side_with : quantities_on (side_of r) (orders ++ r ∷ []) ≡ finite.insert (quantities_on (side_of r) orders) (resting_key r) r.quantity
-    side_with = ap (λ (rs : List Resting). map_of resting_key (λ (x : Resting). x.quantity) rs)
+    side_with = ap (map_of resting_key quantity_in)
         (filter-append (on_side_of (side_of r)) orders (r ∷ [])
-        ∙ ap (λ b. filter (on_side_of (side_of r)) orders ++ cond b (r ∷ []) []) (eq-eqb (side_of r) (side_of r) refl))
-        ∙ map_with resting_key (λ (x : Resting). x.quantity) r (filter (on_side_of (side_of r)) orders)
+        ∙ ap (λ b. on (side_of r) ++ cond b (r ∷ []) []) (eq-eqb (side_of r) (side_of r) refl))
+        ∙ map_with resting_key quantity_in r (on (side_of r))
         (λ x k e. let t = on_has (side_of r) x k in new x t.0 (keys_number x r (are.fit x t.0) fit e))
 
     pub sides_with : (side : ℕ) → side ≢ side_of r → quantities_on side (orders ++ r ∷ []) ≡ quantities_on side orders
-    sides_with side ne = ap (λ (rs : List Resting). map_of resting_key (λ (x : Resting). x.quantity) rs)
+    sides_with side ne = ap (map_of resting_key quantity_in)
         (filter-append (on_side_of side) orders (r ∷ [])
-        ∙ (ap (λ b. filter (on_side_of side) orders ++ cond b (r ∷ []) []) (ne_eqb (side_of r) side (λ e. ne (sym e)))
-        ∙ append-nil (filter (on_side_of side) orders)))
+        ∙ (ap (λ b. on side ++ cond b (r ∷ []) []) (ne_eqb (side_of r) side (λ e. ne (sym e)))
+        ∙ append-nil (on side)))
 
 -- the parts of a book after a change of one side
-abbrev pub with_entry_of : ℕ → Entries → Held → ℕ → Entries
-with_entry_of side entries held t = if t == side then entries else held.sides t
-
 pub one_side : (side : ℕ) (entries : Entries) (held : Held) (sides : ℕ → Entries) → sides side ≡ entries → ((t : ℕ) → t ≢ side → sides t ≡ held.sides t)
     → (t : ℕ) → (if t == side then entries else held.sides t) ≡ sides t
 one_side side entries held sides here there t = dite (ℕ_discrete t side)

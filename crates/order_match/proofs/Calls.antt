@@ -1,30 +1,15 @@
 -- What calls on the parts say of a book.
-use Rattle.std.proofs.Common.{◌≡◌, ℕ, ◌/◌, ◌%◌, ◌≤◌, Bool, List, Option, Some, None, refl, sym, ap, ◌∙◌, subst}
-use Rattle.std.proofs.lemmas.Option.{same_Some}
-use Rattle.std.specs.FinMap as finite
-use Rattle.std.specs.Option.{option_map, unwrap_or}
-use Rattle.books_model.specs.Ranges.{IsWithin}
-use Rattle.order_text.specs.declared.order.Resting.{Resting}
-use Rattle.order_text.specs.declared.script.OrderOp.TheVariants as op
-use Rattle.order_text.specs.declared.reply.OrderValue.TheVariants as value
-use Rattle.order_text.specs.declared.limits.TheConstants.{GREATEST_ORDER}
-use Rattle.books_report.specs.Stores.Interpreter.Step.{Gives}
-use Rattle.order_text.specs.Interpreter.{with_order}
-use Rattle.order_text.specs.Orders.{OrderBook, all_but, order_at}
-use Rattle.order_text.specs.Ranges.{IsBookOf, IsRestingOrder}
-use Rattle.order_text.proofs.Apart.{books_kept}
-use Rattle.order_text.proofs.Members.{Has, of_every}
-use Rattle.txn_words.specs.Access.{Tells, TellsAndChanges}
-use Rattle.txn_stores.proofs.Maps.{remove_absent}
-use Rattle.txn_stores.proofs.Turning.{Saw, Turns}
-use Rattle.order_match.specs.declared.shape.OrderShape.{OrderShape}
-use Rattle.order_match.specs.declared.layout.TheConstants.{HALF}
-use Rattle.order_match.specs.Layout.{key_at, resting_key, place_of, side_at, side_of}
-use Rattle.order_match.specs.Standing.{Held, HasParts, HasSomeParts, IsGoodFor, Stands, held_of, places_of, quantities_on}
-use Rattle.order_match.specs.Access.{best_on, first_in, quantity_at, with_places, with_side, without_order}
+use Rattle.order_match.proofs.Common.{◌≡◌, ℕ, ◌/◌, ◌%◌, ◌≤◌, Bool, List, Option, Some, None, refl, sym, ap, ◌∙◌, subst, same_Some, option_map, unwrap_or}
+use Rattle.order_match.proofs.Common.{IsWithin, Resting, GREATEST_ORDER, Gives, with_order, OrderBook, all_but, order_at, IsBookOf, IsRestingOrder, books_kept}
+use Rattle.order_match.proofs.Common.{Has, of_every, Tells, TellsAndChanges, remove_absent, Saw, Turns, OrderShape, HALF, key_at, resting_key, place_of}
+use Rattle.order_match.proofs.Common.{side_at, side_of, Held, HasParts, HasSomeParts, IsGoodFor, Stands, held_of, places_of, quantities_on, best_on, first_in}
+use Rattle.order_match.proofs.Common.{quantity_at, with_places, with_side, without_order}
 use Rattle.order_match.proofs.Best.{best_first, price_first}
 use Rattle.order_match.proofs.Books.{held_without, none_taken, order_is, place_found, price_there, quantity_found, side_told}
 use Rattle.order_match.proofs.Served.{AreOrders, orders_of, sides_differ}
+use Rattle.std.specs.FinMap as finite
+use Rattle.order_text.specs.declared.script.OrderOp.TheVariants as op
+use Rattle.order_text.specs.declared.reply.OrderValue.TheVariants as value
 
 module _ (shape : OrderShape) where
   pub good_parts : (x : List ℕ) → IsGoodFor shape x → HasSomeParts shape x
@@ -85,46 +70,41 @@ module _ (shape : OrderShape) where
             },
           )
 
-  -- the side that a place names
-  pub place_side : (number place instrument : ℕ) (buys : Bool) (book : OrderBook) (r : Resting) → IsBookOf shape.instruments book
-      → IsTold number place book r → side_at instrument buys ≡ place / HALF → 1 ≤ instrument → (instrument ≡ r.instrument) × (buys ≡ r.buys)
-  place_side number place instrument buys book r is told side low =
-      let are = orders_of shape.instruments book is in
-      sides_differ instrument r.instrument buys r.buys low (are.numbered r told.there)
-      (side ∙ (ap (λ p. p / HALF) (sym told.place_is) ∙ side_told r (are.fit r told.there)))
-
-  -- is one of the book's
-  side_in : (number place instrument : ℕ) (buys : Bool) → side_at instrument buys ≡ place / HALF → 1 ≤ instrument → (x : List ℕ) (book : OrderBook)
-      → Stands shape x book → Some place ≡ finite.get (places_of book.orders) number → IsWithin 1 shape.instruments instrument
-  side_in number place instrument buys side low x book stand there =
-      let told = told_by number place book stand.book_is there in
-      let same = place_side number place instrument buys book told.0 stand.book_is told.1 side low in
-      subst (IsWithin 1 shape.instruments) (sym same.0) told.1.range.limits_are.instrument_is
-
-  pub side_of_place : (number place instrument : ℕ) (buys : Bool) → side_at instrument buys ≡ place / HALF → 1 ≤ instrument
-      → (x : List ℕ) × (y : List ℕ) × IsGoodFor shape x
-      × TellsAndChanges (HasParts shape) (λ held. finite.get held.places number) (λ held. with_places (finite.remove held.places number) held) (Some place) x y
-      → IsWithin 1 shape.instruments instrument
-  side_of_place number place instrument buys side low some =
-      side_in number place instrument buys side low some.0 some.2.0 some.2.1 (some.3.told (held_of some.2.0) some.2.1.parts)
-
-  pub side_of_look : (number place instrument : ℕ) (buys : Bool) → side_at instrument buys ≡ place / HALF → 1 ≤ instrument
-      → (x : List ℕ) × (y : List ℕ) × IsGoodFor shape x × Tells (HasParts shape) (λ held. finite.get held.places number) (Some place) x y
-      → IsWithin 1 shape.instruments instrument
-  side_of_look number place instrument buys side low some =
-      side_in number place instrument buys side low some.0 some.2.0 some.2.1 (some.3.told (held_of some.2.0) some.2.1.parts)
-
-  -- the price that a place names, and the key that an order with it has
+  -- the price that a place names
   place_price : (number place : ℕ) (book : OrderBook) (r : Resting) → IsBookOf shape.instruments book → IsTold number place book r → place % HALF ≡ r.price
   place_price number place book r is told =
       ap (λ p. p % HALF) (sym told.place_is) ∙ price_there r ((orders_of shape.instruments book is).fit r told.there)
 
-  key_there : (number place instrument : ℕ) (buys : Bool) → side_at instrument buys ≡ place / HALF → 1 ≤ instrument → (book : OrderBook) (r : Resting)
-      → IsBookOf shape.instruments book → IsTold number place book r → key_at buys (place % HALF) number ≡ resting_key r
-  key_there number place instrument buys side low book r is told =
-      let same = place_side number place instrument buys book r is told side low in
-      let price = place_price number place book r is told in
-      λ i. key_at (same.1 i) (price i) (sym told.number_is i)
+  module _ (number place instrument : ℕ) (buys : Bool) (side : side_at instrument buys ≡ place / HALF) (low : 1 ≤ instrument) where
+    -- the side that a place names, and the key that an order with it has
+    module _ (book : OrderBook) (r : Resting) (is : IsBookOf shape.instruments book) (told : IsTold number place book r) where
+      place_side : (instrument ≡ r.instrument) × (buys ≡ r.buys)
+      place_side =
+          let are = orders_of shape.instruments book is in
+          sides_differ instrument r.instrument buys r.buys low (are.numbered r told.there)
+          (side ∙ (ap (λ p. p / HALF) (sym told.place_is) ∙ side_told r (are.fit r told.there)))
+
+      key_there : key_at buys (place % HALF) number ≡ resting_key r
+      key_there =
+          let price = place_price number place book r is told in
+          λ i. key_at (place_side.1 i) (price i) (sym told.number_is i)
+
+    -- the side is one of the book's
+    side_in : (x : List ℕ) (book : OrderBook) → Stands shape x book → Some place ≡ finite.get (places_of book.orders) number
+        → IsWithin 1 shape.instruments instrument
+    side_in x book stand there =
+        let told = told_by number place book stand.book_is there in
+        subst (IsWithin 1 shape.instruments) (sym (place_side book told.0 stand.book_is told.1).0) told.1.range.limits_are.instrument_is
+
+    pub side_of_place : (x : List ℕ) × (y : List ℕ) × IsGoodFor shape x
+        × TellsAndChanges (HasParts shape) (λ held. finite.get held.places number)
+        (λ held. with_places (finite.remove held.places number) held) (Some place) x y
+        → IsWithin 1 shape.instruments instrument
+    side_of_place some = side_in some.0 some.2.0 some.2.1 (some.3.told (held_of some.2.0) some.2.1.parts)
+
+    pub side_of_look : (x : List ℕ) × (y : List ℕ) × IsGoodFor shape x × Tells (HasParts shape) (λ held. finite.get held.places number) (Some place) x y
+        → IsWithin 1 shape.instruments instrument
+    side_of_look some = side_in some.0 some.2.0 some.2.1 (some.3.told (held_of some.2.0) some.2.1.parts)
 
   module _ (number : ℕ) (x y : List ℕ) where
     -- an order that is looked up does not rest
@@ -152,7 +132,7 @@ module _ (shape : OrderShape) where
           let saw = t.saw (held_of book) stand.parts in
           let k = told_by number place book stand.book_is saw.0 in
           let are = orders_of shape.instruments book stand.book_is in
-          let same = place_side number place instrument buys book k.0 stand.book_is k.1 side low in
+          let same = place_side number place instrument buys side low book k.0 stand.book_is k.1 in
           let price = place_price number place book k.0 stand.book_is k.1 in
           let quantity : unwrap_or answer 0 ≡ k.0.quantity = ap (λ o. unwrap_or o 0) (saw.1
           ∙ ((λ i. finite.get (quantities_on (side_at (same.0 i) (same.1 i)) book.orders)
@@ -218,7 +198,7 @@ module _ (shape : OrderShape) where
           told_of book stand = told_by number place book stand.book_is (t.at (held_of book) stand.parts).2.1.0
 
           side_is : (book : OrderBook) (stand : Stands shape x book) → side_at instrument buys ≡ side_of (told_of book stand).0
-          side_is book stand = let k = told_of book stand in let same = place_side number place instrument buys book k.0 stand.book_is k.1 side low in
+          side_is book stand = let k = told_of book stand in let same = place_side number place instrument buys side low book k.0 stand.book_is k.1 in
               λ i. side_at (same.0 i) (same.1 i)
 
           key_is : (book : OrderBook) (stand : Stands shape x book) → key_at buys (place % HALF) number ≡ resting_key (told_of book stand).0

@@ -1,7 +1,6 @@
 -- What a call on one part leaves, as laws.
-use Rattle.std.proofs.Common.{suc, arith}
+use Rattle.order_match.proofs.Common.{suc, arith, with_last, with_places, with_side}
 use Rattle.txn_alloc.proofs.Apart.{two_among}
-use Rattle.order_match.specs.Access.{with_last, with_places, with_side}
 use Rattle.order_match.specs.Statements.{ChainChangeStands, LastChangeStands, TreeChangeStands}
 use Rattle.order_match.proofs.Family.{changed, family_of, last_changed, parts_of}
 

@@ -1,19 +1,17 @@
 -- In the books of a day the best prices are apart.
-use Rattle.std.proofs.Common.{List, take}
-use Rattle.std.proofs.lemmas.List.Elements.{All-map, All-take}
+use Rattle.order_match.proofs.Common.{List, All-map, order_store, OrderShape, Stands}
+use Rattle.word_table.proofs.Common.{ClosedView}
+use Rattle.txn_stores.proofs.Common.{IsDay, place_of_done}
+use Rattle.order_text.proofs.Common.{BookInput, IsBookInput}
+use Rattle.std.proofs.Common.{take}
+use Rattle.std.proofs.lemmas.List.Elements.{All-take}
 use Rattle.txn_commit.specs.declared.lists.Done.{Done}
-use Rattle.word_table.specs.Closing.{ClosedView}
-use Rattle.txn_stores.specs.Days.{IsDay}
-use Rattle.txn_stores.specs.Journals.{place_of_done, places_of_done}
+use Rattle.txn_stores.specs.Journals.{places_of_done}
 use Rattle.txn_stores.proofs.Days.{all_of}
-use Rattle.order_text.specs.Input.{BookInput, IsBookInput}
 use Rattle.order_text.specs.Journal.{IsOrderPlace}
-use Rattle.order_text.specs.Output.{order_store}
 use Rattle.order_text.specs.Replies.{OrderReply}
 use Rattle.order_text.proofs.Closings.{apart_after}
-use Rattle.order_match.specs.declared.shape.OrderShape.{OrderShape}
 use Rattle.order_match.specs.Days.{IsOrderDay}
-use Rattle.order_match.specs.Standing.{Stands}
 
 pub day_apart : (input : BookInput) (closed : ClosedView OrderShape) (done : List (Done OrderReply)) → IsBookInput input
     → IsDay (order_store input) Stands closed done → IsOrderDay input closed done

@@ -1,28 +1,20 @@
 -- The words of a book with no order: zeros, but for the lists of the free blocks.
-use Rattle.std.proofs.Common.{◌≡◌, ℕ, zero, suc, ◌+◌, ◌<◌, ◌≤◌, List, [], length, slice_get, Some, replicate, refl, arith}
-use Rattle.std.specs.Ordering.{nat_cmp}
-use Rattle.std.specs.List.{range_with_len}
-use Rattle.std.specs.FinSet as set
-use Rattle.std.specs.FinMap as finite
-use Rattle.order_text.specs.Orders.{empty_book}
-use Rattle.order_text.specs.Ranges.{IsBlockCount, IsInstrumentCount}
+use Rattle.order_match.proofs.Common.{◌≡◌, ℕ, zero, suc, ◌+◌, ◌<◌, ◌≤◌, List, [], length, slice_get, Some, replicate, refl, arith, nat_cmp, range_with_len}
+use Rattle.order_match.proofs.Common.{empty_book, KeepsOthers, IsHead, FreeListsHold, times_of, ChainsHold, TreeHolds, OrderShape, BUCKETS_AT, LAST_AT}
+use Rattle.order_match.proofs.Common.{ROOTS_AT, arena_of, chains_of, sides_of, tree_of, words_of, Stands, held_of}
+use Rattle.order_text.proofs.Common.{IsBlockCount}
+use Rattle.txn_alloc.proofs.Common.{IsWrittenByLaying}
+use Rattle.order_text.specs.Ranges.{IsInstrumentCount}
 use Rattle.order_text.proofs.Apart.{empty_is}
-use Rattle.txn_words.specs.Frames.{KeepsOthers}
-use Rattle.txn_alloc.specs.FreeLists.{IsHead, FreeListsHold}
-use Rattle.txn_alloc.specs.Laying.{IsWrittenByLaying}
-use Rattle.txn_alloc.proofs.Maps.Counting.{times_of}
 use Rattle.txn_alloc.proofs.Sets.{out_empty}
-use Rattle.txn_hash_map.specs.Chains.{ChainsHold}
-use Rattle.txn_tree_map.specs.Trees.{TreeHolds}
 use Rattle.txn_alloc.proofs.Apart.{member_one, out_none}
 use Rattle.txn_stores.proofs.Ranges.{all_among}
 use Rattle.txn_stores.proofs.Emptied.{laid_count, no_tree, zero_before}
-use Rattle.order_match.specs.declared.shape.OrderShape.{OrderShape}
-use Rattle.order_match.specs.declared.layout.TheConstants.{BUCKETS_AT, LAST_AT, ROOTS_AT}
-use Rattle.order_match.specs.Layout.{arena_of, blocks_at, chains_of, sides_of, tree_of, words_of}
-use Rattle.order_match.specs.Standing.{Stands, held_of}
+use Rattle.order_match.specs.Layout.{blocks_at}
 use Rattle.order_match.proofs.Family.{HoldsAt, entries_at, parts_of}
 use Rattle.order_match.proofs.Sums.{total_none}
+use Rattle.std.specs.FinSet as set
+use Rattle.std.specs.FinMap as finite
 
 -- the numbers of all blocks
 abbrev pub all_blocks : OrderShape → List ℕ

@@ -1,27 +1,16 @@
 -- What an order that enters comes to is the interpreter's step.
-use Rattle.std.proofs.Common.{◌≡◌, ℕ, ◌+◌, ◌<◌, ◌≤◌, ◌==◌, nat_lt, Bool, true, false, cond, not, ◌&&◌, ◌||◌, if◌then◌else◌}
-use Rattle.std.proofs.Common.{List, ◌++◌, Some, None, refl, sym, ap, ◌∙◌, subst, arith, ne_eqb}
-use Rattle.std.proofs.lemmas.Bool.Decides.{nat_tests}
-use Rattle.std.proofs.lemmas.Option.{same_Some}
-use Rattle.order_text.specs.declared.limits.TheConstants.{GREATEST_ORDER}
-use Rattle.order_text.specs.declared.order.Resting.{Resting}
+use Rattle.order_match.proofs.Common.{◌≡◌, ℕ, ◌+◌, ◌<◌, ◌≤◌, ◌==◌, nat_lt, Bool, true, false, cond, not, ◌&&◌, if◌then◌else◌, List, ◌++◌, Some, None, refl, sym}
+use Rattle.order_match.proofs.Common.{ap, ◌∙◌, subst, arith, ne_eqb, nat_tests, same_Some, GREATEST_ORDER, Resting, Trade, Gives, Matched, match_of, rest_of}
+use Rattle.order_match.proofs.Common.{OrderBook, blocks_of, IsBookOf, books_kept, Changes, Tells, OrderShape, HasParts, Stands, held_of, with_last}
+use Rattle.order_match.proofs.Common.{MatchesOrder, RestsOrder, next_number}
+use Rattle.order_text.proofs.Common.{incoming, IsLimitOrder}
+use Rattle.std.proofs.Common.{◌||◌}
+use Rattle.books_report.specs.Stores.Interpreter.{Step as step}
+use Rattle.order_text.specs.Interpreter.{enter, enter_next, entered}
+use Rattle.order_match.specs.Operating.{EntersOrder}
 use Rattle.order_text.specs.declared.reply.OrderValue.TheVariants as value
-use Rattle.order_text.specs.declared.reply.Trade.{Trade}
 use Rattle.order_text.specs.declared.script.OrderOp.TheVariants as op
 use Rattle.books_report.specs.declared.stores.outcome.Outcome.TheVariants as outcome
-use Rattle.books_report.specs.Stores.Interpreter.{Step as step}
-use Rattle.books_report.specs.Stores.Interpreter.Step.{Gives}
-use Rattle.order_text.specs.Interpreter.{enter, enter_next, entered, incoming}
-use Rattle.order_text.specs.Matching.{Matched, match_of, rest_of}
-use Rattle.order_text.specs.Orders.{OrderBook, blocks_of}
-use Rattle.order_text.specs.Ranges.{IsBookOf, IsLimitOrder}
-use Rattle.order_text.proofs.Apart.{books_kept}
-use Rattle.txn_words.specs.Access.{Changes, Tells}
-use Rattle.order_match.specs.declared.shape.OrderShape.{OrderShape}
-use Rattle.order_match.specs.Standing.{HasParts, Stands, held_of}
-use Rattle.order_match.specs.Access.{with_last}
-use Rattle.order_match.specs.Trading.{MatchesOrder, RestsOrder, next_number}
-use Rattle.order_match.specs.Operating.{EntersOrder}
 
 -- a number that is next
 next_is : (last number : ℕ) → Some number ≡ next_number last → (number ≡ last + 1) × (last < GREATEST_ORDER)

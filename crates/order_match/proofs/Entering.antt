@@ -1,31 +1,15 @@
 -- An order that enters, from what was done to the parts.
-use Rattle.std.proofs.Common.{◌≡◌, ◌≢◌, ℕ, ◌+◌, ◌-◌, ◌<◌, ◌≤◌, ◌==◌, nat_lt, Bool, true, false, cond, not, ◌&&◌, min, ◌⊎◌, inl, inr}
-use Rattle.std.proofs.Common.{List, [], ◌∷◌, ◌++◌, map, filter, Option, Some, None, refl, sym, ap, ◌∙◌, subst, arith, append-nil, eq-eqb, eqb-true, ne_eqb}
-use Rattle.std.proofs.lemmas.Bool.Decides.{nat_tests}
-use Rattle.std.specs.FinMap as finite
-use Rattle.std.specs.Cmp.{nat_cmp_total}
-use Rattle.std.specs.Option.{option_map}
-use Rattle.books_model.specs.Ranges.{IsWithin}
+use Rattle.order_match.proofs.Common.{◌≡◌, ◌≢◌, ℕ, ◌+◌, ◌-◌, ◌<◌, ◌≤◌, ◌==◌, nat_lt, Bool, true, false, cond, not, ◌&&◌, min, ◌⊎◌, inl, inr, List, [], ◌∷◌}
+use Rattle.order_match.proofs.Common.{◌++◌, map, filter, Option, Some, None, refl, sym, ap, ◌∙◌, subst, arith, append-nil, eq-eqb, eqb-true, ne_eqb, nat_tests}
+use Rattle.order_match.proofs.Common.{nat_cmp_total, option_map, IsWithin, len_after_insert, GREATEST_ORDER, Resting, Trade, Matched, after_trades, allows}
+use Rattle.order_match.proofs.Common.{match_of, orders_after, partners, rest_of, trade_with, OrderBook, all_but, blocks_of, order_at, IsBookOf, IsRestingOrder}
+use Rattle.order_match.proofs.Common.{Has, has_filtered, of_every, Put, New, Old, Full, Changes, Tells, TellsAndChanges, Turns, OrderShape, Side, HALF}
+use Rattle.order_match.proofs.Common.{resting_key, number_in, place_of, price_in, side_at, side_of, sides_of, Held, HasParts, IsGoodFor, Stands, held_of}
+use Rattle.order_match.proofs.Common.{places_of, quantities_on, entries_in, first_in, first_of, is_used_up, put_answer, put_by, with_places, with_side}
+use Rattle.order_match.proofs.Common.{MatchesOrder, RestsOrder, after_trade, next_number}
 use Rattle.books_model.specs.declared.limits.TheConstants.{MOST_INSTRUMENTS}
-use Rattle.books_model.proofs.Maps.Trees.{len_after_insert}
-use Rattle.order_text.specs.declared.limits.TheConstants.{GREATEST_ORDER}
-use Rattle.order_text.specs.declared.order.Resting.{Resting}
-use Rattle.order_text.specs.declared.reply.Trade.{Trade}
-use Rattle.order_text.specs.Matching.{Matched, after_trades, allows, match_of, orders_after, partners, rest_of, trade_with}
-use Rattle.order_text.specs.Orders.{OrderBook, all_but, blocks_of, order_at}
-use Rattle.order_text.specs.Ranges.{IsBookOf, IsRestingOrder}
-use Rattle.order_text.proofs.Members.{Has, has_filtered, of_every}
-use Rattle.txn_alloc.specs.declared.put.Put.{Put}
-use Rattle.txn_alloc.specs.declared.put.Put.TheVariants.{New, Old, Full}
-use Rattle.txn_words.specs.Access.{Changes, OfModel, Tells, TellsAndChanges}
-use Rattle.txn_stores.proofs.Turning.{Turns}
-use Rattle.order_match.specs.declared.shape.OrderShape.{OrderShape}
-use Rattle.order_match.specs.declared.layout.Side.{Side}
-use Rattle.order_match.specs.declared.layout.TheConstants.{HALF}
-use Rattle.order_match.specs.Layout.{resting_key, number_in, place_of, price_in, side_at, side_of, sides_of}
-use Rattle.order_match.specs.Standing.{Held, HasParts, IsGoodFor, Stands, held_of, places_of, quantities_on}
-use Rattle.order_match.specs.Access.{entries_in, first_in, first_of, is_used_up, put_answer, put_by, with_places, with_side}
-use Rattle.order_match.specs.Trading.{MatchesOrder, PutsOrder, RestsOrder, after_trade, next_number}
+use Rattle.txn_words.specs.Access.{OfModel}
+use Rattle.order_match.specs.Trading.{PutsOrder}
 use Rattle.order_match.proofs.Books.{held_with, held_without, keys_number, order_is, order_there, place_found, quantity_found}
 use Rattle.order_match.proofs.Calls.{fewer_book}
 use Rattle.order_match.proofs.Family.{counted}
@@ -36,6 +20,7 @@ use Rattle.order_match.proofs.Partners.{first_nothing, first_rest, order_told, p
 use Rattle.order_match.proofs.Served.{AreOrders, Fits, orders_of}
 use Rattle.order_match.proofs.Sums.{sum_changed}
 use Rattle.order_match.proofs.Whole.{entries_counted, side_in_range}
+use Rattle.std.specs.FinMap as finite
 
 -- the next number, if one is left
 pub next_some : (last : ℕ) → last < GREATEST_ORDER → Some (last + 1) ≡ next_number last

@@ -1,36 +1,27 @@
 -- The parts of a book as one family: a change of one leaves all others.
-use Rattle.std.proofs.Common.{◌≡◌, ◌≢◌, ℕ, zero, suc, ◌+◌, ◌<◌, ◌≤◌, ◌⊎◌, true, cond, ◌==◌, length}
-use Rattle.std.proofs.Common.{List, ◌∷◌, Some, slice_get, refl, sym, ap, ◌∙◌, subst, arith, eq-eqb, ne_eqb}
-use mathlib.Core.Logic.{dite}
-use native.Mathlib.Decide.{ℕ_discrete}
-use Rattle.std.specs.FinSet as set
-use Rattle.std.specs.FinMap as finite
-use Rattle.std.proofs.lemmas.List.Sums.{sum_by-cons}
-use Rattle.txn_words.specs.Frames.{KeepsOthers}
-use Rattle.txn_alloc.specs.FreeLists.{IsHead, IsInBlock, FreeListsHold, block_at}
-use Rattle.txn_alloc.specs.EntryMaps.{Entries, Blocks, Part, IsOwn}
-use Rattle.txn_alloc.proofs.Maps.Counting.{times_of, lengths_sum}
+use Rattle.order_match.proofs.Common.{◌≡◌, ◌≢◌, ℕ, zero, suc, ◌+◌, ◌<◌, ◌≤◌, ◌⊎◌, true, cond, ◌==◌, length, List, ◌∷◌, Some, slice_get, refl, sym, ap, ◌∙◌}
+use Rattle.order_match.proofs.Common.{subst, arith, eq-eqb, ne_eqb, dite, ℕ_discrete, sum_by-cons, KeepsOthers, IsHead, FreeListsHold, Entries, Blocks, IsOwn}
+use Rattle.order_match.proofs.Common.{times_of, ChainsHold, TreeHolds, OrderShape, LAST_AT, BUCKETS_AT, ROOTS_AT, arena_of, chains_of, tree_of, sides_of, Held}
+use Rattle.order_match.proofs.Common.{HasParts, entries_in, with_last, with_places, with_side}
+use Rattle.txn_alloc.proofs.Common.{IsInBlock, block_at, Part}
+use Rattle.txn_hash_map.proofs.Common.{free_below, free_kept, IsBucket, bucket_of}
+use Rattle.txn_alloc.proofs.Maps.Counting.{lengths_sum}
 use Rattle.txn_alloc.proofs.Maps.Parts.{IsOne}
-use Rattle.txn_alloc.proofs.FreeLists.Lists.{free_below, free_kept}
-use Rattle.txn_hash_map.specs.Chains.{ChainsHold, IsBucket, bucket_of}
 use Rattle.txn_hash_map.proofs.Stands.{chains_stand}
 use Rattle.txn_hash_map.proofs.Steps.{uses_below}
 use Rattle.txn_hash_map.proofs.Fronts.{bucket_is}
-use Rattle.txn_hash_map.proofs.Inserts as chains
-use Rattle.txn_hash_map.proofs.Numbers as numbers
-use Rattle.txn_tree_map.specs.Trees.{TreeHolds}
 use Rattle.txn_tree_map.proofs.Maps.{tree_stands}
 use Rattle.txn_tree_map.proofs.Searches.Gets.{used_below}
-use Rattle.txn_tree_map.proofs.Inserts.InsertCalls as trees
 use Rattle.txn_tree_map.proofs.Held.Numbers.{as_many_blocks}
 use Rattle.txn_alloc.specs.Blocks.{times_among}
 use Rattle.txn_alloc.proofs.Apart.{not_own, other_out, out_above}
-use Rattle.order_match.specs.declared.shape.OrderShape.{OrderShape}
-use Rattle.order_match.specs.declared.layout.TheConstants.{LAST_AT, BUCKETS_AT, ROOTS_AT}
-use Rattle.order_match.specs.Layout.{arena_of, chains_of, tree_of, sides_of}
-use Rattle.order_match.specs.Standing.{Held, HasParts, of_sides}
-use Rattle.order_match.specs.Access.{entries_in, with_last, with_places, with_side}
+use Rattle.order_match.specs.Standing.{of_sides}
 use Rattle.order_match.proofs.Sums.{count_first, count_sum, sum_map, total, total_changed, total_has_two, total_none}
+use Rattle.std.specs.FinSet as set
+use Rattle.std.specs.FinMap as finite
+use Rattle.txn_hash_map.proofs.Inserts as chains
+use Rattle.txn_hash_map.proofs.Numbers as numbers
+use Rattle.txn_tree_map.proofs.Inserts.InsertCalls as trees
 
 -- the parts by their numbers: the chains have 0, and the tree of each side that of the side and one more
 abbrev pub HoldsAt : OrderShape → ℕ → List ℕ → Entries → Blocks → Type 0
@@ -215,23 +206,23 @@ module _ (shape : OrderShape) (old : List ℕ) (held : Held) (family : Family sh
     abbrev used_now : ℕ → Blocks
     used_now j = cond (j == i) after (family.used j)
 
-    used_here : cond (i == i) after (family.used i) ≡ after
+    used_here : used_now i ≡ after
     used_here = ap (λ b. cond b after (family.used i)) (eq-eqb i i refl)
 
-    used_there : (j : ℕ) → j ≢ i → cond (j == i) after (family.used j) ≡ family.used j
+    used_there : (j : ℕ) → j ≢ i → used_now j ≡ family.used j
     used_there j ne = ap (λ b. cond b after (family.used j)) (ne_eqb j i ne)
 
-    each_holds : (j : ℕ) → j ≤ sides_of shape → HoldsAt shape j new (entries_at j (with_entries i now held)) (cond (j == i) after (family.used j))
+    each_holds : (j : ℕ) → j ≤ sides_of shape → HoldsAt shape j new (entries_at j (with_entries i now held)) (used_now j)
     each_holds j low = dite (ℕ_discrete j i)
-        (λ e. subst (λ l. HoldsAt shape l new (entries_at l (with_entries i now held)) (cond (l == i) after (family.used l))) (sym e)
-        (subst (λ u. HoldsAt shape i new (entries_at i (with_entries i now held)) u) (sym used_here)
+        (λ e. subst (λ l. HoldsAt shape l new (entries_at l (with_entries i now held)) (used_now l)) (sym e)
+        (subst (HoldsAt shape i new (entries_at i (with_entries i now held))) (sym used_here)
         (subst (λ f. HoldsAt shape i new f after) (sym (entries_here i now held)) holds)))
-        (λ ne. subst (λ u. HoldsAt shape j new (entries_at j (with_entries i now held)) u) (sym (used_there j ne))
+        (λ ne. subst (HoldsAt shape j new (entries_at j (with_entries i now held))) (sym (used_there j ne))
         (subst (λ f. HoldsAt shape j new f (family.used j)) (sym (entries_there i j now held ne)) (other_holds j low ne)))
 
     pub changed : Family shape new (with_entries i now held)
     changed = record {
-      used = λ j. cond (j == i) after (family.used j);
+      used = used_now;
       free = free;
       last = stays LAST_AT (root_no_count shape i) (λ head. omega (arith, head.low)) (λ e uses mine. omega (arith, mine.low))
           ∙ family.last ∙ ap Some (sym (last_stays i now held));
@@ -240,7 +231,7 @@ module _ (shape : OrderShape) (old : List ℕ) (held : Held) (family : Family sh
       parted = λ b lt.
           let once = family.parted b lt in
           let many = as_many b in
-          let same = total_changed (sides_of shape) i (λ j. times_of (cond (j == i) after (family.used j)) b) (λ j. times_of (family.used j) b) le
+          let same = total_changed (sides_of shape) i (λ j. times_of (used_now j) b) (λ j. times_of (family.used j) b) le
           (λ j ne. ap (λ u. times_of u b) (used_there j ne)) in
           let here = ap (λ u. times_of u b) used_here in
           omega (arith, once, many, same, here);

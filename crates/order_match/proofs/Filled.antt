@@ -1,32 +1,18 @@
 -- A book after a trade of one of its orders, and what the parts hold for it.
-use Rattle.std.proofs.Common.{◌≡◌, ◌≢◌, ℕ, ◌-◌, ◌<◌, ◌≤◌, ◌==◌, Bool, true, false, cond, inl, inr, List, [], ◌∷◌, map, filter}
-use Rattle.std.proofs.Common.{Some, refl, sym, ap, ◌∙◌, subst, arith, eq-eqb, eqb-true}
-use mathlib.Core.Logic.{dite}
-use native.Mathlib.Decide.{ℕ_discrete}
+use Rattle.order_match.proofs.Common.{◌≡◌, ◌≢◌, ℕ, ◌-◌, ◌<◌, ◌≤◌, ◌==◌, Bool, true, false, cond, inl, inr, List, [], ◌∷◌, map, filter, Some, refl, sym, ap, ◌∙◌}
+use Rattle.order_match.proofs.Common.{subst, arith, eq-eqb, eqb-true, dite, ℕ_discrete, All-map, nat_cmp_total, nat_cmp-IsAntisymmetric, option_map, Less}
+use Rattle.order_match.proofs.Common.{nat_cmp, Resting, Trade, after_trades, trade_with, OrderBook, by_number, IsBookOf, IsRestingOrder, Has, filtered_has}
+use Rattle.order_match.proofs.Common.{has_mapped, of_every, of_one, Entries, resting_key, place_of, side_of, held_of, quantities_on, with_side}
 use Rattle.std.proofs.lemmas.List.{length-map}
-use Rattle.std.proofs.lemmas.List.Elements.{All-map}
 use Rattle.std.specs.Prelude.{find as first}
-use Rattle.std.specs.Cmp.{nat_cmp_total}
-use Rattle.std.specs.FinMap as finite
-use Rattle.std.specs.FinMap.{nat_cmp-IsAntisymmetric}
 use Rattle.std.specs.List.Sorted.{IsStrictlySortedBy}
-use Rattle.std.specs.Option.{option_map}
-use Rattle.std.specs.declared.cmp.Ordering.TheVariants.{Less}
-use Rattle.std.specs.Ordering.{nat_cmp}
-use Rattle.order_text.specs.declared.order.Resting.{Resting}
-use Rattle.order_text.specs.declared.reply.Trade.{Trade}
-use Rattle.order_text.specs.Matching.{after_trades, trade_with}
-use Rattle.order_text.specs.Orders.{OrderBook, by_number}
-use Rattle.order_text.specs.Ranges.{IsBookOf, IsRestingOrder}
-use Rattle.order_text.proofs.Members.{Has, filtered_has, has_mapped, of_all, of_each, of_every, of_one}
+use Rattle.order_text.proofs.Members.{of_all, of_each}
 use Rattle.txn_stores.proofs.Maps.{inserted_here, inserted_there}
-use Rattle.order_match.specs.Layout.{resting_key, place_of, side_of}
-use Rattle.order_match.specs.Standing.{held_of, quantities_on}
-use Rattle.order_match.specs.Access.{with_side}
 use Rattle.order_match.proofs.Books.{held_by, keys_number, on_has, one_side, unique}
 use Rattle.order_match.proofs.Filling.{HaveQuantity, less_after, others_after}
 use Rattle.order_match.proofs.Keyed.{first_is, get_map, map_of}
 use Rattle.order_match.proofs.Served.{AreOrders, orders_of}
+use Rattle.std.specs.FinMap as finite
 
 pub have_quantity : (instruments : ℕ) (book : OrderBook) → IsBookOf instruments book → HaveQuantity book.orders
 have_quantity instruments book is r h = let q = (of_every (IsRestingOrder instruments) book.orders r is.each h).limits_are.quantity_is.0 in omega arith
@@ -145,14 +131,18 @@ module _ (instruments : ℕ) (book : OrderBook) (is : IsBookOf instruments book)
       at true e rest = ap Some (same r (inl refl) (eqb-true (resting_key r) q e))
       at false e rest = rest
 
+  -- what its side held, with less of it
+  abbrev with_less : Entries
+  with_less = finite.insert (quantities_on (side_of p) book.orders) (resting_key p) (p.quantity - left)
+
   side_partly : quantities_on (side_of p) (map (after_trades trades) book.orders)
-      ≡ finite.insert (quantities_on (side_of p) book.orders) (resting_key p) (p.quantity - left)
+      ≡ with_less
   side_partly = quantities_map (side_of p)
       ∙ finite.same_map nat_cmp_total nat_cmp-IsAntisymmetric (map_of resting_key left_of (on (side_of p)))
-      (finite.insert (quantities_on (side_of p) book.orders) (resting_key p) (p.quantity - left))
+      with_less
       (λ q. get_map resting_key left_of q (on (side_of p)) ∙ dite (ℕ_discrete q (resting_key p))
       (λ e. subst (λ z. option_map left_of (first (λ r. resting_key r == z) (on (side_of p)))
-      ≡ finite.get (finite.insert (quantities_on (side_of p) book.orders) (resting_key p) (p.quantity - left)) z) (sym e)
+      ≡ finite.get with_less z) (sym e)
       (ap (option_map left_of) (first_is resting_key left_of (resting_key p) p (on (side_of p))
       (filtered_has (λ (r : Resting). side_of r == side_of p) book.orders p here (eq-eqb (side_of p) (side_of p) refl)) refl
       (λ r h same. let t = on_has book.orders are (side_of p) r h in one_is r t.0 (keys_number r p (are.fit r t.0) (are.fit p here) same)))
@@ -170,8 +160,8 @@ module _ (instruments : ℕ) (book : OrderBook) (is : IsBookOf instruments book)
       ap (λ (x : Resting). x.quantity) (others r (λ e. ne (sym t.1 ∙ ap side_of (one_is r t.0 e)))))
       ∙ sym (get_map resting_key (λ (r : Resting). r.quantity) q (on side))))
 
-  pub held_partly : with_side (side_of p) (finite.insert (quantities_on (side_of p) book.orders) (resting_key p) (p.quantity - left)) (held_of book)
+  pub held_partly : with_side (side_of p) with_less (held_of book)
       ≡ held_of (partly trades book)
   held_partly = held_by refl (sym (ap (λ (es : List (ℕ × ℕ)). finite.from_entries {R = nat_cmp} es) (places_stay book.orders)))
-      (one_side (side_of p) (finite.insert (quantities_on (side_of p) book.orders) (resting_key p) (p.quantity - left)) (held_of book)
+      (one_side (side_of p) with_less (held_of book)
       (λ t. quantities_on t (map (after_trades trades) book.orders)) side_partly sides_partly)

@@ -1,24 +1,13 @@
 -- One turn of trading is one step down the partners, with the book between.
-use Rattle.std.proofs.Common.{◌≡◌, ◌≢◌, ℕ, ◌-◌, ◌<◌, ◌≤◌, ◌⊎◌, ◌==◌, Bool, true, false, cond, not, min, inl, inr, ⊎_elim}
-use Rattle.std.proofs.Common.{List, [], ◌∷◌, ◌++◌, map, filter, find, Some, refl, sym, ap, ◌∙◌, subst, arith, append_assoc}
-use Rattle.std.proofs.Common.{eq-eqb, ne_eqb}
-use mathlib.Core.Logic.{dite}
-use native.Mathlib.Decide.{ℕ_discrete}
-use Rattle.std.proofs.lemmas.Bool.{cases_lt}
-use Rattle.std.proofs.lemmas.Bool.Decides.{nat_tests}
+use Rattle.order_match.proofs.Common.{◌≡◌, ◌≢◌, ℕ, ◌-◌, ◌<◌, ◌≤◌, ◌⊎◌, ◌==◌, Bool, true, false, cond, not, min, inl, inr, ⊎_elim, List, [], ◌∷◌, ◌++◌, map}
+use Rattle.order_match.proofs.Common.{filter, find, Some, refl, sym, ap, ◌∙◌, subst, arith, eq-eqb, ne_eqb, dite, ℕ_discrete, cases_lt, nat_tests, sum_by-cons}
+use Rattle.order_match.proofs.Common.{IsStrictlySortedBy, Less, Equal, Resting, Trade, Matched, after_trades, in_order, match_of, orders_after, partners}
+use Rattle.order_match.proofs.Common.{serving_cmp, trade_with, all_but, unique_numbers, Has, has_filtered, has_mapped, none_tie, serving_total, in_order_has}
+use Rattle.order_match.proofs.Common.{in_order_sorted}
+use Rattle.order_text.proofs.Common.{has_quantity, may_trade, trades_down, volume}
+use Rattle.std.proofs.Common.{append_assoc}
 use Rattle.std.proofs.lemmas.Cmp.{tied_itself}
-use Rattle.std.proofs.lemmas.List.Sums.{sum_by-cons}
-use Rattle.std.specs.List.Sorted.{IsStrictlySortedBy}
-use Rattle.std.specs.declared.cmp.Ordering.TheVariants.{Less, Equal}
-use Rattle.order_text.specs.declared.order.Resting.{Resting}
-use Rattle.order_text.specs.declared.reply.Trade.{Trade}
-use Rattle.order_text.specs.Matching.{Matched, after_trades, has_quantity, in_order, match_of, may_trade, orders_after, partners, quantity_of}
-use Rattle.order_text.specs.Matching.{serving_cmp, trade_with, traded_by, trades_down, volume}
-use Rattle.order_text.specs.Orders.{all_but}
-use Rattle.order_text.proofs.Entering.{unique_numbers}
-use Rattle.order_text.proofs.Members.{Has, has_filtered, has_mapped}
-use Rattle.order_text.proofs.Serving.{none_tie, serving_total}
-use Rattle.order_text.proofs.Sorting.{in_order_has, in_order_sorted}
+use Rattle.order_text.specs.Matching.{quantity_of, traded_by}
 use Rattle.order_text.proofs.Trading.{trades_first}
 use Rattle.order_match.proofs.Books.{filter_all, filter_swap}
 use Rattle.order_match.proofs.Served.{AreOrders, fewer_orders, in_order_filter, sorted_first}
@@ -148,92 +137,106 @@ module _ (order : Resting) (now : List Resting) (are : AreOrders now) (all : Hav
 
   -- a trade with one of them
   module _ (p : Resting) (here : Has p now) (left : ℕ) where
+    -- that trade alone
+    abbrev one_trade : List Trade
+    one_trade = trade_with left p ∷ []
+
     -- all others stay what they were
-    pub others_after : (r : Resting) → r.number ≢ p.number → after_trades (trade_with left p ∷ []) r ≡ r
+    pub others_after : (r : Resting) → r.number ≢ p.number → after_trades one_trade r ≡ r
     others_after r ne =
         let none = traded_later r.number (trade_with left p) [] (λ e. ne (sym e)) in
         ap (λ n. with_quantity n r) (omega (arith, none))
 
     -- and the order itself has so much less
-    pub less_after : (after_trades (trade_with left p ∷ []) p).quantity ≡ p.quantity - min p.quantity left
+    pub less_after : (after_trades one_trade p).quantity ≡ p.quantity - min p.quantity left
     less_after = ap (λ n. p.quantity - n) (traded_first p.number (trade_with left p) [] refl)
 
     -- an order that is filled goes
-    pub filled_next : p.quantity ≤ left → orders_after (trade_with left p ∷ []) now ≡ all_but p.number now
+    pub filled_next : p.quantity ≤ left → orders_after one_trade now ≡ all_but p.number now
     filled_next le = each now (λ r h. h)
       where
-        each : (rs : List Resting) → ((r : Resting) → Has r rs → Has r now) → orders_after (trade_with left p ∷ []) rs ≡ all_but p.number rs
+        each : (rs : List Resting) → ((r : Resting) → Has r rs → Has r now) → orders_after one_trade rs ≡ all_but p.number rs
         each [] within = refl
         each (r ∷ rs) within = dite (ℕ_discrete r.number p.number)
             (λ e.
             let same : r ≡ p = unique r p (within r (inl refl)) here e in
-            let amount : traded_by r.number (trade_with left p ∷ []) ≡ min p.quantity left = traded_first r.number (trade_with left p) [] (sym e) in
+            let amount : traded_by r.number one_trade ≡ min p.quantity left = traded_first r.number (trade_with left p) [] (sym e) in
             let quantity = ap (λ (x : Resting). x.quantity) same in
-            let gone : has_quantity (after_trades (trade_with left p ∷ []) r) ≡ false =
-            no_quantity (after_trades (trade_with left p ∷ []) r) (omega (arith, amount, quantity, le)) in
-            ap (λ b. cond b (after_trades (trade_with left p ∷ []) r ∷ orders_after (trade_with left p ∷ []) rs)
-            (orders_after (trade_with left p ∷ []) rs)) gone
+            let gone : has_quantity (after_trades one_trade r) ≡ false =
+            no_quantity (after_trades one_trade r) (omega (arith, amount, quantity, le)) in
+            ap (λ b. cond b (after_trades one_trade r ∷ orders_after one_trade rs)
+            (orders_after one_trade rs)) gone
             ∙ (each rs (λ x h. within x (inr h))
             ∙ sym (ap (λ b. cond (not b) (r ∷ all_but p.number rs) (all_but p.number rs)) (eq-eqb r.number p.number e))))
             (λ ne.
-            ap (λ x. cond (has_quantity x) (x ∷ orders_after (trade_with left p ∷ []) rs) (orders_after (trade_with left p ∷ []) rs)) (others_after r ne)
-            ∙ (ap (λ b. cond b (r ∷ orders_after (trade_with left p ∷ []) rs) (orders_after (trade_with left p ∷ []) rs))
+            ap (λ x. cond (has_quantity x) (x ∷ orders_after one_trade rs) (orders_after one_trade rs)) (others_after r ne)
+            ∙ (ap (λ b. cond b (r ∷ orders_after one_trade rs) (orders_after one_trade rs))
             (some_left r (all r (within r (inl refl))))
             ∙ (ap (λ l. r ∷ l) (each rs (λ x h. within x (inr h)))
             ∙ sym (ap (λ b. cond (not b) (r ∷ all_but p.number rs) (all_but p.number rs)) (ne_eqb r.number p.number ne)))))
 
     -- one that is not stays, with less
-    pub partly_next : left < p.quantity → orders_after (trade_with left p ∷ []) now ≡ map (after_trades (trade_with left p ∷ [])) now
-    partly_next lt = filter_all has_quantity (map (after_trades (trade_with left p ∷ [])) now)
-        (λ x h. let m = has_mapped (after_trades (trade_with left p ∷ [])) now x h in ap has_quantity m.1.1 ∙ stays m.0 m.1.0)
+    pub partly_next : left < p.quantity → orders_after one_trade now ≡ map (after_trades one_trade) now
+    partly_next lt = filter_all has_quantity (map (after_trades one_trade) now)
+        (λ x h. let m = has_mapped (after_trades one_trade) now x h in ap has_quantity m.1.1 ∙ stays m.0 m.1.0)
       where
-        stays : (r : Resting) → Has r now → has_quantity (after_trades (trade_with left p ∷ []) r) ≡ true
+        stays : (r : Resting) → Has r now → has_quantity (after_trades one_trade r) ≡ true
         stays r h = dite (ℕ_discrete r.number p.number)
             (λ e.
             let same : r ≡ p = unique r p h here e in
-            let amount : traded_by r.number (trade_with left p ∷ []) ≡ min p.quantity left = traded_first r.number (trade_with left p) [] (sym e) in
+            let amount : traded_by r.number one_trade ≡ min p.quantity left = traded_first r.number (trade_with left p) [] (sym e) in
             let quantity = ap (λ (x : Resting). x.quantity) same in
-            some_left (after_trades (trade_with left p ∷ []) r) (omega (arith, amount, quantity, lt)))
+            some_left (after_trades one_trade r) (omega (arith, amount, quantity, lt)))
             (λ ne. ap has_quantity (others_after r ne) ∙ some_left r (all r h))
 
   -- the first partner trades
   module _ (p : Resting) (ps : List Resting) (is : partners order now ≡ p ∷ ps) (left : ℕ) where
+    -- the orders that may trade, those of another number, and the partners after the trade
+    abbrev able : List Resting
+    able = filter (may_trade order) now
+
+    abbrev others : Resting → Bool
+    others r = not (r.number == p.number)
+
+    abbrev next_partners : List Resting
+    next_partners = partners order (orders_after (trade_with left p ∷ []) now)
+
     pub partner_here : Has p now
     partner_here = (has_filtered (may_trade order) now p
-        (in_order_has (serving_cmp (not order.buys)) (serving_total (not order.buys)) (filter (may_trade order) now) p
+        (in_order_has (serving_cmp buys) (serving_total buys) able p
         (subst (Has p) (sym is) (inl refl)))).0
 
     there : (r : Resting) → Has r ps → Has r now
     there r h = (has_filtered (may_trade order) now r
-        (in_order_has (serving_cmp (not order.buys)) (serving_total (not order.buys)) (filter (may_trade order) now) r
+        (in_order_has (serving_cmp buys) (serving_total buys) able r
         (subst (Has r) (sym is) (inr h)))).0
 
-    served_sorted : IsStrictlySortedBy (serving_cmp (not order.buys)) (p ∷ ps)
-    served_sorted = subst (IsStrictlySortedBy (serving_cmp (not order.buys))) is
-        (in_order_sorted (serving_cmp (not order.buys)) (serving_total (not order.buys)) (filter (may_trade order) now)
-        (none_tie (not order.buys) (filter (may_trade order) now) (fewer_orders (may_trade order) now are).rising))
+    served_sorted : IsStrictlySortedBy (serving_cmp buys) (p ∷ ps)
+    served_sorted = subst (IsStrictlySortedBy (serving_cmp buys)) is
+        (in_order_sorted (serving_cmp buys) (serving_total buys) able
+        (none_tie buys able (fewer_orders (may_trade order) now are).rising))
 
     other_number : (r : Resting) → Has r ps → r.number ≢ p.number
     other_number r h e =
         let same : r ≡ p = unique r p (there r h) partner_here e in
-        let less : serving_cmp (not order.buys) p p ≡ Less = subst (λ x. serving_cmp (not order.buys) p x ≡ Less) same
-        (sorted_first (serving_cmp (not order.buys)) p ps served_sorted r h) in
-        let z : Less ≡ Equal = sym less ∙ tied_itself (serving_total (not order.buys)) p in absurd (cc)
+        let less : serving_cmp buys p p ≡ Less = subst (λ x. serving_cmp buys p x ≡ Less) same
+        (sorted_first (serving_cmp buys) p ps served_sorted r h) in
+        let z : Less ≡ Equal = sym less ∙ tied_itself (serving_total buys) p in absurd (cc)
 
     -- without the partner, the others are left
     pub partners_rest : partners order (all_but p.number now) ≡ ps
     partners_rest =
-        ap (in_order (serving_cmp (not order.buys))) (filter_swap (may_trade order) (λ r. not (r.number == p.number)) now)
-        ∙ (in_order_filter (not order.buys) (λ r. not (r.number == p.number)) (filter (may_trade order) now) (fewer_orders (may_trade order) now are).rising
-        ∙ (ap (filter (λ r. not (r.number == p.number))) is
-        ∙ (ap (λ b. cond (not b) (p ∷ filter (λ r. not (r.number == p.number)) ps) (filter (λ r. not (r.number == p.number)) ps))
+        ap (in_order (serving_cmp buys)) (filter_swap (may_trade order) others now)
+        ∙ (in_order_filter buys others able (fewer_orders (may_trade order) now are).rising
+        ∙ (ap (filter others) is
+        ∙ (ap (λ b. cond (not b) (p ∷ filter others ps) (filter others ps))
         (eq-eqb p.number p.number refl)
-        ∙ filter_all (λ r. not (r.number == p.number)) ps (λ r h. ap not (ne_eqb r.number p.number (other_number r h))))))
+        ∙ filter_all others ps (λ r h. ap not (ne_eqb r.number p.number (other_number r h))))))
 
     abbrev later : List Trade
-    later = trades_down (left - min p.quantity left) (partners order (orders_after (trade_with left p ∷ []) now))
+    later = trades_down (left - min p.quantity left) next_partners
 
-    filled_partners : p.quantity ≤ left → partners order (orders_after (trade_with left p ∷ []) now) ≡ ps
+    filled_partners : p.quantity ≤ left → next_partners ≡ ps
     filled_partners le = ap (partners order) (filled_next p partner_here left le) ∙ partners_rest
 
     nothing_later : left < p.quantity → (rs : List Resting) → trades_down (left - min p.quantity left) rs ≡ []
@@ -241,7 +244,7 @@ module _ (order : Resting) (now : List Resting) (are : AreOrders now) (all : Hav
 
     later_rest : trades_down (left - min p.quantity left) ps ≡ later
     later_rest = elim (cases_lt left p.quantity) [
-      | inl lt ↦ nothing_later lt ps ∙ sym (nothing_later lt (partners order (orders_after (trade_with left p ∷ []) now)))
+      | inl lt ↦ nothing_later lt ps ∙ sym (nothing_later lt next_partners)
       | inr le ↦ sym (ap (trades_down (left - min p.quantity left)) (filled_partners le))
     ]
 
@@ -250,9 +253,9 @@ module _ (order : Resting) (now : List Resting) (are : AreOrders now) (all : Hav
 
     later_apart : (u : Trade) → Has u later → u.order ≢ p.number
     later_apart u h = elim (cases_lt left p.quantity) [
-      | inl lt ↦ absurd (subst (Has u) (nothing_later lt (partners order (orders_after (trade_with left p ∷ []) now))) h)
+      | inl lt ↦ absurd (subst (Has u) (nothing_later lt next_partners) h)
       | inr le ↦
-          let k = trades_from (left - min p.quantity left) (partners order (orders_after (trade_with left p ∷ []) now)) u h in
+          let k = trades_from (left - min p.quantity left) next_partners u h in
           λ e. other_number k.0 (subst (Has k.0) (filled_partners le) k.1.0) (sym k.1.1 ∙ e)
     ]
 

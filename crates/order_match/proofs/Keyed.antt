@@ -1,22 +1,13 @@
 -- Items as a finite map, by a key and with a value of each: one item more, fewer, and how many entries there are.
-use Rattle.std.proofs.Common.{◌≡◌, ◌≢◌, ℕ, ◌==◌, Bool, true, false, cond, not, inl, inr, List, [], ◌∷◌, ◌++◌, map, filter, length, Some, None}
-use Rattle.std.proofs.Common.{refl, sym, ap, ◌∙◌, subst, arith, eq-eqb, eqb-true, ne_eqb}
+use Rattle.order_match.proofs.Common.{◌≡◌, ◌≢◌, ℕ, ◌==◌, Bool, true, false, cond, not, inl, inr, List, [], ◌∷◌, ◌++◌, map, filter, length, Some, None, refl}
+use Rattle.order_match.proofs.Common.{sym, ap, ◌∙◌, subst, arith, eq-eqb, eqb-true, ne_eqb, same_Some, option_map, dite, ℕ_discrete, nat_cmp_total, nat_cmp}
+use Rattle.order_match.proofs.Common.{eq_by_cmp, nat_cmp-IsAntisymmetric, len_after_insert, Entries, Has}
 use Rattle.std.proofs.lemmas.List.{map-append}
-use Rattle.std.proofs.lemmas.Option.{same_Some}
 use Rattle.std.specs.Prelude.{find as first}
-use Rattle.std.specs.Option.{option_map}
-use mathlib.Core.Logic.{dite}
-use native.Mathlib.Decide.{ℕ_discrete}
-use Rattle.std.specs.Cmp.{nat_cmp_total}
-use Rattle.std.specs.Ordering.{nat_cmp, eq_by_cmp}
-use Rattle.std.specs.FinMap as finite
-use Rattle.std.specs.FinMap.{nat_cmp-IsAntisymmetric}
 use Rattle.std.specs.FinMap.Entries.{find}
-use Rattle.books_model.proofs.Maps.Trees.{len_after_insert}
-use Rattle.txn_alloc.specs.EntryMaps.{Entries}
 use Rattle.txn_tree_map.proofs.Held.Entries.{tied, untied}
-use Rattle.order_text.proofs.Members.{Has}
 use Rattle.txn_stores.proofs.Maps.{removed_here, removed_there}
+use Rattle.std.specs.FinMap as finite
 
 same_test : (q k : ℕ) → eq_by_cmp nat_cmp q k ≡ (k == q)
 same_test q k = dite (ℕ_discrete q k)

@@ -1,20 +1,13 @@
 -- The last order number, as it is read and written.
-use Rattle.std.proofs.Common.{◌≡◌, ℕ, ◌<◌, ◌++◌, ◌∷◌, [], List, length, slice_get, Some, refl, sym, ap, subst, ◌∙◌, arith}
-use Rattle.std.proofs.lemmas.Option.{same_Some}
+use Rattle.order_match.proofs.Common.{◌≡◌, ℕ, ◌<◌, ◌++◌, ◌∷◌, [], List, length, slice_get, Some, refl, sym, ap, subst, ◌∙◌, arith, same_Some, Trace, Changes}
+use Rattle.order_match.proofs.Common.{Tells, KeepsOthers, EndsWithWrite, OrderShape, LAST_AT, HasParts, HasSomeParts, with_last}
+use Rattle.txn_stores.proofs.Common.{after}
+use Rattle.txn_words.proofs.Common.{SomeFits, InEach, Leads, length-after}
+use Rattle.txn_alloc.proofs.Common.{get_set_same, only_write}
 use Rattle.history_model.specs.declared.event.Event.TheVariants.{Read}
-use Rattle.history_model.specs.Traces.{Trace, after}
-use Rattle.history_model.specs.Fitting.{SomeFits, InEach, Leads}
-use Rattle.history_model.proofs.Traces.TraceLaws.{get_set_same, length-after}
 use Rattle.history_model.proofs.Traces.FittingLaws.{Found, found}
-use Rattle.txn_words.specs.Access.{Changes, Tells}
-use Rattle.txn_words.specs.Frames.{KeepsOthers}
-use Rattle.txn_words.specs.Steps.{EndsWithWrite}
-use Rattle.txn_words.proofs.FrameLaws.{only_keeps, only_write}
+use Rattle.txn_words.proofs.FrameLaws.{only_keeps}
 use Rattle.txn_words.proofs.JobLaws.{was_put}
-use Rattle.order_match.specs.declared.shape.OrderShape.{OrderShape}
-use Rattle.order_match.specs.declared.layout.TheConstants.{LAST_AT}
-use Rattle.order_match.specs.Standing.{HasParts, HasSomeParts}
-use Rattle.order_match.specs.Access.{with_last}
 use Rattle.order_match.proofs.Changes.{last_change_stands}
 
 -- what is read behind a call that left the words as they were is told of those from before it

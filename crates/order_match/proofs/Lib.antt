@@ -1,3 +1,5 @@
+-- what several proofs import
+pub mod Common
 -- the order of keys is the order in which orders are served
 pub mod Served
 -- sums over the numbers of parts, one of which may change

@@ -1,20 +1,10 @@
 -- All orders of a book, by looking each number up that was given.
-use Rattle.std.proofs.Common.{◌≡◌, ℕ, ◌+◌, ◌<◌, ◌≤◌, ◌==◌, nat_le, Bool, true, false, cond, inl, inr, List, [], ◌∷◌, ◌++◌, filter, Option, Some}
-use Rattle.std.proofs.Common.{refl, sym, ap, ◌∙◌, arith, eq-eqb, ne_eqb}
-use Rattle.std.proofs.lemmas.Bool.{cases_lt}
-use Rattle.std.proofs.lemmas.Bool.Decides.{nat_tests}
+use Rattle.order_match.proofs.Common.{◌≡◌, ℕ, ◌+◌, ◌<◌, ◌≤◌, ◌==◌, nat_le, Bool, true, false, cond, inl, inr, List, [], ◌∷◌, ◌++◌, filter, Option, Some, refl}
+use Rattle.order_match.proofs.Common.{sym, ap, ◌∙◌, arith, eq-eqb, ne_eqb, cases_lt, nat_tests, Less, GREATEST_ORDER, Resting, OrderBook, by_number, order_at}
+use Rattle.order_match.proofs.Common.{IsBookOf, IsRestingOrder, Has, of_every, of_one, Tells, OrderShape, HasParts, IsGoodFor, Stands, held_of}
 use Rattle.std.proofs.lemmas.Cmp.{ranked}
 use Rattle.std.specs.List.Sorted.{IsStrictlySortedBy}
-use Rattle.std.specs.declared.cmp.Ordering.TheVariants.{Less}
-use Rattle.order_text.specs.declared.limits.TheConstants.{GREATEST_ORDER}
-use Rattle.order_text.specs.declared.order.Resting.{Resting}
-use Rattle.order_text.specs.Orders.{OrderBook, by_number, order_at}
-use Rattle.order_text.specs.Ranges.{IsBookOf, IsRestingOrder}
-use Rattle.order_text.proofs.Members.{Has, of_every, of_one}
-use Rattle.txn_words.specs.Access.{Tells}
-use Rattle.order_match.specs.declared.shape.OrderShape.{OrderShape}
 use Rattle.order_match.specs.Inner.Listing.{found_order}
-use Rattle.order_match.specs.Standing.{HasParts, IsGoodFor, Stands, held_of}
 use Rattle.order_match.proofs.Books.{filter_all}
 
 -- the last number of a book, as it is told of its parts

@@ -1,32 +1,20 @@
 -- What calls on one part say of all of them.
-use Rattle.std.proofs.Common.{◌≡◌, ℕ, zero, suc, ◌*◌, ◌<◌, ◌≤◌, Bool, true, false, cond, ◌==◌, nat_le, find, List, [], ◌∷◌, Option, Some, None}
-use Rattle.std.proofs.Common.{refl, sym, ap, ◌∙◌, subst, arith, eq-eqb, ne_eqb}
-use Rattle.std.proofs.lemmas.Bool.Decides.{nat_tests}
-use mathlib.Core.Logic.{dite}
-use native.Mathlib.Decide.{ℕ_discrete}
-use Rattle.std.specs.Ordering.{nat_cmp}
-use Rattle.std.specs.FinMap as finite
-use Rattle.std.specs.FinSet as set
-use Rattle.books_model.specs.Ranges.{IsWithin}
-use Rattle.txn_words.specs.Access.{Tells, TellsAndChanges}
-use Rattle.txn_words.specs.Frames.{KeepsOthers}
-use Rattle.txn_alloc.specs.declared.put.Put.{Put}
-use Rattle.txn_alloc.specs.declared.put.Put.TheVariants.{New, Old, Full}
-use Rattle.txn_alloc.specs.EntryMaps.{Entries, Finds, HasMap, HasMapApart, HoldsApart}
-use Rattle.txn_alloc.specs.EntryMaps.{Inserts, InsertsNew, InsertsOld, IsOwn, LacksRoom, Removes, RemovesOne}
-use Rattle.txn_alloc.proofs.Maps.Counting.{some_member, times_of}
-use Rattle.txn_alloc.proofs.Maps.Parts.{free_unused, held}
-use Rattle.txn_tree_map.specs.Firsts.{FindsFirst}
-use Rattle.txn_stores.proofs.Maps.{remove_absent}
+use Rattle.order_match.proofs.Common.{◌≡◌, ℕ, zero, suc, ◌*◌, ◌<◌, ◌≤◌, Bool, true, false, cond, ◌==◌, nat_le, find, List, [], ◌∷◌, Option, Some, None, refl}
+use Rattle.order_match.proofs.Common.{sym, ap, ◌∙◌, subst, arith, eq-eqb, ne_eqb, nat_tests, dite, ℕ_discrete, nat_cmp, IsWithin, Tells, TellsAndChanges}
+use Rattle.order_match.proofs.Common.{KeepsOthers, Put, New, Old, Full, Entries, IsOwn, times_of, FindsFirst, remove_absent, OrderShape, side_at, sides_of}
+use Rattle.order_match.proofs.Common.{tree_of, Held, HasParts, HasSomeParts, entries_in, first_in, first_of, is_used_up, put_answer, put_by}
+use Rattle.txn_alloc.proofs.Common.{Finds, HasMap, HasMapApart, HoldsApart, Inserts, LacksRoom}
+use Rattle.txn_hash_map.proofs.Common.{Removes, held}
+use Rattle.txn_alloc.specs.EntryMaps.{InsertsNew, InsertsOld, RemovesOne}
+use Rattle.txn_alloc.proofs.Maps.Counting.{some_member}
+use Rattle.txn_alloc.proofs.Maps.Parts.{free_unused}
 use Rattle.txn_alloc.proofs.Apart.{moved_times, out_other}
 use Rattle.txn_stores.proofs.Turning.{IsPut, IsCut}
-use Rattle.order_match.specs.declared.shape.OrderShape.{OrderShape}
-use Rattle.order_match.specs.Layout.{side_at, sides_of, tree_of}
-use Rattle.order_match.specs.Standing.{Held, HasParts, HasSomeParts}
-use Rattle.order_match.specs.Access.{entries_in, first_in, first_of, is_used_up, put_answer, put_by}
 use Rattle.order_match.proofs.Family.{Family, changed, counted, entries_at, entries_here, entries_there, family_as, family_below, family_of, part_at, parts_of}
 use Rattle.order_match.proofs.Family.{with_entries}
 use Rattle.order_match.proofs.Sums.{total_has}
+use Rattle.std.specs.FinMap as finite
+use Rattle.std.specs.FinSet as set
 
 -- what is held with the same entries of a part is the same
 with_same : (i j : ℕ) (held : Held) → entries_at j held ≡ entries_at j (with_entries i (entries_at i held) held)

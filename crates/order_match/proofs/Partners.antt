@@ -1,18 +1,7 @@
 -- The partner that an order trades with first, by the first entry of the other side.
-use Rattle.std.proofs.Common.{◌≡◌, ℕ, ◌≤◌, Bool, true, false, not, cond, if◌then◌else◌, inl, List, [], ◌∷◌, map, filter, Option, Some, None}
-use Rattle.std.proofs.Common.{refl, sym, ap, ◌∙◌, subst}
-use Rattle.std.proofs.lemmas.Option.{same_Some}
-use Rattle.std.specs.List.Sorted.{IsStrictlySortedBy}
-use Rattle.order_text.specs.declared.order.Resting.{Resting}
-use Rattle.order_text.specs.Matching.{allows, partners, serving_cmp}
-use Rattle.order_text.specs.Orders.{is_on}
-use Rattle.order_text.proofs.Members.{Has, has_filtered}
-use Rattle.order_text.proofs.Prices.{on_is}
-use Rattle.order_text.proofs.Serving.{serving_total}
-use Rattle.order_text.proofs.Sorting.{in_order_has}
-use Rattle.order_match.specs.Layout.{resting_key, number_in, price_in, side_at}
-use Rattle.order_match.specs.Standing.{quantities_on}
-use Rattle.order_match.specs.Access.{first_in, first_of}
+use Rattle.order_match.proofs.Common.{◌≡◌, ℕ, ◌≤◌, Bool, true, false, not, cond, if◌then◌else◌, inl, List, [], ◌∷◌, map, filter, Option, Some, None, refl, sym}
+use Rattle.order_match.proofs.Common.{ap, ◌∙◌, subst, same_Some, IsStrictlySortedBy, Resting, allows, partners, serving_cmp, is_on, Has, has_filtered, on_is}
+use Rattle.order_match.proofs.Common.{serving_total, in_order_has, resting_key, number_in, price_in, side_at, quantities_on, first_in, first_of}
 use Rattle.order_match.proofs.Books.{number_told, price_told}
 use Rattle.order_match.proofs.Served.{AreOrders, better, none_pass, partners_allowed, served, served_sorted, sorted_first, trees_served}
 

@@ -1,22 +1,12 @@
 -- What cancelling an order and telling the best prices come to, on words that stand for a book.
-use Rattle.std.proofs.lemmas.Option.{same_Some}
-use Rattle.std.specs.Option.{option_map}
-use Rattle.std.proofs.Common.{◌≡◌, ℕ, true, false, List, Option, Some, None, refl, sym, ap, subst}
-use Rattle.books_report.specs.declared.stores.outcome.Outcome.TheVariants as outcome
+use Rattle.order_match.proofs.Common.{same_Some, option_map, ◌≡◌, ℕ, true, false, List, Option, Some, None, refl, sym, ap, subst, Gives, Resting, OrderBook}
+use Rattle.order_match.proofs.Common.{all_but, order_at, with_order, TellsAndChanges, Saw, OrderShape, Stands, best_on, quantity_at, without_order}
 use Rattle.books_report.specs.Stores.Interpreter.{Step as step}
-use Rattle.books_report.specs.Stores.Interpreter.Step.{Gives}
-use Rattle.order_text.specs.declared.order.Resting.{Resting}
-use Rattle.order_text.specs.declared.script.OrderOp.TheVariants as op
-use Rattle.order_text.specs.declared.reply.OrderValue.TheVariants as value
-use Rattle.order_text.specs.Orders.{OrderBook, all_but, order_at}
-use Rattle.order_text.specs.Interpreter.{with_order}
-use Rattle.txn_words.specs.Access.{TellsAndChanges}
-use Rattle.txn_stores.proofs.Turning.{Saw}
-use Rattle.order_match.specs.declared.shape.OrderShape.{OrderShape}
-use Rattle.order_match.specs.Standing.{Stands}
-use Rattle.order_match.specs.Access.{best_on, quantity_at, without_order}
 use Rattle.order_match.specs.Operating.{MeetsStep}
 use Rattle.order_match.proofs.Books.{none_taken}
+use Rattle.books_report.specs.declared.stores.outcome.Outcome.TheVariants as outcome
+use Rattle.order_text.specs.declared.script.OrderOp.TheVariants as op
+use Rattle.order_text.specs.declared.reply.OrderValue.TheVariants as value
 
 module _ (shape : OrderShape) (x y : List ℕ) where
   cancel_step : (number quantity : ℕ) (book : OrderBook) (found : Option Resting) → Some quantity ≡ option_map (λ (r : Resting). r.quantity) found

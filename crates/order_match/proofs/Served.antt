@@ -1,30 +1,21 @@
 -- The order of keys is the order in which orders are served.
-use Rattle.std.proofs.Common.{◌≡◌, ℕ, ◌+◌, ◌-◌, ◌*◌, ◌<◌, ◌≤◌, Bool, true, false, cond, not, ◌&&◌, ◌==◌, nat_le, if◌then◌else◌}
-use Rattle.std.proofs.Common.{inl, inr, List, [], ◌∷◌, map, filter, refl, sym, ap, ◌∙◌, arith, eq-eqb, eqb-true}
-use Rattle.std.proofs.lemmas.Bool.{cases_lt}
-use Rattle.std.proofs.lemmas.Bool.Decides.{nat_tests}
+use Rattle.order_match.proofs.Common.{◌≡◌, ℕ, ◌+◌, ◌-◌, ◌*◌, ◌<◌, ◌≤◌, Bool, true, false, cond, not, ◌&&◌, ◌==◌, nat_le, if◌then◌else◌, inl, inr, List, [], ◌∷◌}
+use Rattle.order_match.proofs.Common.{map, filter, refl, sym, ap, ◌∙◌, arith, eq-eqb, eqb-true, cases_lt, nat_tests, both_ways, nat_cmp_total, Ordering, Less}
+use Rattle.order_match.proofs.Common.{Equal, Greater, nat_cmp, ordering_then, eq_by_cmp, Resting, allows, in_order, partners, serving_cmp, OrderBook, by_number}
+use Rattle.order_match.proofs.Common.{is_on, IsBookOf, IsRestingOrder, Has, has_filtered, filtered_has, of_one, of_every, on_is, none_tie, serving_total}
+use Rattle.order_match.proofs.Common.{in_order_has, has_in_order, in_order_sorted, one_sorted, HALF, side_at, side_of, resting_key, key_at, quantities_on}
 use Rattle.std.proofs.lemmas.List.{nil_from_length}
 use Rattle.std.proofs.lemmas.List.Kept.{IsStrictlySortedBy-filter}
 use Rattle.std.proofs.lemmas.List.Sums.{take_while-cons}
-use Rattle.std.specs.Cmp.{both_ways, nat_cmp_total, IsTotalOrder}
-use Rattle.std.specs.declared.cmp.Ordering.{Ordering}
-use Rattle.std.specs.declared.cmp.Ordering.TheVariants.{Less, Equal, Greater}
-use Rattle.std.specs.FinMap as finite
+use Rattle.std.specs.Cmp.{IsTotalOrder}
 use Rattle.std.specs.FinMap.Entries.{put, by_order}
 use Rattle.std.specs.List.{IsDistinct, take_while}
 use Rattle.std.specs.List.Sorted.{IsStrictlySortedBy}
-use Rattle.std.specs.Ordering.{nat_cmp, ordering_then, eq_by_cmp, is_eq, is_le}
-use Rattle.order_text.specs.declared.order.Resting.{Resting}
-use Rattle.order_text.specs.Matching.{allows, in_order, partners, put_in, serving_cmp}
-use Rattle.order_text.specs.Orders.{OrderBook, by_number, is_on}
-use Rattle.order_text.specs.Ranges.{IsBookOf, IsRestingOrder}
-use Rattle.order_text.proofs.Members.{Has, has_filtered, filtered_has, of_one, of_every}
-use Rattle.order_text.proofs.Prices.{on_is, is_on_true}
-use Rattle.order_text.proofs.Serving.{none_tie, serving_total}
-use Rattle.order_text.proofs.Sorting.{in_order_has, has_in_order, in_order_sorted, one_sorted}
-use Rattle.order_match.specs.declared.layout.TheConstants.{HALF, PRICE_CEILING}
-use Rattle.order_match.specs.Layout.{side_at, side_of, resting_key, key_at}
-use Rattle.order_match.specs.Standing.{quantities_on}
+use Rattle.std.specs.Ordering.{is_eq, is_le}
+use Rattle.order_text.specs.Matching.{put_in}
+use Rattle.order_text.proofs.Prices.{is_on_true}
+use Rattle.order_match.specs.declared.layout.TheConstants.{PRICE_CEILING}
+use Rattle.std.specs.FinMap as finite
 
 -- the order of numbers
 pub nat_less : (a b : ℕ) → a < b → nat_cmp a b ≡ Less
@@ -173,22 +164,22 @@ module _ (instrument : ℕ) (buys : Bool) (orders : List Resting) (are : AreOrde
   abbrev pub on : List Resting
   on = filter (is_on instrument buys) orders
 
-  pub on_orders : AreOrders (filter (is_on instrument buys) orders)
+  pub on_orders : AreOrders on
   on_orders = fewer_orders (is_on instrument buys) orders are
 
-  pub side_is : (r : Resting) → Has r (filter (is_on instrument buys) orders) → r.buys ≡ buys
+  pub side_is : (r : Resting) → Has r on → r.buys ≡ buys
   side_is r h = (on_is instrument buys r (has_filtered (is_on instrument buys) orders r h).1).1
 
   pub trees_served : 1 ≤ instrument → finite.entries (quantities_on (side_at instrument buys) orders)
-      ≡ map (λ r. (resting_key r, r.quantity)) (in_order (serving_cmp buys) (filter (is_on instrument buys) orders))
+      ≡ map (λ r. (resting_key r, r.quantity)) (in_order (serving_cmp buys) on)
   trees_served low =
       ap (λ (rs : List Resting). finite.entries (finite.from_entries {R = nat_cmp} (map (λ (r : Resting). (resting_key r, r.quantity)) rs)))
       (filter_alike (λ r. side_of r == side_at instrument buys) (is_on instrument buys) orders
       (λ r h. on_side instrument buys r low (are.numbered r h)))
-      ∙ entries_in_order (serving_cmp buys) resting_key (λ r. r.quantity) (serving_total buys) (filter (is_on instrument buys) orders)
+      ∙ entries_in_order (serving_cmp buys) resting_key (λ r. r.quantity) (serving_total buys) on
       (λ x y h k. keys_served x y (on_orders.fit x h) (on_orders.fit y k) (side_is x h ∙ sym (side_is y k))
       ∙ ap (λ b. serving_cmp b x y) (side_is x h))
-      (none_tie buys (filter (is_on instrument buys) orders) on_orders.rising)
+      (none_tie buys on on_orders.rising)
 
 -- orders that pass a test, as they are served
 pub in_order_filter : (buys : Bool) (q : Resting → Bool) (orders : List Resting) → IsStrictlySortedBy by_number orders

@@ -1,12 +1,8 @@
 -- Sums over the numbers of parts, one of which may change.
-use Rattle.std.proofs.Common.{◌≡◌, ◌≢◌, ℕ, zero, suc, ◌+◌, ◌<◌, ◌≤◌, Bool, cond, ◌==◌, List, ◌∷◌, map, refl, sym, ap, arith, eq-eqb, ne_eqb}
-use mathlib.Core.Logic.{dite}
-use native.Mathlib.Decide.{ℕ_discrete}
+use Rattle.order_match.proofs.Common.{◌≡◌, ◌≢◌, ℕ, zero, suc, ◌+◌, ◌<◌, ◌≤◌, Bool, cond, ◌==◌, List, ◌∷◌, map, refl, sym, ap, arith, eq-eqb, ne_eqb, dite}
+use Rattle.order_match.proofs.Common.{ℕ_discrete, range_with_len, sum_by, sum_by-cons, Blocks, times_of}
+use Rattle.std.specs.List.{count_by}
 use Rattle.std.specs.FinSet as set
-use Rattle.std.specs.List.{count_by, range_with_len, sum_by}
-use Rattle.std.proofs.lemmas.List.Sums.{sum_by-cons}
-use Rattle.txn_alloc.specs.EntryMaps.{Blocks}
-use Rattle.txn_alloc.proofs.Maps.Counting.{times_of}
 
 -- numbers from one on: if two functions agree, and if they differ at one
 pub sum_alike : (a n : ℕ) (f g : ℕ → ℕ) → ((u : ℕ) → a ≤ u → f u ≡ g u) → sum_by f (range_with_len a n) ≡ sum_by g (range_with_len a n)

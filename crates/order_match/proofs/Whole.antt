@@ -1,34 +1,20 @@
 -- The book that words stand for is one, and takes the blocks that are not free.
-use Rattle.std.proofs.Common.{◌≡◌, ℕ, suc, ◌+◌, ◌-◌, ◌*◌, ◌/◌, ◌%◌, ◌<◌, ◌≤◌, ◌==◌, Bool, true, false, cond, inl, inr}
-use Rattle.std.proofs.Common.{List, [], ◌∷◌, filter, length, Option, Some, None, refl, sym, ap, ◌∙◌, subst, arith, eq-eqb, ne_eqb}
-use Rattle.std.proofs.lemmas.Bool.Decides.{nat_tests}
-use Rattle.std.proofs.lemmas.Option.{same_Some}
-use Rattle.std.specs.FinMap as finite
-use Rattle.std.specs.List.{range_with_len, sum_by}
+use Rattle.order_match.proofs.Common.{◌≡◌, ℕ, suc, ◌+◌, ◌-◌, ◌*◌, ◌/◌, ◌%◌, ◌<◌, ◌≤◌, ◌==◌, Bool, true, false, cond, inl, inr, List, [], ◌∷◌, filter, length}
+use Rattle.order_match.proofs.Common.{Option, Some, None, refl, sym, ap, ◌∙◌, subst, arith, eq-eqb, ne_eqb, nat_tests, same_Some, range_with_len, sum_by}
+use Rattle.order_match.proofs.Common.{nat_cmp, option_map, Less, Equal, IsWithin, Resting, OrderBook, blocks_of, by_number, order_at, IsBookOf, IsRestingOrder}
+use Rattle.order_match.proofs.Common.{Has, of_every, of_one, one_sorted, OrderShape, HALF, chains_of, key_at, resting_key, place_of, side_of, sides_of, tree_of}
+use Rattle.order_match.proofs.Common.{held_of, places_of, quantities_on, entries_in}
 use Rattle.std.specs.List.Sorted.{IsStrictlySortedBy}
-use Rattle.std.specs.Ordering.{nat_cmp}
-use Rattle.std.specs.Option.{option_map}
-use Rattle.std.specs.declared.cmp.Ordering.TheVariants.{Less, Equal}
-use Rattle.books_model.specs.Ranges.{IsWithin}
-use Rattle.order_text.specs.declared.order.Resting.{Resting}
-use Rattle.order_text.specs.Orders.{OrderBook, blocks_of, by_number, order_at}
-use Rattle.order_text.specs.Ranges.{IsBookOf, IsRestingOrder}
-use Rattle.order_text.proofs.Members.{Has, of_every, of_one}
 use Rattle.order_text.proofs.Serving.{number_total}
-use Rattle.order_text.proofs.Sorting.{one_sorted}
-use Rattle.txn_hash_map.proofs.OneMap as chains
-use Rattle.txn_tree_map.proofs.Maps as trees
-use Rattle.order_match.specs.declared.shape.OrderShape.{OrderShape}
-use Rattle.order_match.specs.declared.layout.TheConstants.{HALF}
-use Rattle.order_match.specs.Layout.{chains_of, key_at, resting_key, place_of, side_of, sides_of, tree_of}
-use Rattle.order_match.specs.Standing.{held_of, places_of, quantities_on}
-use Rattle.order_match.specs.Access.{entries_in}
 use Rattle.order_match.specs.Statements.{FreeBlocksCounted, FullWithoutTwo, OneBook}
 use Rattle.order_match.proofs.Books.{keys_number, order_is, order_there, place_found, price_there, quantity_found, side_told}
 use Rattle.order_match.proofs.Family.{counted}
 use Rattle.order_match.proofs.Sums.{sum_alike, sum_changed, sum_none}
 use Rattle.order_match.proofs.Keyed.{HaveKeys, len_map}
 use Rattle.order_match.proofs.Served.{AreOrders, fewer_orders, nat_equal, orders_of, sides_differ}
+use Rattle.std.specs.FinMap as finite
+use Rattle.txn_hash_map.proofs.OneMap as chains
+use Rattle.txn_tree_map.proofs.Maps as trees
 
 -- the side of an order whose instrument is one of the shape's is one of its sides
 pub side_in_range : (instruments : ℕ) (r : Resting) → IsWithin 1 instruments r.instrument → side_of r < 2 * instruments
@@ -92,6 +78,9 @@ one_book shape words book other h k =
     one_side r lt = (trees.one_map (tree_of shape (side_of r)) words (quantities_on (side_of r) book.orders) (quantities_on (side_of r) other.orders)
         (h.parts.side_used (side_of r)) (k.parts.side_used (side_of r)) (h.parts.trees (side_of r) lt) (k.parts.trees (side_of r) lt)).0
 
+abbrev quantity_in : Resting → ℕ
+quantity_in r = r.quantity
+
 -- orders whose numbers rise have different keys, if keys tell numbers
 keys_apart : (key value : Resting → ℕ) (rs : List Resting) → IsStrictlySortedBy by_number rs
     → ((x y : Resting) → Has x rs → Has y rs → key x ≡ key y → x.number ≡ y.number) → HaveKeys key value rs
@@ -107,25 +96,29 @@ pub places_many : (orders : List Resting) → AreOrders orders → finite.len (p
 places_many orders are = len_map (λ (r : Resting). r.number) place_of orders
     (keys_apart (λ (r : Resting). r.number) place_of orders are.rising (λ x y h k e. e))
 
+-- the orders of a side
+abbrev on_side : ℕ → List Resting → List Resting
+on_side side orders = filter (λ (r : Resting). side_of r == side) orders
+
 side_many : (side : ℕ) (orders : List Resting) → AreOrders orders
-    → finite.len (quantities_on side orders) ≡ length (filter (λ (r : Resting). side_of r == side) orders)
+    → finite.len (quantities_on side orders) ≡ length (on_side side orders)
 side_many side orders are =
     let on = fewer_orders (λ (r : Resting). side_of r == side) orders are in
-    len_map resting_key (λ (r : Resting). r.quantity) (filter (λ (r : Resting). side_of r == side) orders)
-    (keys_apart resting_key (λ (r : Resting). r.quantity) (filter (λ (r : Resting). side_of r == side) orders) on.rising
+    len_map resting_key quantity_in (on_side side orders)
+    (keys_apart resting_key quantity_in (on_side side orders) on.rising
     (λ x y h k e. keys_number x y (on.fit x h) (on.fit y k) e))
 
 -- each order is on one side
 all_sides : (n : ℕ) (orders : List Resting) → ((r : Resting) → Has r orders → side_of r < n)
-    → sum_by (λ side. length (filter (λ (r : Resting). side_of r == side) orders)) (range_with_len 0 n) ≡ length orders
-all_sides n [] within = sum_none 0 n (λ side. length (filter (λ (r : Resting). side_of r == side) [])) (λ t low high. refl)
+    → sum_by (λ side. length (on_side side orders)) (range_with_len 0 n) ≡ length orders
+all_sides n [] within = sum_none 0 n (λ side. length (on_side side [])) (λ t low high. refl)
 all_sides n (r ∷ rs) within =
-    let here : length (filter (λ (x : Resting). side_of x == side_of r) (r ∷ rs)) ≡ suc (length (filter (λ (x : Resting). side_of x == side_of r) rs)) =
-    ap (λ b. length (cond b (r ∷ filter (λ (x : Resting). side_of x == side_of r) rs) (filter (λ (x : Resting). side_of x == side_of r) rs)))
+    let here : length (on_side (side_of r) (r ∷ rs)) ≡ suc (length (on_side (side_of r) rs)) =
+    ap (λ b. length (cond b (r ∷ on_side (side_of r) rs) (on_side (side_of r) rs)))
     (eq-eqb (side_of r) (side_of r) refl) in
-    let changed = sum_changed 0 n (side_of r) (λ side. length (filter (λ (x : Resting). side_of x == side) (r ∷ rs)))
-    (λ side. length (filter (λ (x : Resting). side_of x == side) rs))
-    (λ side ne. ap (λ b. length (cond b (r ∷ filter (λ (x : Resting). side_of x == side) rs) (filter (λ (x : Resting). side_of x == side) rs)))
+    let changed = sum_changed 0 n (side_of r) (λ side. length (on_side side (r ∷ rs)))
+    (λ side. length (on_side side rs))
+    (λ side ne. ap (λ b. length (cond b (r ∷ on_side side rs) (on_side side rs)))
     (ne_eqb (side_of r) side (λ e. ne (sym e)))) (omega arith) (omega (arith, within r (inl refl))) in
     let rest = all_sides n rs (λ x h. within x (inr h)) in
     omega (arith, here, changed, rest)
@@ -139,7 +132,7 @@ entries_counted shape book is =
     let are = orders_of shape.instruments book is in
     let n = sides_of shape in
     let places = places_many book.orders are in
-    let sides = sum_same n (λ side. finite.len (quantities_on side book.orders)) (λ side. length (filter (λ (r : Resting). side_of r == side) book.orders))
+    let sides = sum_same n (λ side. finite.len (quantities_on side book.orders)) (λ side. length (on_side side book.orders))
     (λ side. side_many side book.orders are) in
     let all = all_sides n book.orders (λ r h. side_in shape.instruments r (of_every (IsRestingOrder shape.instruments) book.orders r is.each h)) in
     omega (arith, places, sides, all)

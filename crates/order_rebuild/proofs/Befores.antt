@@ -1,7 +1,6 @@
 -- Who stands before a place of a line.
+use Rattle.order_rebuild.proofs.Common.{Lines, items}
 use Rattle.std.specs.Prelude.{ℕ, slice_index}
-use Rattle.order_rebuild.specs.declared.lines.Lines.{Lines}
-use Rattle.order_rebuild.specs.Lines.{items}
 
 abbrev pub before_at : Lines → ℕ → ℕ
 before_at l i = slice_index l.before.items i

@@ -1,14 +1,9 @@
 -- The state before the first item.
-use Rattle.std.proofs.Common.{◌∷◌, ◌≡◌, ℕ, suc, ◌<◌, Bool, true, false, List, [], length, slice_get, slice_index, take, Some, refl, sym, ap, ◌∙◌, arith}
+use Rattle.order_rebuild.proofs.Common.{◌∷◌, ◌≡◌, ℕ, suc, ◌<◌, Bool, true, false, List, [], length, slice_get, slice_index, take, Some, refl, sym, ap, ◌∙◌}
+use Rattle.order_rebuild.proofs.Common.{arith, length-replicate, get_or-replicate, slice_get-get_or, Lines, places, items, item_at, last_of, AreRows, AreGone}
+use Rattle.order_rebuild.proofs.Common.{AreStopped, AreWaits, AreClosed, Comer, comer_cmp, AreReady, KeepsReady, Spot, IsNext}
 use Rattle.std.specs.BinaryHeap.{IsHeap}
 use Rattle.std.specs.Prelude.{replicate}
-use Rattle.std.proofs.lemmas.List.{length-replicate, get_or-replicate}
-use Rattle.std.proofs.lemmas.Option.{slice_get-get_or}
-use Rattle.order_rebuild.specs.declared.lines.Lines.{Lines}
-use Rattle.order_rebuild.specs.Lines.{places, items, item_at, last_of, AreRows}
-use Rattle.order_rebuild.specs.Going.{AreGone, AreStopped, AreWaits, AreClosed, Comer, comer_cmp, AreReady, KeepsReady}
-use Rattle.history_model.specs.declared.placed.Spot.{Spot}
-use Rattle.order_rebuild.specs.Order.{IsNext}
 use Rattle.order_rebuild.proofs.Come.{IsState}
 
 pub first_waits : (l : Lines) → AreRows l → (next wait : List ℕ) → wait ≡ l.last.items → AreWaits l next wait

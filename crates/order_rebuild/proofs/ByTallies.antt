@@ -1,20 +1,9 @@
 -- Versions followed and readers tallied: once all are placed the list is tallied, and on such a list the tallies say who may come.
-use Rattle.std.proofs.Common.{◌≡◌, ◌≢◌, ℕ, zero, suc, ◌+◌, ◌*◌, ◌<◌, ◌≤◌, Bool, true, false, ◌==◌, ◌⊎◌, inl, inr, ⊎_elim, List, [], ◌∷◌}
-use Rattle.std.proofs.Common.{length, slice_get, slice_set, Some, refl, sym, ap, ◌∙◌, subst, arith}
-use mathlib.Core.Logic.{dite}
-use native.Mathlib.Decide.{ℕ_discrete, dec_lt}
-use Rattle.std.proofs.lemmas.Bool.{cases_Bool, eqb-true}
-use Rattle.std.proofs.lemmas.Option.{slice_get_within}
-use Rattle.history_model.proofs.ListPlaces.{below_get}
-use Rattle.history_model.specs.Items.{UsedBefore}
-use Rattle.history_model.specs.Sets.{flag}
-use Rattle.history_model.specs.declared.item.LockUse.{LockUse}
-use Rattle.history_model.specs.declared.placed.Spot.{Spot}
-use Rattle.order_rebuild.specs.Turns.{use_key, IsRising}
+use Rattle.order_rebuild.proofs.Common.{◌≡◌, ◌≢◌, ℕ, zero, suc, ◌+◌, ◌*◌, ◌<◌, ◌≤◌, Bool, true, false, ◌==◌, ◌⊎◌, inl, inr, ⊎_elim, List, [], ◌∷◌, length}
+use Rattle.order_rebuild.proofs.Common.{slice_get, slice_set, Some, refl, sym, ap, ◌∙◌, subst, arith, dite, ℕ_discrete, dec_lt, cases_Bool, eqb-true}
+use Rattle.order_rebuild.proofs.Common.{slice_get_within, below_get, UsedBefore, flag, LockUse, Spot, use_key, IsRising, is_of, is_at, MayUse, IsStep}
 use Rattle.order_rebuild.proofs.UseCounts.{count_uses, count_all}
-use Rattle.order_rebuild.specs.Counts.{is_of, is_at}
 use Rattle.order_rebuild.proofs.TalliedItems.{is_reader, placed_of, IsWritten, IsOnce, AreTallied, IsTallied}
-use Rattle.order_rebuild.specs.Tallied.{MayUse, IsStep}
 use Rattle.order_rebuild.proofs.Codes.{same_there, used_from}
 use Rattle.order_rebuild.proofs.Counts.{uses_none, uses_some, of_is, is_at_is, and_both, all_cons, uses_cons}
 use Rattle.order_rebuild.proofs.Due.{one_use}
@@ -314,9 +303,6 @@ tallied_first list left rows version readers all nought full = record {
 module _ (list : List Spot) (left : List Bool) (rows : ℕ → ℕ → ℕ) (version readers new_version new_readers : ℕ → ℕ)
     (are : AreTallied list left rows version readers) (p : ℕ) (s : Spot) (at : slice_get list p ≡ Some s)
     (mark : slice_get left p ≡ Some true) (step : IsStep s.uses rows version readers new_version new_readers) where
-  marked : List Bool
-  marked = slice_set left p false
-
   -- who is placed now was, or is the item
   was : (q : ℕ) → slice_get (slice_set left p false) q ≡ Some false → (q ≡ p) ⊎ (slice_get left q ≡ Some false)
   was q m = dite (ℕ_discrete q p) inl (λ n. inr (sym (set_other left p q false n) ∙ m))

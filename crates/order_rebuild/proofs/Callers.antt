@@ -1,14 +1,7 @@
 -- The lanes of a list.
-use Rattle.std.proofs.Common.{◌≡◌, ℕ, zero, suc, ◌+◌, ◌-◌, ◌<◌, ◌≤◌, true, ⊎_elim, List, [], ◌∷◌}
-use Rattle.std.proofs.Common.{◌++◌, length, slice_get, replicate, Some, sym, ap, ◌∙◌, subst, arith}
-use mathlib.Core.Logic.{dite}
-use native.Mathlib.Decide.{ℕ_discrete, dec_lt}
-use Rattle.std.proofs.lemmas.Option.{slice_get_within}
-use Rattle.history_model.proofs.ListPlaces.{below_get, get_first, get_last, get_cases}
-use Rattle.history_model.specs.declared.placed.Spot.{Spot}
-use Rattle.order_rebuild.specs.Lanes.{IsLane, AreCut, AreLanes}
-use Rattle.order_rebuild.specs.declared.lanes.Lane.{Lane}
-use Rattle.std.proofs.lemmas.List.{length-replicate}
+use Rattle.order_rebuild.proofs.Common.{◌≡◌, ℕ, zero, suc, ◌+◌, ◌-◌, ◌<◌, ◌≤◌, true, ⊎_elim, List, [], ◌∷◌, ◌++◌, length, slice_get, replicate, Some, sym, ap}
+use Rattle.order_rebuild.proofs.Common.{◌∙◌, subst, arith, dite, ℕ_discrete, dec_lt, slice_get_within, below_get, get_first, get_last, get_cases, Spot, IsLane}
+use Rattle.order_rebuild.proofs.Common.{AreCut, AreLanes, Lane, length-replicate}
 use Rattle.order_rebuild.proofs.Codes.{same_there}
 use Rattle.order_rebuild.proofs.Begin.{all_marked}
 
@@ -43,9 +36,6 @@ module _ (list : List Spot) (start end : ℕ) (low : start < end) (inside : end 
     caller = λ p s w e. sym (along (p - start) start p first s (let l = w.0 in omega arith) (omega arith) w.1 at e).0;
     rises = λ p q x y w lt h ex ey. (along (q - p) p q x y (omega arith) w.0 h ex ey).1 (omega arith);
   }
-
-pub cut_first : (list : List Spot) → AreCut list 0 []
-cut_first list = record { each = λ i lane e. absurd (cc); all = λ p l. absurd (omega arith) }
 
 -- one lane more
 pub cut_more : (list : List Spot) (next : ℕ) (lanes : List Lane) (lane : Lane) → AreCut list next lanes → IsLane list lane

@@ -1,17 +1,8 @@
 -- Places in lines: one item has one place in a line, and the order of places is the order of uses.
-use Rattle.std.proofs.Common.{◌≡◌, ◌≢◌, ℕ, ◌+◌, ◌*◌, ◌/◌, ◌<◌, ◌≤◌, Bool, true, false, ◌⊎◌, inl, inr, ⊎_elim, List, slice_get, Some, refl, sym, ap, ◌∙◌, subst}
-use Rattle.std.proofs.Common.{arith}
-use mathlib.Core.Logic.{dite}
-use native.Mathlib.Decide.{dec_lt}
-use Rattle.std.proofs.lemmas.Bool.{cases_Bool}
-use Rattle.std.proofs.lemmas.Option.{slice_get_within}
-use Rattle.history_model.specs.declared.item.LockUse.{LockUse}
-use Rattle.history_model.specs.Items.{UsedBefore}
-use Rattle.history_model.specs.Sets.{flag}
-use Rattle.order_rebuild.specs.declared.turn.TheConstants.{LINE}
-use Rattle.history_model.specs.declared.placed.Spot.{Spot}
-use Rattle.order_rebuild.specs.Order.{Precedes, Orderable}
-use Rattle.order_rebuild.specs.Turns.{use_key, IsRising, HasAbove, IsLockCode, line_place, IsTurnOf}
+use Rattle.order_rebuild.proofs.Common.{◌≡◌, ◌≢◌, ℕ, ◌+◌, ◌*◌, ◌/◌, ◌<◌, ◌≤◌, Bool, true, false, ◌⊎◌, inl, inr, ⊎_elim, List, slice_get, Some, refl, sym, ap}
+use Rattle.order_rebuild.proofs.Common.{◌∙◌, subst, arith, dite, dec_lt, cases_Bool, slice_get_within, LockUse, UsedBefore, flag, LINE, Spot, Precedes}
+use Rattle.order_rebuild.proofs.Common.{Orderable, use_key, IsLockCode, line_place, IsTurnOf}
+use Rattle.order_rebuild.specs.Turns.{HasAbove}
 
 -- what stands at a place is one alone
 pub same_there : {A : Type 0} (xs : List A) (i : ℕ) (x y : A) → slice_get xs i ≡ Some x → slice_get xs i ≡ Some y → x ≡ y
@@ -167,23 +158,3 @@ one_way list o p q x y ex ey n a b = dite (dec_lt (o.number p) (o.number q))
     (λ m. dite (dec_lt (o.number q) (o.number p))
     (λ l. o.in_order q p y x ey ex l a)
     (λ k. n (o.own p q (slice_get_within list p x ex) (slice_get_within list q y ey) (omega arith))))
-
--- if locks rise there is one use of each
-pub rising_code : (us : List LockUse) (i c : ℕ) (u : LockUse) → IsRising us → slice_get us i ≡ Some u
-    → c ≡ (2 * u.lock) * LINE + (2 * use_key u + flag false) → 2 * use_key u + flag false < LINE → IsLockCode us u.lock c
-rising_code us i c u rising at is fits = record {
-  low = use_key u;
-  wide = false;
-  least = record { has = (i, u, at, refl, refl); least = λ j v e l. let s = ap use_key (one j v e l) in omega arith };
-  above = (λ t. absurd (no t), λ h. absurd (let s = ap use_key (one h.0 h.1 h.2 h.3) in let l = h.4 in omega arith));
-  is = is;
-  fits = fits;
-}
-  where
-    no : false ≡ true → ⊥
-    no e = cc
-
-    one : (j : ℕ) (v : LockUse) → slice_get us j ≡ Some v → v.lock ≡ u.lock → v ≡ u
-    one j v e l = dite (dec_lt j i) (λ h. absurd (let r = rising j i v u e at h in omega arith))
-        (λ n. dite (dec_lt i j) (λ h. absurd (let r = rising i j u v at e h in omega arith))
-        (λ m. let s : j ≡ i = omega arith in same_there us i v u (ap (λ (k : ℕ). slice_get us k) (sym s) ∙ e) at))

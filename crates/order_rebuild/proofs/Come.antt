@@ -1,22 +1,14 @@
 -- The items that wait nowhere are those that may come, and the list gives the one of the least caller.
-use Rattle.std.proofs.Common.{◌≡◌, ◌≢◌, ℕ, zero, suc, ◌<◌, ◌≤◌, Bool, true, false, ◌⊎◌, inl, inr, ⊎_elim, List, [], ◌∷◌, length, slice_get, slice_index}
-use Rattle.std.proofs.Common.{slice_set, Some, refl, sym, ap, ◌∙◌, subst, arith}
-use mathlib.Core.Logic.{dite}
-use native.Mathlib.Decide.{ℕ_discrete, dec_lt}
+use Rattle.order_rebuild.proofs.Common.{◌≡◌, ◌≢◌, ℕ, zero, suc, ◌<◌, ◌≤◌, Bool, true, false, ◌⊎◌, inl, inr, ⊎_elim, List, [], ◌∷◌, length, slice_get}
+use Rattle.order_rebuild.proofs.Common.{slice_index, slice_set, Some, refl, sym, ap, ◌∙◌, subst, arith, dite, ℕ_discrete, dec_lt, IsPermutation}
+use Rattle.order_rebuild.proofs.Common.{All-permutation, slice_get_within, below_get, Lines, Spot, places, items, item_at, base_at, first_at, caller_of}
+use Rattle.order_rebuild.proofs.Common.{AreLines, AreGone, AreStopped, AreWaits, AreClosed, Comer, comer_cmp, IsKnown, count_of, AreReady}
 use Rattle.std.specs.List.{All, AllByRecursion}
-use Rattle.std.specs.List.Sorted.{IsPermutation}
 use Rattle.std.specs.BinaryHeap.{PopsGreatest}
 use Rattle.std.specs.Ordering.{is_lt}
-use Rattle.std.proofs.lemmas.List.Sorted.{All-permutation}
 use Rattle.std.proofs.lemmas.List.Elements.{All-tail}
 use Rattle.std.proofs.lemmas.Bool.{lt-ltb}
-use Rattle.std.proofs.lemmas.Option.{slice_get_within}
-use Rattle.history_model.proofs.ListPlaces.{below_get}
-use Rattle.order_rebuild.specs.declared.lines.Lines.{Lines}
-use Rattle.history_model.specs.declared.placed.Spot.{Spot}
 use Rattle.order_rebuild.proofs.Open.{OpenAt, NoneOpen, LeastOpen}
-use Rattle.order_rebuild.specs.Lines.{places, items, item_at, base_at, first_at, caller_of, AreLines}
-use Rattle.order_rebuild.specs.Going.{AreGone, AreStopped, AreWaits, AreClosed, Comer, comer_cmp, IsKnown, count_of, AreReady}
 use Rattle.order_rebuild.proofs.Marks.{set_same, set_other}
 use Rattle.order_rebuild.proofs.Waits.{count_same, count_other, count_moved}
 

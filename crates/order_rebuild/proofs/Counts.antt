@@ -1,13 +1,9 @@
 -- Sums over the uses of calls.
-use Rattle.std.proofs.Common.{◌≡◌, ℕ, zero, suc, ◌+◌, ◌<◌, Bool, true, false, ◌&&◌, ◌==◌, ⊎_elim, List, [], ◌∷◌, slice_get, Some, refl, arith}
-use Rattle.std.proofs.lemmas.Bool.{cases_Bool, eq-eqb, eqb-true}
-use Rattle.std.proofs.lemmas.List.Sums.{sum_by-cons}
-use Rattle.history_model.specs.Sets.{flag}
-use Rattle.history_model.specs.declared.item.LockUse.{LockUse}
-use Rattle.history_model.specs.declared.placed.Spot.{Spot}
-use Rattle.order_rebuild.specs.Turns.{use_key}
+use Rattle.order_rebuild.proofs.Common.{◌≡◌, ℕ, zero, suc, ◌+◌, ◌<◌, Bool, true, false, ◌==◌, ⊎_elim, List, [], ◌∷◌, slice_get, Some, refl, arith, cases_Bool}
+use Rattle.order_rebuild.proofs.Common.{eqb-true, sum_by-cons, flag, LockUse, Spot, use_key, is_of, is_at}
+use Rattle.std.proofs.Common.{◌&&◌}
+use Rattle.std.proofs.lemmas.Bool.{eq-eqb}
 use Rattle.order_rebuild.proofs.UseCounts.{count_uses, count_all}
-use Rattle.order_rebuild.specs.Counts.{is_of, is_at}
 
 -- one use more in front
 pub uses_cons : (f : LockUse → Bool) (u : LockUse) (us : List LockUse) → count_uses f (u ∷ us) ≡ flag (f u) + count_uses f us

@@ -1,10 +1,5 @@
 -- Uses before others, and of one lock.
-use Rattle.std.proofs.Common.{◌≡◌, ℕ, ◌<◌, List, slice_get, Some, refl, ap, ◌∙◌, arith}
-use mathlib.Core.Logic.{dite}
-use native.Mathlib.Decide.{dec_lt}
-use Rattle.history_model.specs.Items.{UsedBefore}
-use Rattle.history_model.specs.declared.item.LockUse.{LockUse}
-use Rattle.order_rebuild.specs.Turns.{use_key, IsRising}
+use Rattle.order_rebuild.proofs.Common.{◌≡◌, ℕ, ◌<◌, List, slice_get, Some, refl, ap, ◌∙◌, arith, dite, dec_lt, UsedBefore, LockUse, use_key, IsRising}
 use Rattle.order_rebuild.proofs.Codes.{same_there, lower}
 
 -- a use before another: of one lock, with the lower key

@@ -1,14 +1,7 @@
 -- The locks go on by one use more.
-use Rattle.std.proofs.Common.{◌≡◌, ◌≢◌, ℕ, ◌+◌, ◌<◌, true, false, List, map, slice_get, slice_index, slice_set, get_or, take, Some, sym, ap, ◌∙◌}
-use Rattle.std.proofs.Common.{subst, arith, Vec, Global, get_or-set_same, get_or-set_other}
-use mathlib.Core.Logic.{dite}
-use native.Mathlib.Decide.{ℕ_discrete}
-use Rattle.std.proofs.lemmas.Option.{slice_get_within, get_or_from_slice_get}
-use Rattle.history_model.proofs.ListPlaces.{at_map, get-front, front-get}
-use Rattle.history_model.specs.declared.item.LockUse.{LockUse}
-use Rattle.order_rebuild.specs.Tallied.{MayUse, IsStep}
-use Rattle.order_rebuild.specs.Tallies.{no_tally, row_at, version_at, left_at}
-use Rattle.order_rebuild.specs.declared.tallied.Tally.{Tally}
+use Rattle.order_rebuild.proofs.Common.{◌≡◌, ◌≢◌, ℕ, ◌+◌, ◌<◌, true, false, List, map, slice_get, slice_index, slice_set, get_or, take, Some, sym, ap, ◌∙◌}
+use Rattle.order_rebuild.proofs.Common.{subst, arith, Vec, Global, get_or-set_same, get_or-set_other, dite, ℕ_discrete, slice_get_within, get_or_from_slice_get}
+use Rattle.order_rebuild.proofs.Common.{at_map, get-front, front-get, LockUse, MayUse, IsStep, no_tally, row_at, version_at, left_at, Tally}
 use Rattle.order_rebuild.proofs.Codes.{same_there}
 
 module _ (us : List LockUse) (i : ℕ) (rows : ℕ → ℕ → ℕ) (version readers v r : ℕ → ℕ) (u : LockUse) (at : slice_get us i ≡ Some u)

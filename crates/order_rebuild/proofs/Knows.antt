@@ -1,14 +1,7 @@
 -- What is known of the first items of lanes.
-use Rattle.std.proofs.Common.{◌≡◌, ℕ, ◌<◌, ◌≤◌, List, length, map, slice_get, slice_index, slice_set, get_or, Some, refl, sym, ap, ◌∙◌, subst, arith}
-use mathlib.Core.Logic.{dite}
-use native.Mathlib.Decide.{ℕ_discrete}
-use Rattle.std.proofs.lemmas.Option.{slice_get_read}
-use Rattle.history_model.proofs.ListPlaces.{at_map}
-use Rattle.history_model.specs.declared.item.LockUse.{LockUse}
-use Rattle.history_model.specs.declared.placed.Spot.{Spot}
-use Rattle.order_rebuild.specs.Tallies.{MayUseBelow, MayUseAll, AreKnownOf, AreKnownUses, MayStart}
-use Rattle.order_rebuild.specs.declared.lanes.Lane.{Lane}
-use Rattle.order_rebuild.specs.declared.tallied.Tally.{Tally}
+use Rattle.order_rebuild.proofs.Common.{◌≡◌, ℕ, ◌<◌, ◌≤◌, List, length, map, slice_get, slice_index, slice_set, get_or, Some, refl, sym, ap, ◌∙◌, subst, arith}
+use Rattle.order_rebuild.proofs.Common.{dite, ℕ_discrete, slice_get_read, at_map, LockUse, Spot, MayUseBelow, AreKnownUses, MayStart, Lane, Tally}
+use Rattle.order_rebuild.specs.Tallies.{MayUseAll, AreKnownOf}
 use Rattle.order_rebuild.proofs.Codes.{same_there}
 use Rattle.order_rebuild.proofs.Waits.{same_there as set_there, other_there}
 
@@ -23,9 +16,6 @@ module _ {X : Type 0} (spot : X → Spot) (done : List X) (tallies : List Tally)
 
   pub known_to : (n : ℕ) → AreKnownOf (map spot done) tallies lane n → MayUseBelow tallies us n
   known_to n known j u e l = known (spot x) some at j u (subst (λ (ws : List LockUse). slice_get ws j ≡ Some u) uses e) l
-
-  pub known_from : (n : ℕ) → MayUseBelow tallies us n → AreKnownOf (map spot done) tallies lane n
-  known_from n below s full e j u f l = below j u (subst (λ (ws : List LockUse). slice_get ws j ≡ Some u) (sym (there s e)) f) l
 
   pub starts_to : MayStart (map spot done) tallies lane → MayUseAll tallies us
   starts_to start j u e = start.1 (spot x) at j u (subst (λ (ws : List LockUse). slice_get ws j ≡ Some u) uses e)

@@ -1,16 +1,11 @@
 -- The entries in the order of their calls are in the order of their uses.
-use Rattle.std.proofs.Common.{◌≡◌, ℕ, inl, List, slice_get, get_or, Some, sym, ap, ◌∙◌, arith, ◌<◌, inr, ⊎_elim, length}
-use mathlib.Core.Logic.{dite}
-use native.Mathlib.Decide.{ℕ_discrete, dec_lt}
+use Rattle.order_rebuild.proofs.Common.{◌≡◌, ℕ, inl, List, slice_get, get_or, Some, sym, ap, ◌∙◌, arith, ◌<◌, inr, ⊎_elim, length, dite, ℕ_discrete, dec_lt}
+use Rattle.order_rebuild.proofs.Common.{LockUse, UsedBefore, slice_get_within, slice_get-get_or, at_map, below_get, Spot, IsOrder, Orderable, entries_at}
+use Rattle.history_model.proofs.Common.{KeepsUses, IsArrangement}
 use Rattle.history_model.specs.declared.item.Item.{Item}
-use Rattle.history_model.specs.declared.item.LockUse.{LockUse}
-use Rattle.history_model.specs.Items.{UsedBefore, KeepsUses}
-use Rattle.history_model.specs.Arrangements.{IsArrangement, WasSeenBefore}
-use Rattle.std.proofs.lemmas.Option.{slice_get_within, slice_get-get_or}
-use Rattle.history_model.proofs.ListPlaces.{map_at, at_map, below_get}
-use Rattle.history_model.specs.declared.placed.Spot.{Spot}
-use Rattle.order_rebuild.specs.Order.{IsOrder, Orderable}
-use Rattle.order_rebuild.specs.Legal.{SameUses, AreEntries, entries_at}
+use Rattle.history_model.specs.Arrangements.{WasSeenBefore}
+use Rattle.history_model.proofs.ListPlaces.{map_at}
+use Rattle.order_rebuild.specs.Legal.{SameUses, AreEntries}
 use Rattle.order_rebuild.proofs.Stuck.{order_once, order_keeps}
 
 -- who comes before by some uses does so by others with the same members

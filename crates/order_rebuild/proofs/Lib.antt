@@ -1,3 +1,5 @@
+-- what several proofs import
+pub mod Common
 -- who stands before a place of a line
 pub mod Befores
 -- the items that may come, by the marks of what is left

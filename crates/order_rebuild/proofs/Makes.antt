@@ -1,18 +1,9 @@
 -- The lists that lines are made of, one place more.
-use Rattle.std.proofs.Common.{◌≡◌, ◌≢◌, ℕ, zero, suc, ◌+◌, ◌<◌, ◌≤◌, ◌⊎◌, inl, inr, ⊎_elim, List, [], ◌∷◌, ◌++◌, length, slice_get, slice_index, slice_set}
-use Rattle.std.proofs.Common.{Some, refl, sym, ap, ◌∙◌, subst, arith, get_or-set_same, get_or-set_other}
-use mathlib.Core.Logic.{dite}
-use native.Mathlib.Decide.{ℕ_discrete, dec_lt}
-use Rattle.std.specs.List.Sorted.{IsPermutation}
-use Rattle.std.proofs.lemmas.List.Sorted.{Contains-permutation, IsPermutation-sym}
-use Rattle.std.proofs.lemmas.Option.{slice_get_within, slice_get-get_or, get_or_from_slice_get}
-use Rattle.history_model.specs.declared.item.LockUse.{LockUse}
-use Rattle.history_model.proofs.ListPlaces.{get_first, get_last, get_cases}
-use Rattle.order_rebuild.specs.declared.turn.TheConstants.{LINE}
-use Rattle.history_model.specs.declared.placed.Spot.{Spot}
-use Rattle.order_rebuild.specs.declared.turn.Turn.{Turn}
-use Rattle.order_rebuild.specs.Turns.{IsLockCode, line_place, IsTurnOf, HasTurn, AreTurns, GainTurns}
-use Rattle.order_rebuild.specs.Lines.{AreStarts, AreChains}
+use Rattle.order_rebuild.proofs.Common.{◌≡◌, ℕ, zero, suc, ◌+◌, ◌<◌, ◌≤◌, ◌⊎◌, inl, inr, ⊎_elim, List, [], ◌∷◌, ◌++◌, length, slice_get, slice_index, Some}
+use Rattle.order_rebuild.proofs.Common.{refl, sym, ap, ◌∙◌, subst, arith, dite, ℕ_discrete, dec_lt, IsPermutation, IsPermutation-sym, slice_get_within}
+use Rattle.order_rebuild.proofs.Common.{slice_get-get_or, get_or_from_slice_get, LockUse, get_first, get_last, get_cases, LINE, Spot, Turn, IsLockCode}
+use Rattle.order_rebuild.proofs.Common.{line_place, IsTurnOf, HasTurn, AreTurns, GainTurns, AreStarts}
+use Rattle.std.proofs.lemmas.List.Sorted.{Contains-permutation}
 
 pub index_left : (xs : List ℕ) (y k : ℕ) → k < length xs → slice_index (xs ++ y ∷ []) k ≡ slice_index xs k
 index_left [] y k l = absurd (omega arith)
@@ -34,9 +25,6 @@ pub record IsRun (f : ℕ → ℕ) (i start : ℕ) : Type 0 where
   pub same : (j : ℕ) → start ≤ j → j < i → f j ≡ f start
   pub less : (j : ℕ) → j < start → f j < f start
 
-pub run_first : (f : ℕ → ℕ) → IsRun f 0 0
-run_first f = record { low = omega arith; same = λ j a b. absurd (omega arith); less = λ j a. absurd (omega arith) }
-
 pub run_on : (f : ℕ → ℕ) (i start : ℕ) → IsRun f i start → f i ≡ f start → IsRun f (i + 1) start
 run_on f i start r e = record {
   low = let l = r.low in omega arith;
@@ -52,9 +40,6 @@ run_new f i start r up n = record {
   less = λ j a. dite (dec_lt j start) (λ l. let h = r.less j l in omega arith) (λ l. let h = r.same j (omega arith) a in
       dite (dec_lt (f j) (f i)) (λ z. z) (λ z. absurd (n (omega arith))));
 }
-
-pub starts_first : (f : ℕ → ℕ) → AreStarts f 0 []
-starts_first f = record { count = refl; low = λ i l. absurd (omega arith); same = λ i j l. absurd (omega arith); less = λ i j l. absurd (omega arith) }
 
 pub starts_more : (f : ℕ → ℕ) (i start : ℕ) (starts : List ℕ) → AreStarts f i starts → IsRun f (i + 1) start → start ≤ i
     → AreStarts f (i + 1) (starts ++ start ∷ [])
@@ -75,59 +60,6 @@ starts_more f i start starts s r le = record {
         ⊎ ((k ≡ i) × (slice_index (starts ++ start ∷ []) k ≡ start))
     at k lt = let c = s.count in dite (dec_lt k i) (λ l. inl (l, index_left starts start k (omega arith)))
         (λ n. inr (omega arith, index_end starts start k (omega arith)))
-
-pub chains_first : (item last : List ℕ) (n : ℕ) → ((p : ℕ) → slice_index last p ≡ 0) → AreChains item 0 n [] last
-chains_first item last n empty = record {
-  count = refl;
-  below = λ i l. absurd (omega arith);
-  own = λ i k l. absurd (omega arith);
-  none = λ i k l. absurd (omega arith);
-  last_most = λ p l. let e = empty p in omega arith;
-  last_own = λ p k l e. absurd (let z = empty p in omega arith);
-  last_none = λ p k l a b. absurd (omega arith);
-}
-
-pub chains_more : (item : List ℕ) (i n p : ℕ) (before last : List ℕ) → AreChains item i n before last → p ≡ slice_index item i → p < n → n ≤ length last
-    → AreChains item (i + 1) n (before ++ slice_index last p ∷ []) (slice_set last p (i + 1))
-chains_more item i n p before last c is inside long = record {
-  count = let n = c.count in let e = length_end before (slice_index last p) in omega arith;
-  below = λ k lt. ⊎_elim (λ t. let h = c.below k t.0 in let e = t.1 in omega arith) (λ t. let e = t.1 in let z = t.0 in
-      let m = c.last_most p inside in omega arith) (at k lt);
-  own = λ k j lt e. ⊎_elim
-      (λ t. c.own k j t.0 (sym t.1 ∙ e))
-      (λ t. c.last_own p j inside (sym t.1 ∙ e) ∙ (is ∙ ap (λ (n : ℕ). slice_index item n) (sym t.0)))
-      (at k lt);
-  none = λ k j lt a b. ⊎_elim
-      (λ t. c.none k j t.0 (let e = t.1 in omega arith) b)
-      (λ t s. c.last_none p j inside (let e = t.1 in omega arith) (let z = t.0 in omega arith) (s ∙ (ap (λ (n : ℕ). slice_index item n) t.0 ∙ sym is)))
-      (at k lt);
-  last_most = λ q l. ⊎_elim (λ t. let e = t.1 in omega arith) (λ t. let e = t.1 in let h = c.last_most q l in omega arith) (last_at q);
-  last_own = λ q k l e. ⊎_elim
-      (λ t. let z = t.1 in ap (λ (n : ℕ). slice_index item n) (omega arith) ∙ (sym is ∙ sym t.0))
-      (λ t. c.last_own q k l (sym t.1 ∙ e))
-      (last_at q);
-  last_none = λ q k l a b. ⊎_elim
-      (λ t. absurd (let z = t.1 in omega arith))
-      (λ t. dite (ℕ_discrete k i)
-      (λ s e. t.0 (sym e ∙ (ap (λ (n : ℕ). slice_index item n) s ∙ sym is)))
-      (λ n. c.last_none q k l (let z = t.1 in omega arith) (omega arith)))
-      (last_at q);
-}
-  where
-    at : (k : ℕ) → k < i + 1 → ((k < i) × (slice_index (before ++ slice_index last p ∷ []) k ≡ slice_index before k))
-        ⊎ ((k ≡ i) × (slice_index (before ++ slice_index last p ∷ []) k ≡ slice_index last p))
-    at k lt = let n = c.count in dite (dec_lt k i)
-        (λ l. inl (l, index_left before (slice_index last p) k (omega arith))) (λ m. inr (omega arith, index_end before (slice_index last p) k (omega arith)))
-
-    last_at : (q : ℕ) → ((q ≡ p) × (slice_index (slice_set last p (i + 1)) q ≡ i + 1))
-        ⊎ ((q ≢ p) × (slice_index (slice_set last p (i + 1)) q ≡ slice_index last q))
-    last_at q = dite (ℕ_discrete q p)
-        (λ s. inl (s, ap (λ (n : ℕ). slice_index (slice_set last p (i + 1)) n) s ∙ get_or-set_same last p (i + 1) 0 (omega arith)))
-        (λ n. inr (n, get_or-set_other last p q (i + 1) 0 n))
-
--- turns, one more
-pub gain_first : (us : List LockUse) (p : ℕ) (turns : List Turn) → GainTurns us p 0 turns turns
-gain_first us p turns = record { kept = λ i t e. e; sound = λ i t e. inl e; whole = λ j u l. absurd (omega arith) }
 
 pub has_kept : (xs ys : List Turn) (p c : ℕ) → ((i : ℕ) (t : Turn) → slice_get xs i ≡ Some t → slice_get ys i ≡ Some t) → HasTurn xs p c → HasTurn ys p c
 has_kept xs ys p c kept h = (h.0, kept h.0 (record { code = c; item = p }) h.1)
@@ -159,9 +91,6 @@ turn_of_caller s p = record { code = line_place s.caller s.index; item = p }
 
 abbrev with_caller : List Turn → Spot → ℕ → List Turn
 with_caller turns s p = turns ++ turn_of_caller s p ∷ []
-
-pub turns_first : (list : List Spot) → AreTurns list 0 []
-turns_first list = record { sound = λ i t e. absurd (cc); of_uses = λ p s j u l. absurd (omega arith); of_caller = λ p s l. absurd (omega arith) }
 
 pub turns_more : (list : List Spot) (p : ℕ) (s : Spot) (old new : List Turn) → AreTurns list p old
     → slice_get list p ≡ Some s → GainTurns s.uses p (length s.uses) old new → s.index < LINE

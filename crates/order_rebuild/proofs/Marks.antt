@@ -1,16 +1,9 @@
 -- The marks of what is left.
-use Rattle.std.proofs.Common.{◌≡◌, ℕ, zero, suc, ◌<◌, Bool, true, false, ⊎_elim, List, [], ◌∷◌, ◌++◌, length, slice_get, slice_set, take, Some, refl, sym, ap}
-use Rattle.std.proofs.Common.{◌∙◌, subst, arith}
-use Rattle.std.proofs.lemmas.List.{length-set, take-append-le, take_all}
-use Rattle.std.specs.Prelude.{if◌then◌else◌}
-use mathlib.Core.Logic.{dite}
-use native.Mathlib.Decide.{ℕ_discrete}
-use Rattle.history_model.specs.Legal.{IsIn}
-use Rattle.std.proofs.lemmas.Option.{slice_get_within}
-use Rattle.history_model.proofs.ListPlaces.{below_get, get_first, get_last, get_cases}
-use Rattle.history_model.specs.declared.placed.Spot.{Spot}
+use Rattle.order_rebuild.proofs.Common.{◌≡◌, ℕ, zero, suc, ◌<◌, Bool, true, false, ⊎_elim, List, [], ◌∷◌, ◌++◌, length, slice_get, slice_set, take, Some, refl}
+use Rattle.order_rebuild.proofs.Common.{sym, ap, ◌∙◌, subst, arith, take_all, if◌then◌else◌, dite, ℕ_discrete, IsIn, slice_get_within, below_get, get_first}
+use Rattle.order_rebuild.proofs.Common.{get_last, get_cases, Spot, MayCome, IsNext, IsOrder, Orderable}
+use Rattle.std.proofs.lemmas.List.{length-set, take-append-le}
 use Rattle.order_rebuild.proofs.Open.{IsRest, OpenAt, NoneOpen, LeastOpen}
-use Rattle.order_rebuild.specs.Order.{MayCome, IsNext, IsOrder, Orderable}
 use Rattle.order_rebuild.proofs.Stuck.{is_in, not_stuck}
 
 pub set_same : {A : Type 0} (s : List A) (i : ℕ) (w v : A) → slice_get s i ≡ Some w → slice_get (slice_set s i v) i ≡ Some v

@@ -1,8 +1,6 @@
 -- The items that are left, and those of them that may come.
+use Rattle.order_rebuild.proofs.Common.{IsIn, Spot, Precedes}
 use Rattle.std.specs.Prelude.{◌≡◌, ◌≢◌, ℕ, ◌≤◌, Bool, true, false, List, slice_get, length, Some}
-use Rattle.history_model.specs.Legal.{IsIn}
-use Rattle.history_model.specs.declared.placed.Spot.{Spot}
-use Rattle.order_rebuild.specs.Order.{Precedes}
 
 -- the marks of those that are not placed
 pub record IsRest (list : List Spot) (placed : List ℕ) (left : List Bool) : Type 0 where

@@ -1,22 +1,12 @@
 -- One item more in the order, by the tallies.
-use Rattle.std.proofs.Common.{◌≡◌, ℕ, ◌<◌, ◌≤◌, Bool, true, false, ⊎_elim, inl, List, [], ◌∷◌, ◌++◌, length, slice_get, slice_index, slice_set, take}
-use Rattle.std.proofs.Common.{replicate, Some, sym, ap, ◌∙◌, subst, arith, Vec, Global, length-set}
-use mathlib.Core.Logic.{dite}
-use native.Mathlib.Decide.{ℕ_discrete, dec_lt}
-use Rattle.std.proofs.lemmas.Option.{slice_get_within}
-use Rattle.std.proofs.lemmas.List.{length-replicate, get_or-replicate, get_or_past}
-use Rattle.history_model.proofs.ListPlaces.{below_get}
-use Rattle.history_model.specs.Items.{UsedBefore}
-use Rattle.history_model.specs.Legal.{IsIn}
-use Rattle.history_model.specs.declared.placed.Spot.{Spot}
+use Rattle.order_rebuild.proofs.Common.{◌≡◌, ℕ, ◌<◌, ◌≤◌, Bool, true, false, ⊎_elim, inl, List, [], ◌∷◌, ◌++◌, length, slice_get, slice_index, slice_set, take}
+use Rattle.order_rebuild.proofs.Common.{replicate, Some, sym, ap, ◌∙◌, subst, arith, Vec, Global, length-set, dite, ℕ_discrete, dec_lt, slice_get_within}
+use Rattle.order_rebuild.proofs.Common.{length-replicate, get_or-replicate, below_get, UsedBefore, IsIn, Spot, IsNext, IsOrder, IsInLane, AreLanes, shorter}
+use Rattle.order_rebuild.proofs.Common.{IsStep, row_at, version_at, left_at, AreKnownUses, MayStart, Lane, Tally}
+use Rattle.std.proofs.lemmas.List.{get_or_past}
 use Rattle.order_rebuild.proofs.Open.{IsRest, OpenAt, LeastOpen}
-use Rattle.order_rebuild.specs.Order.{IsNext, IsOrder}
-use Rattle.order_rebuild.specs.Lanes.{IsInLane, AreLanes, shorter}
 use Rattle.order_rebuild.proofs.TalliedItems.{AreTallied, IsTallied}
-use Rattle.order_rebuild.specs.Tallied.{IsStep}
-use Rattle.order_rebuild.specs.Tallies.{row_at, version_at, left_at, AreFresh, AreKnownUses, MayStart}
-use Rattle.order_rebuild.specs.declared.lanes.Lane.{Lane}
-use Rattle.order_rebuild.specs.declared.tallied.Tally.{Tally}
+use Rattle.order_rebuild.specs.Tallies.{AreFresh}
 use Rattle.order_rebuild.proofs.Codes.{same_there}
 use Rattle.order_rebuild.proofs.Come.{marks}
 use Rattle.order_rebuild.proofs.Begin.{all_marked, each_first}

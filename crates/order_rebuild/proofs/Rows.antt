@@ -1,19 +1,10 @@
 -- The lines that are made of turns in order.
-use Rattle.std.proofs.Common.{◌≡◌, ◌≢◌, ℕ, zero, suc, ◌+◌, ◌*◌, ◌/◌, ◌<◌, ◌≤◌, inl, ⊎_elim, List, [], ◌∷◌, length, slice_get, slice_index, get_or, map, vec_len}
-use Rattle.std.proofs.Common.{Some, refl, sym, ap, ◌∙◌, subst, arith}
-use mathlib.Core.Logic.{dite}
-use native.Mathlib.Decide.{dec_lt}
-use Rattle.std.specs.List.Sorted.{IsNonDecreasing, IsNonDecreasingBy}
-use Rattle.std.proofs.lemmas.Option.{slice_get_within, slice_get-get_or}
-use Rattle.history_model.specs.declared.item.LockUse.{LockUse}
-use Rattle.history_model.proofs.ListPlaces.{below_get}
-use Rattle.order_rebuild.specs.declared.turn.TheConstants.{LINE}
-use Rattle.order_rebuild.specs.declared.lines.Lines.{Lines}
-use Rattle.history_model.specs.declared.placed.Spot.{Spot}
-use Rattle.order_rebuild.specs.declared.turn.Turn.{Turn}
-use Rattle.order_rebuild.specs.Order.{Precedes, Orderable}
-use Rattle.order_rebuild.specs.Turns.{line_place, IsTurnOf, HasTurn, AreTurns}
-use Rattle.order_rebuild.specs.Lines.{AreStarts, AreChains, AreRows, AreLines, AreLinesOf, places, items, item_at, base_at, first_at, last_of, caller_of}
+use Rattle.order_rebuild.proofs.Common.{◌≡◌, ◌≢◌, ℕ, zero, suc, ◌+◌, ◌*◌, ◌/◌, ◌<◌, ◌≤◌, inl, ⊎_elim, List, [], ◌∷◌, length, slice_get, slice_index, get_or}
+use Rattle.order_rebuild.proofs.Common.{map, vec_len, Some, refl, sym, ap, ◌∙◌, subst, arith, dite, dec_lt, IsNonDecreasing, slice_get_within, slice_get-get_or}
+use Rattle.order_rebuild.proofs.Common.{LockUse, below_get, LINE, Lines, Spot, Turn, Precedes, Orderable, line_place, IsTurnOf, HasTurn, AreTurns, AreStarts}
+use Rattle.order_rebuild.proofs.Common.{AreChains, AreRows, AreLines, places, items, item_at, base_at, first_at, last_of, caller_of}
+use Rattle.std.specs.List.Sorted.{IsNonDecreasingBy}
+use Rattle.order_rebuild.specs.Lines.{AreLinesOf}
 use Rattle.order_rebuild.proofs.Codes.{before_codes, lock_line, caller_line, lower, turns_before, turns_same, one_way}
 
 pub map_index : (f : Turn → ℕ) (xs : List Turn) (i : ℕ) (t : Turn) → slice_get xs i ≡ Some t → slice_index (map f xs) i ≡ f t
@@ -95,9 +86,6 @@ module _ (list : List Spot) (turns : List Turn) (are : AreTurns list (length lis
 
   rise : (i j : ℕ) → i ≤ j → j < places l → slice_index codes i ≤ slice_index codes j
   rise i j le lt = subst (λ (xs : List ℕ). slice_index xs i ≤ slice_index xs j) (sym codes_is) (codes_rise turns sorted i j le (omega (arith, m_items)))
-
-  line_up : (c d : ℕ) → c ≤ d → c / LINE ≤ d / LINE
-  line_up c d h = omega arith
 
   in_codes : (i : ℕ) → i < places l → i < length codes
   in_codes i lt = omega (arith, m_items, m_codes)

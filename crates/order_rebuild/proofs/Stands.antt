@@ -1,16 +1,8 @@
 -- A list that stands in its order, one item more, and its places as they are.
-use Rattle.std.proofs.Common.{◌≡◌, ℕ, ◌+◌, ◌-◌, ◌<◌, ◌≤◌, ⊎_elim, List, length, slice_get, slice_index, take, Some, refl, sym, ap, ◌∙◌, subst, arith}
-use mathlib.Core.Logic.{dite}
-use native.Mathlib.Decide.{ℕ_discrete, dec_lt}
-use Rattle.std.proofs.lemmas.Option.{slice_get_within, slice_get-get_or}
-use Rattle.history_model.proofs.ListPlaces.{below_get, get-front, front-get}
-use Rattle.history_model.specs.Items.{UsedBefore}
-use Rattle.history_model.specs.Legal.{IsIn}
-use Rattle.history_model.specs.Sets.{flag}
-use Rattle.history_model.specs.declared.item.LockUse.{LockUse}
-use Rattle.history_model.specs.declared.placed.Spot.{Spot}
-use Rattle.order_rebuild.specs.Order.{Precedes, IsNext, IsOrder}
-use Rattle.order_rebuild.specs.Standing.{InTurn, AreInTurn, KeepUses, IsPast}
+use Rattle.order_rebuild.proofs.Common.{◌≡◌, ℕ, ◌+◌, ◌-◌, ◌<◌, ◌≤◌, ⊎_elim, List, length, slice_get, slice_index, take, Some, refl, sym, ap, ◌∙◌, subst, arith}
+use Rattle.order_rebuild.proofs.Common.{dite, ℕ_discrete, dec_lt, slice_get_within, slice_get-get_or, below_get, get-front, front-get, UsedBefore, IsIn, flag}
+use Rattle.order_rebuild.proofs.Common.{LockUse, Spot, Precedes, IsNext, IsOrder, IsPast}
+use Rattle.order_rebuild.specs.Standing.{InTurn, AreInTurn, KeepUses}
 use Rattle.order_rebuild.proofs.Codes.{same_there}
 
 -- the first n are in turn

@@ -1,13 +1,7 @@
 -- The lanes, one item less.
-use Rattle.std.proofs.Common.{◌≡◌, ◌≢◌, ℕ, ◌+◌, ◌<◌, ◌≤◌, Bool, true, false, ◌⊎◌, inl, inr, ⊎_elim, List, slice_get}
-use Rattle.std.proofs.Common.{slice_set, Some, refl, sym, ap, ◌∙◌, subst, arith}
-use mathlib.Core.Logic.{dite}
-use native.Mathlib.Decide.{ℕ_discrete, dec_lt}
-use Rattle.history_model.proofs.ListPlaces.{below_get}
-use Rattle.history_model.specs.declared.placed.Spot.{Spot}
+use Rattle.order_rebuild.proofs.Common.{◌≡◌, ◌≢◌, ℕ, ◌+◌, ◌<◌, ◌≤◌, Bool, true, false, ◌⊎◌, inl, inr, ⊎_elim, List, slice_get, slice_set, Some, refl, sym, ap}
+use Rattle.order_rebuild.proofs.Common.{◌∙◌, subst, arith, dite, ℕ_discrete, dec_lt, below_get, Spot, IsInLane, IsLane, AreLanes, shorter, Lane}
 use Rattle.order_rebuild.proofs.Open.{OpenAt}
-use Rattle.order_rebuild.specs.Lanes.{IsInLane, IsLane, AreLanes, shorter}
-use Rattle.order_rebuild.specs.declared.lanes.Lane.{Lane}
 use Rattle.order_rebuild.proofs.Codes.{same_there}
 use Rattle.order_rebuild.proofs.Come.{marks}
 use Rattle.order_rebuild.proofs.Marks.{set_same, set_other}

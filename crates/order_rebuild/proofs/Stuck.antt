@@ -1,14 +1,8 @@
 -- On an orderable list some item may always come, and the order is one alone.
-use Rattle.std.proofs.Common.{◌≡◌, ◌≢◌, ℕ, zero, suc, ◌<◌, ◌≤◌, ◌⊎◌, inl, inr, ⊎_elim, List, [], ◌∷◌, length, slice_get, take, Some, refl, sym, ap, ◌∙◌, subst}
-use Rattle.std.proofs.Common.{arith}
-use mathlib.Core.Logic.{dite}
-use native.Mathlib.Decide.{ℕ_discrete, dec_lt}
-use Rattle.history_model.specs.Legal.{IsIn}
-use Rattle.std.proofs.lemmas.List.{take_all}
-use Rattle.std.proofs.lemmas.Option.{slice_get_within}
-use Rattle.history_model.proofs.ListPlaces.{get-front, front-get, below_get, take-more}
-use Rattle.history_model.specs.declared.placed.Spot.{Spot}
-use Rattle.order_rebuild.specs.Order.{Precedes, MayCome, IsNext, IsOrder, Orderable}
+use Rattle.order_rebuild.proofs.Common.{◌≡◌, ◌≢◌, ℕ, zero, suc, ◌<◌, ◌≤◌, ◌⊎◌, inl, inr, ⊎_elim, List, [], ◌∷◌, length, slice_get, take, Some, refl, sym, ap}
+use Rattle.order_rebuild.proofs.Common.{◌∙◌, subst, arith, dite, ℕ_discrete, dec_lt, IsIn, take_all, slice_get_within, get-front, front-get, below_get, Spot}
+use Rattle.order_rebuild.proofs.Common.{Precedes, MayCome, IsNext, IsOrder, Orderable}
+use Rattle.history_model.proofs.ListPlaces.{take-more}
 
 -- whether a number is in a list
 pub is_in : (p : ℕ) (xs : List ℕ) → IsIn p xs ⊎ (IsIn p xs → ⊥)

@@ -1,11 +1,7 @@
 -- Versions followed and readers tallied: what of each lock's uses is placed, and what that says of a list once all are.
-use Rattle.std.specs.Prelude.{◌≡◌, ℕ, ◌+◌, ◌*◌, ◌<◌, ◌≤◌, Bool, true, false, List, [], ◌∷◌, slice_get, Some, if◌then◌else◌}
-use Rattle.history_model.specs.Sets.{flag}
-use Rattle.history_model.specs.declared.item.LockUse.{LockUse}
-use Rattle.history_model.specs.declared.placed.Spot.{Spot}
-use Rattle.order_rebuild.specs.Turns.{IsRising}
+use Rattle.order_rebuild.proofs.Common.{if◌then◌else◌, flag, LockUse, Spot, IsRising, is_at}
+use Rattle.std.specs.Prelude.{◌≡◌, ℕ, ◌+◌, ◌*◌, ◌<◌, ◌≤◌, Bool, true, false, List, [], ◌∷◌, slice_get, Some}
 use Rattle.order_rebuild.proofs.UseCounts.{count_uses, count_all}
-use Rattle.order_rebuild.specs.Counts.{is_at}
 
 -- it is a use of lock k at this version that only read
 abbrev pub is_reader : ℕ → ℕ → LockUse → Bool

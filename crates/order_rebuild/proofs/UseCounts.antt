@@ -1,9 +1,7 @@
 -- How many uses are such.
+use Rattle.order_rebuild.proofs.Common.{flag, LockUse, Spot}
 use Rattle.std.specs.Prelude.{ℕ, Bool, List}
 use Rattle.std.specs.List.{sum_by}
-use Rattle.history_model.specs.Sets.{flag}
-use Rattle.history_model.specs.declared.item.LockUse.{LockUse}
-use Rattle.history_model.specs.declared.placed.Spot.{Spot}
 
 -- how many of the uses are such
 abbrev pub count_uses : (LockUse → Bool) → List LockUse → ℕ

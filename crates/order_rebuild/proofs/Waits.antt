@@ -1,19 +1,14 @@
 -- Where items wait, as one of them settles and as a line goes on.
-use Rattle.std.proofs.Common.{◌≡◌, ◌≢◌, ℕ, suc, ◌+◌, ◌<◌, ◌≤◌, Bool, true, false, ◌⊎◌, inl, inr, ⊎_elim, List, ◌∷◌, length, slice_get, get_or, slice_index}
-use Rattle.std.proofs.Common.{slice_set, Some, refl, sym, ap, ◌∙◌, subst, arith, get_or-set_same, get_or-set_other, length-set, eq-eqb, ne_eqb, ◌==◌}
-use mathlib.Core.Logic.{dite}
-use native.Mathlib.Decide.{ℕ_discrete, dec_lt}
-use Rattle.std.specs.List.Sorted.{IsPermutation}
+use Rattle.order_rebuild.proofs.Common.{◌≡◌, ◌≢◌, ℕ, suc, ◌+◌, ◌<◌, ◌≤◌, Bool, true, false, ◌⊎◌, inl, inr, ⊎_elim, List, ◌∷◌, length, slice_get, get_or}
+use Rattle.order_rebuild.proofs.Common.{slice_index, slice_set, Some, refl, sym, ap, ◌∙◌, subst, arith, get_or-set_same, get_or-set_other, length-set, ◌==◌}
+use Rattle.order_rebuild.proofs.Common.{dite, ℕ_discrete, dec_lt, IsPermutation, sum_by-cons, All-permutation, slice_get_read, get_or_from_slice_get, flag}
+use Rattle.order_rebuild.proofs.Common.{Lines, places, items, item_at, base_at, first_at, last_of, caller_of, AreRows, IsOpen, AreGone, IsStopped, AreStopped}
+use Rattle.order_rebuild.proofs.Common.{AreWaits, AreClosed, Comer, comer_cmp, IsKnown, count_of, KeepsReady}
+use Rattle.std.proofs.Common.{eq-eqb, ne_eqb}
 use Rattle.std.specs.BinaryHeap.{KeepsHeap}
-use Rattle.std.proofs.lemmas.List.Sums.{sum_by-cons}
-use Rattle.std.proofs.lemmas.List.Sorted.{All-permutation, sum_by-IsPermutation}
+use Rattle.std.proofs.lemmas.List.Sorted.{sum_by-IsPermutation}
 use Rattle.std.proofs.lemmas.List.Elements.{All-cons}
-use Rattle.std.proofs.lemmas.Option.{slice_get_read, get_or_from_slice_get}
-use Rattle.history_model.specs.Sets.{flag}
-use Rattle.order_rebuild.specs.declared.lines.Lines.{Lines}
 use Rattle.order_rebuild.proofs.Befores.{before_at}
-use Rattle.order_rebuild.specs.Lines.{places, items, item_at, base_at, first_at, last_of, caller_of, AreRows}
-use Rattle.order_rebuild.specs.Going.{IsOpen, AreGone, IsStopped, AreStopped, AreWaits, AreClosed, Comer, comer_cmp, IsKnown, count_of, KeepsReady}
 
 -- a number of a list after a write
 pub same_there : (xs : List ℕ) (i v : ℕ) → i < length xs → slice_index (slice_set xs i v) i ≡ v
@@ -133,27 +128,6 @@ pub all_more : (l : Lines) (next old new : List ℕ) (i q : ℕ) → q ≡ item_
 all_more l next old new i q at waits closed settled others =
     closed_more l next old new i q (λ e. i ≤ e) (λ e. i + 1 ≤ e) at waits closed settled others (λ e lt n d. omega arith)
 
--- before the first, and behind the last
-pub level_first : (l : Lines) → AreRows l → (next wait : List ℕ) (start : ℕ) → AreWaits l next wait
-    → AreClosed l next wait (λ e. first_at l e ≡ start) → AreClosed l next wait (λ e. (first_at l e ≡ start) × (start ≤ e))
-level_first l rows next wait start waits closed p e lt is opened = let f = closed p e lt is opened in let o =
-    waits.own p e lt is in let up = rows.up e o.0 in (f, omega arith)
-
-pub level_left : (l : Lines) → AreRows l → (next wait : List ℕ) (i start : ℕ) → start ≤ i → AreWaits l next wait
-    → AreClosed l next wait (λ e. (first_at l e ≡ start) × (i ≤ e)) → (first_at l i ≡ start → ⊥) → AreClosed l next wait (λ e. ⊥)
-level_left l rows next wait i start le waits closed other p e lt is opened =
-    let d = closed p e lt is opened in let o = waits.own p e lt is in let f = d.0 in let k = d.1 in
-    other (rows.level e i o.0 (omega arith) k ∙ f)
-
-pub level_last : (l : Lines) (next wait : List ℕ) (i start : ℕ) → places l ≤ i → AreWaits l next wait
-    → AreClosed l next wait (λ e. (first_at l e ≡ start) × (i ≤ e)) → AreClosed l next wait (λ e. ⊥)
-level_last l next wait i start le waits closed p e lt is opened = let d = closed p e lt is opened in let o =
-    waits.own p e lt is in let a = o.0 in let k = d.1 in omega arith
-
-pub all_last : (l : Lines) (next wait : List ℕ) (i : ℕ) → places l ≤ i → AreWaits l next wait
-    → AreClosed l next wait (λ e. i ≤ e) → AreClosed l next wait (λ e. ⊥)
-all_last l next wait i le waits closed p e lt is opened = let d = closed p e lt is opened in let o = waits.own p e lt is in let a = o.0 in omega arith
-
 -- a line goes on by one place
 module _ (l : Lines) (rows : AreRows l) (left : List Bool) (next wait : List ℕ) (gone : AreGone l left next) (waits : AreWaits l next wait) (line : ℕ)
     (inside : line < places l) (begins : base_at l line ≡ line)
@@ -189,19 +163,6 @@ module _ (l : Lines) (rows : AreRows l) (left : List Bool) (next wait : List ℕ
         (λ n. gone.gone b j lt is low (let g = e.1 in let s = ap (λ (i : ℕ). slice_index next i) e.0 in omega arith)))
         (moved_at b);
   }
-
-  wider : (i : ℕ) → IsOpen l next i → IsOpen l moved i
-  wider i o = ⊎_elim (λ e. omega arith) (λ e. let g = e.1 in let s = ap (λ (j : ℕ). slice_index next j) e.0 in omega arith) (moved_at (base_at l i))
-
-  pub waits_on : AreWaits l moved wait
-  waits_on = record { count = waits.count; own = waits.own; above = λ i lt le. wider i (waits.above i lt le) }
-
-  pub closed_on : AreClosed l next wait (λ e. ⊥) → AreClosed l moved wait (λ e. first_at l e ≡ slice_index next line + 1)
-  closed_on closed p e lt is opened = ⊎_elim
-      (λ s. absurd (closed p e lt is (omega arith)))
-      (λ s. let g = s.1 in let h = ap (λ (j : ℕ). slice_index next j) s.0 in
-      dite (ℕ_discrete (first_at l e) (slice_index next line + 1)) (λ f. f) (λ n. absurd (closed p e lt is (omega arith))))
-      (moved_at (base_at l e))
 
   pub others_on : (b : ℕ) → b ≢ line → slice_index moved b ≡ slice_index next b
   others_on b n = other_there next line b (slice_index next line + 1) n

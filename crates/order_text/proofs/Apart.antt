@@ -1,28 +1,23 @@
 -- Best prices are apart, and books stay books, after each operation and each script.
-use Rattle.std.proofs.Common.{◌≡◌, ◌≢◌, ℕ, ◌+◌, ◌-◌, ◌<◌, ◌≤◌, Bool, true, false, not, ◌&&◌, ◌||◌, ◌==◌, nat_le, nat_lt, ⊎_elim}
-use Rattle.std.proofs.Common.{List, ◌++◌, Option, Some, None, refl, sym, ap, ◌∙◌, subst, arith, eq-eqb, if◌then◌else◌}
-use Rattle.std.proofs.lemmas.Bool.{cases_lt}
-use Rattle.std.proofs.lemmas.Bool.Decides.{nat_tests}
-use Rattle.std.proofs.lemmas.List.Elements.{All-filter}
-use Rattle.order_text.specs.declared.limits.TheConstants.{GREATEST_ORDER}
-use Rattle.order_text.specs.declared.order.Resting.{Resting}
-use Rattle.order_text.specs.declared.script.OrderOp.{OrderOp}
-use Rattle.order_text.specs.declared.script.OrderOp.TheVariants as op
+use Rattle.order_text.proofs.Common.{◌≡◌, ◌≢◌, ℕ, ◌+◌, ◌-◌, ◌<◌, ◌≤◌, Bool, true, false, not, ◌&&◌, ◌==◌, nat_lt, ⊎_elim, List, ◌++◌, Option, Some, refl, sym}
+use Rattle.order_text.proofs.Common.{ap, ◌∙◌, subst, arith, eq-eqb, if◌then◌else◌, cases_lt, nat_tests, All-filter, GREATEST_ORDER, Resting, OrderOp, Trade}
+use Rattle.order_text.proofs.Common.{Gives, incoming, with_order, BestPricesApart, after_trades, has_quantity, may_trade, orders_after, partners, rest_of}
+use Rattle.order_text.proofs.Common.{trades_down, volume, OrderBook, all_but, blocks_of, empty_book, HasRoom, IsBlockCount, IsBookOf, IsLimitOrder, IsOrderOp}
+use Rattle.order_text.proofs.Common.{IsOrderScript}
+use Rattle.books_report.proofs.Common.{Step, Absent, Full}
+use Rattle.std.proofs.Common.{◌||◌, nat_le, None}
 use Rattle.order_text.specs.declared.reply.OrderValue.{OrderValue}
-use Rattle.order_text.specs.declared.reply.OrderValue.TheVariants as value
-use Rattle.order_text.specs.declared.reply.Trade.{Trade}
-use Rattle.books_report.specs.Stores.Interpreter.{Step}
-use Rattle.books_report.specs.Stores.Interpreter.Step.{Gives, Absent, Full}
-use Rattle.books_report.proofs.AnyStore.Kept as kept
-use Rattle.order_text.specs.Interpreter.{enter_next, entered, has_no_room, incoming, order_outcome_of, order_step_of, with_order}
-use Rattle.order_text.specs.Laws.{BestPricesApart}
-use Rattle.order_text.specs.Matching.{allows, after_trades, has_quantity, match_of, may_trade, orders_after, partners, rest_of, trades_down, volume}
-use Rattle.order_text.specs.Orders.{OrderBook, all_but, blocks_of, empty_book, order_at}
-use Rattle.order_text.specs.Ranges.{HasRoom, IsBlockCount, IsBookOf, IsInstrumentCount, IsLimitOrder, IsOrderOp, IsOrderScript, IsRestingOrder}
+use Rattle.order_text.specs.Interpreter.{enter_next, entered, has_no_room, order_outcome_of, order_step_of}
+use Rattle.order_text.specs.Matching.{allows, match_of}
+use Rattle.order_text.specs.Orders.{order_at}
+use Rattle.order_text.specs.Ranges.{IsInstrumentCount, IsRestingOrder}
 use Rattle.order_text.proofs.Entering.{IsRest, Stayed, entered_has, no_partner_left}
 use Rattle.order_text.proofs.Members.{Has, has_filtered, of_each, of_every}
 use Rattle.order_text.proofs.Prices.{AreApart, all_apart, best_apart, is_on_true}
 use Rattle.order_text.proofs.Rooms.{empty_has_room, entered_has_room, fewer_have_room}
+use Rattle.order_text.specs.declared.script.OrderOp.TheVariants as op
+use Rattle.order_text.specs.declared.reply.OrderValue.TheVariants as value
+use Rattle.books_report.proofs.AnyStore.Kept as kept
 
 -- a book of so many instruments, in which prices are apart
 record IsApartBook (instruments : ℕ) (book : OrderBook) : Type 0 where

@@ -1,22 +1,15 @@
 -- After scripts of an input a book is left in which best prices are apart; what an output prints is such a book's orders,
 -- so their numbers rise.
-use Rattle.std.proofs.Common.{◌≡◌, List, [], ◌∷◌, All, sym, arith}
+use Rattle.order_text.proofs.Common.{◌≡◌, List, [], ◌∷◌, All, sym, arith, Less, Resting, BookInput, IsBookInput, BestPricesApart, OrderBook, by_number}
+use Rattle.order_text.proofs.Common.{empty_book, IsBookOf, IsOrderScript}
+use Rattle.books_report.proofs.Common.{script_at, Place, places_run}
 use Rattle.std.specs.List.Sorted.{IsStrictlySortedBy}
-use Rattle.std.specs.declared.cmp.Ordering.TheVariants.{Less}
 use Rattle.std.proofs.lemmas.Cmp.{ranked}
 use Rattle.std.proofs.lemmas.List.Elements.{All-tail}
 use Rattle.std.proofs.lemmas.List.Kept.{AllPairs-cons}
-use Rattle.script_reader.specs.Gathered.{script_at}
-use Rattle.script_reader.specs.Journal.{Place}
-use Rattle.books_report.specs.Journals.{places_run}
 use Rattle.books_report.specs.Stores.Output.{outcome_at}
-use Rattle.order_text.specs.declared.order.Resting.{Resting}
-use Rattle.order_text.specs.Input.{BookInput, IsBookInput}
 use Rattle.order_text.specs.Journal.{IsOrderPlace}
-use Rattle.order_text.specs.Laws.{BestPricesApart}
-use Rattle.order_text.specs.Orders.{OrderBook, by_number, empty_book}
 use Rattle.order_text.specs.Output.{AreByNumber, IsBefore, OrderRan, book_after, closing_of, order_store}
-use Rattle.order_text.specs.Ranges.{IsBookOf, IsOrderScript}
 use Rattle.order_text.proofs.Apart.{empty_is, scripts_keep}
 use Rattle.order_text.proofs.Members.{of_each, of_one}
 

@@ -1,18 +1,14 @@
 -- What rests after an order has entered: if something is left of it, all its partners are filled.
-use Rattle.std.proofs.Common.{◌≡◌, ◌≢◌, ℕ, ◌+◌, ◌-◌, ◌<◌, Bool, true, false, cond, not, ◌==◌, nat_lt, min, ◌⊎◌, inl, inr, ⊎_elim, List}
-use Rattle.std.proofs.Common.{[], ◌∷◌, ◌++◌, map, filter, find, Some, refl, sym, ap, ◌∙◌, subst, arith, eq-eqb, ne_eqb, if◌then◌else◌}
+use Rattle.order_text.proofs.Common.{◌≡◌, ◌≢◌, ℕ, ◌+◌, ◌-◌, ◌<◌, Bool, true, false, cond, not, ◌==◌, nat_lt, min, ◌⊎◌, inl, inr, ⊎_elim, List, [], ◌∷◌, ◌++◌}
+use Rattle.order_text.proofs.Common.{map, filter, Some, refl, sym, ap, ◌∙◌, subst, arith, eq-eqb, ne_eqb, if◌then◌else◌, Less, Equal, nat_tests, tied_itself}
+use Rattle.order_text.proofs.Common.{Resting, Trade, after_trades, has_quantity, may_trade, orders_after, partners, rest_of, serving_cmp, trade_with}
+use Rattle.order_text.proofs.Common.{trades_down, volume, by_number}
+use Rattle.std.proofs.Common.{find}
 use Rattle.std.specs.List.Sorted.{IsStrictlySortedBy}
-use Rattle.std.specs.declared.cmp.Ordering.TheVariants.{Less, Equal}
-use Rattle.std.proofs.lemmas.Bool.Decides.{nat_tests}
-use Rattle.std.proofs.lemmas.Cmp.{tied_itself}
 use Rattle.std.proofs.lemmas.List.Sums.{sum_by-cons}
 use mathlib.Core.Logic.{dite}
 use native.Mathlib.Decide.{ℕ_discrete}
-use Rattle.order_text.specs.declared.order.Resting.{Resting}
-use Rattle.order_text.specs.declared.reply.Trade.{Trade}
-use Rattle.order_text.specs.Matching.{after_trades, has_quantity, may_trade, orders_after, partners}
-use Rattle.order_text.specs.Matching.{quantity_of, rest_of, serving_cmp, trade_with, traded_by, trades_down, volume}
-use Rattle.order_text.specs.Orders.{by_number}
+use Rattle.order_text.specs.Matching.{quantity_of, traded_by}
 use Rattle.order_text.proofs.Members.{Has, filtered_has, has_either, has_filtered, has_mapped, of_one}
 use Rattle.order_text.proofs.Serving.{number_total, serving_total}
 use Rattle.order_text.proofs.Sorting.{has_in_order, in_order_has}

@@ -1,15 +1,10 @@
 -- The ranges of operations are those of their lines, and what a text gives is an input.
-use Rattle.std.proofs.Common.{ℕ, ◌≤◌, List, [], ◌∷◌, codes, refl, sym, subst, arith}
+use Rattle.order_text.proofs.Common.{ℕ, ◌≤◌, List, [], ◌∷◌, codes, refl, sym, subst, arith, GREATEST_ORDER, OrderOp, IsLimitOrder, IsOrderOp, IsOrderScript}
+use Rattle.order_text.proofs.Common.{order_language, IsBookInput, CallerOf}
+use Rattle.script_reader.proofs.Common.{form, ranges_of, AreCallers, AreNumbersIn, AreSizes, IsOperationIn, IsScriptIn}
 use Rattle.books_model.specs.declared.limits.TheConstants.{MOST_INSTRUMENTS}
-use Rattle.order_text.specs.declared.limits.TheConstants.{GREATEST_ORDER}
-use Rattle.order_text.specs.declared.script.OrderOp.{OrderOp}
+use Rattle.order_text.specs.Language.{limit_ranges}
 use Rattle.order_text.specs.declared.script.OrderOp.TheVariants as op
-use Rattle.order_text.specs.Ranges.{IsLimitOrder, IsOrderOp, IsOrderScript}
-use Rattle.order_text.specs.Language.{limit_ranges, order_language}
-use Rattle.order_text.specs.Input.{IsBookInput}
-use Rattle.script_reader.specs.Forms.{form, ranges_of}
-use Rattle.script_reader.specs.Gathered.{CallerOf, AreCallers}
-use Rattle.script_reader.specs.ListLanguage.{AreNumbersIn, AreSizes, IsOperationIn, IsScriptIn}
 
 -- the numbers of an order
 limits_in : (instruments instrument price quantity : ℕ) → instruments ≤ MOST_INSTRUMENTS → IsLimitOrder instruments instrument price quantity

@@ -1,3 +1,5 @@
+-- what several proofs import
+pub mod Common
 -- items of lists
 pub mod Members
 -- lists in an order, and that there is one such list of given items

@@ -1,6 +1,7 @@
 -- Items of lists.
-use Rattle.std.proofs.Common.{◌≡◌, ℕ, zero, suc, ◌<◌, Bool, true, false, cond, ◌⊎◌, inl, inr, ⊎_elim, List, [], ◌∷◌}
-use Rattle.std.proofs.Common.{◌++◌, length, map, filter, All, Contains, get_or, refl, sym, ◌∙◌, subst, arith}
+use Rattle.order_text.proofs.Common.{◌≡◌, ℕ, suc, ◌<◌, Bool, true, false, cond, ◌⊎◌, inl, inr, ⊎_elim, List, [], ◌∷◌, ◌++◌, length, map, filter, All, get_or}
+use Rattle.order_text.proofs.Common.{refl, sym, ◌∙◌, subst, arith}
+use Rattle.std.proofs.Common.{zero, Contains}
 use Rattle.std.specs.List.{AllByRecursion}
 
 -- a choice of two lists: what holds of it, and what follows

@@ -1,13 +1,9 @@
 -- Best prices, and the prices of all orders: each is reached, and none is better.
-use Rattle.std.proofs.Common.{◌≡◌, ◌≢◌, ℕ, ◌<◌, ◌≤◌, Bool, true, false, not, ◌&&◌, ◌==◌, min, max, inl, inr}
-use Rattle.std.proofs.Common.{⊎_elim, List, [], ◌∷◌, refl, sym, ap, ◌∙◌, arith, eq-eqb, if◌then◌else◌}
+use Rattle.order_text.proofs.Common.{◌≡◌, ◌≢◌, ℕ, ◌<◌, ◌≤◌, Bool, true, false, not, ◌&&◌, ◌==◌, min, inl, inr, ⊎_elim, List, [], ◌∷◌, refl, sym, ap, ◌∙◌, arith}
+use Rattle.order_text.proofs.Common.{eq-eqb, if◌then◌else◌, unwrap_or, cases_lt, nat_tests, Resting, BestPricesApart, best_buy, best_sell, is_on}
+use Rattle.std.proofs.Common.{max}
 use Rattle.std.specs.List.{fold, reduce}
-use Rattle.std.specs.Option.{unwrap_or}
-use Rattle.std.proofs.lemmas.Bool.{cases_lt}
-use Rattle.std.proofs.lemmas.Bool.Decides.{nat_tests}
-use Rattle.order_text.specs.declared.order.Resting.{Resting}
-use Rattle.order_text.specs.Laws.{BestPricesApart}
-use Rattle.order_text.specs.Orders.{best_buy, best_sell, is_on, prices_on}
+use Rattle.order_text.specs.Orders.{prices_on}
 use Rattle.order_text.proofs.Members.{Has, filtered_has, has_filtered, has_mapped, mapped_has}
 
 -- the greatest and the least of numbers

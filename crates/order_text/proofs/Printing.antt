@@ -1,9 +1,7 @@
 -- The text of a header, one piece after another.
-use Rattle.std.proofs.Common.{◌≡◌, ◌++◌, [], ◌∷◌, ℕ, List, codes}
-use Rattle.script_reader.specs.declared.text.words.TheConstants.{SPACE, LINE_FEED}
-use Rattle.script_reader.specs.Text.{number}
+use Rattle.order_text.proofs.Common.{◌≡◌, ◌++◌, [], ◌∷◌, ℕ, List, codes, SPACE, number, BookInput}
+use Rattle.script_reader.specs.declared.text.words.TheConstants.{LINE_FEED}
 use Rattle.books_report.proofs.Outputs.Journals.{two_pieces}
-use Rattle.order_text.specs.Input.{BookInput}
 use Rattle.order_text.specs.Output.{order_header_line}
 
 -- the words in front, the sizes behind their names, and the line feed are the header

@@ -1,20 +1,13 @@
 -- The orders of a book go by their numbers, and have their blocks.
-use Rattle.std.proofs.Common.{◌≡◌, ◌≢◌, ℕ, ◌+◌, ◌<◌, ◌≤◌, Bool, true, false, ◌&&◌, ◌==◌, nat_lt, inl, inr, ⊎_elim, List, [], ◌∷◌}
-use Rattle.std.proofs.Common.{◌++◌, map, filter, All, refl, sym, ap, ◌∙◌, subst, arith, append-nil, length-append, if◌then◌else◌}
+use Rattle.order_text.proofs.Common.{◌≡◌, ◌≢◌, ℕ, ◌+◌, ◌<◌, ◌≤◌, Bool, true, false, ◌&&◌, ◌==◌, nat_lt, inl, inr, ⊎_elim, List, [], ◌∷◌, ◌++◌, map, filter, All}
+use Rattle.order_text.proofs.Common.{refl, sym, ap, ◌∙◌, subst, arith, append-nil, if◌then◌else◌, nat_cmp, Less, nat_tests, All-filter}
+use Rattle.order_text.proofs.Common.{IsStrictlySortedBy-filter, GREATEST_ORDER, Resting, Trade, after_trades, has_quantity, orders_after, rest_of, OrderBook}
+use Rattle.order_text.proofs.Common.{blocks_of, by_number, empty_book, HasRoom, IsBlockCount}
+use Rattle.std.proofs.Common.{length-append}
 use Rattle.std.specs.List.Sorted.{IsStrictlySortedBy}
-use Rattle.std.specs.Ordering.{nat_cmp}
-use Rattle.std.specs.declared.cmp.Ordering.TheVariants.{Less}
-use Rattle.std.proofs.lemmas.Bool.Decides.{nat_tests}
 use Rattle.std.proofs.lemmas.List.{length-map}
-use Rattle.std.proofs.lemmas.List.Elements.{All-append, All-filter, All-map}
-use Rattle.std.proofs.lemmas.List.Kept.{IsStrictlySortedBy-filter}
+use Rattle.std.proofs.lemmas.List.Elements.{All-append, All-map}
 use Rattle.std.proofs.lemmas.List.Sums.{count_by-le-length, length-filter}
-use Rattle.order_text.specs.declared.limits.TheConstants.{GREATEST_ORDER}
-use Rattle.order_text.specs.declared.order.Resting.{Resting}
-use Rattle.order_text.specs.declared.reply.Trade.{Trade}
-use Rattle.order_text.specs.Matching.{after_trades, has_quantity, orders_after, rest_of}
-use Rattle.order_text.specs.Orders.{OrderBook, blocks_of, by_number, empty_book}
-use Rattle.order_text.specs.Ranges.{HasRoom, IsBlockCount}
 use Rattle.order_text.proofs.Members.{Has, has_either, has_mapped, of_all, of_each, of_every, of_one}
 
 -- no orders have room

@@ -1,15 +1,10 @@
 -- In which order resting orders are served: a total order, in which no two orders of a book tie.
-use Rattle.std.proofs.Common.{◌≡◌, Bool, true, false, List, [], ◌∷◌, refl, ap}
+use Rattle.order_text.proofs.Common.{◌≡◌, Bool, true, false, List, [], ◌∷◌, refl, ap, eq_by_cmp, is_eq, nat_cmp, IsTotalOrder, Ordering, Less, Equal, Greater}
+use Rattle.order_text.proofs.Common.{Resting, serving_cmp, by_number}
 use Rattle.std.specs.List.{IsDistinct}
 use Rattle.std.specs.List.Sorted.{IsStrictlySortedBy}
-use Rattle.std.specs.Ordering.{eq_by_cmp, is_eq, nat_cmp, ordering_then}
-use Rattle.std.specs.Cmp.{IsTotalOrder}
-use Rattle.std.specs.declared.cmp.Ordering.{Ordering}
-use Rattle.std.specs.declared.cmp.Ordering.TheVariants.{Less, Equal, Greater}
+use Rattle.std.specs.Ordering.{ordering_then}
 use Rattle.std.proofs.lemmas.Cmp.{back_total, nat_cmp_total, on_total, then_total}
-use Rattle.order_text.specs.declared.order.Resting.{Resting}
-use Rattle.order_text.specs.Matching.{serving_cmp}
-use Rattle.order_text.specs.Orders.{by_number}
 use Rattle.order_text.proofs.Members.{of_all, of_one}
 
 pub serving_total : (buys : Bool) → IsTotalOrder (serving_cmp buys)

@@ -1,19 +1,13 @@
 -- The index of records, made of them one by one in the order of their identifiers.
-use Rattle.std.proofs.Common.{◌≡◌, ℕ, false, cond, List, [], ◌∷◌, ◌++◌, map, Some, None, refl, sym, ap, ◌∙◌, subst, append_assoc}
-use Rattle.std.specs.FinMap as finite
-use Rattle.std.specs.FinMap.{find, from_entries_push}
-use Rattle.std.specs.BTreeMap.{is_at}
-use Rattle.std.specs.Map.{lookup, keys_of}
+use Rattle.record_text.proofs.Common.{◌≡◌, ℕ, false, cond, List, [], ◌∷◌, ◌++◌, map, Some, None, refl, sym, ap, ◌∙◌, subst, append_assoc, find, is_at, lookup}
+use Rattle.record_text.proofs.Common.{keys_of, IsStrictlySortedBy, nat_cmp, is_eq, ordering_then, nat_cmp_total, Ordering, Less, Equal, Greater, map_push}
+use Rattle.record_text.proofs.Common.{positions_total, from_entries-inserted, index_cmp}
+use Rattle.std.specs.FinMap.{from_entries_push}
 use Rattle.std.specs.List.{AllByRecursion}
-use Rattle.std.specs.List.Sorted.{IsStrictlySortedBy}
-use Rattle.std.specs.Ordering.{nat_cmp, is_eq, ordering_then, ordering_reverse}
-use Rattle.std.specs.Cmp.{nat_cmp_total}
-use Rattle.std.specs.declared.cmp.Ordering.{Ordering}
-use Rattle.std.specs.declared.cmp.Ordering.TheVariants.{Less, Equal, Greater}
-use Rattle.std.proofs.lemmas.List.{map_push}
+use Rattle.std.specs.Ordering.{ordering_reverse}
 use Rattle.std.proofs.lemmas.Map.Keys.{sorted_head, sorted_tail}
-use Rattle.books_model.proofs.Maps.Trees.{positions_total, exact_positions, from_entries-inserted}
-use Rattle.record_text.specs.Records.{index_cmp}
+use Rattle.books_model.proofs.Maps.Trees.{exact_positions}
+use Rattle.std.specs.FinMap as finite
 
 -- a record beside its identifier
 abbrev pub Stored : Type 0

@@ -1,12 +1,9 @@
 -- The ranges of operations are those of their lines.
-use Rattle.std.proofs.Common.{ℕ, List, [], ◌∷◌, codes, refl, sym, subst, arith}
-use Rattle.record_text.specs.declared.limits.TheConstants.{GREATEST_ID, GREATEST_RANK, GREATEST_DATA, MOST_LISTED}
-use Rattle.record_text.specs.declared.script.RecordOp.{RecordOp}
-use Rattle.record_text.specs.declared.script.RecordOp.TheVariants as op
+use Rattle.record_text.proofs.Common.{ℕ, List, [], ◌∷◌, codes, refl, sym, subst, arith, GREATEST_ID, GREATEST_RANK, GREATEST_DATA, MOST_LISTED, RecordOp}
+use Rattle.record_text.proofs.Common.{record_language}
+use Rattle.script_reader.proofs.Common.{form, ranges_of, IsOperationIn, AreNumbersIn}
 use Rattle.record_text.specs.Ranges.{IsRecordOp}
-use Rattle.record_text.specs.Language.{record_language}
-use Rattle.script_reader.specs.Forms.{form, ranges_of}
-use Rattle.script_reader.specs.ListLanguage.{IsOperationIn, AreNumbersIn}
+use Rattle.record_text.specs.declared.script.RecordOp.TheVariants as op
 
 -- an operation whose numbers are in their ranges has a form, and they are in its ranges
 pub operation_in : (sizes : List ℕ) (o : RecordOp) → IsRecordOp o → IsOperationIn record_language sizes o

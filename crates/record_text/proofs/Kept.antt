@@ -1,17 +1,14 @@
 -- Records that have their blocks have them after every script.
-use Rattle.std.proofs.Common.{◌≡◌, ℕ, ◌≤◌, Bool, true, false, not, ◌&&◌, List, Option, Some, None, if◌then◌else◌, refl, arith}
-use Rattle.std.specs.FinMap as finite
-use Rattle.books_report.specs.Stores.Interpreter.{Step}
-use Rattle.books_report.specs.Stores.Interpreter.Step.{Gives, Full}
+use Rattle.record_text.proofs.Common.{◌≡◌, ℕ, ◌≤◌, Bool, true, false, not, ◌&&◌, List, Option, Some, None, if◌then◌else◌, refl, arith, Gives, Full, RecordOp}
+use Rattle.record_text.proofs.Common.{RecordValue, Records, blocks_of, is_store_full, record_step_of, with_record}
+use Rattle.books_report.proofs.Common.{Step}
 use Rattle.books_report.proofs.AnyStore.Kept.{StepKeeps, script_keeps}
-use Rattle.record_text.specs.declared.script.RecordOp.{RecordOp}
-use Rattle.record_text.specs.declared.script.RecordOp.TheVariants as op
-use Rattle.record_text.specs.declared.reply.RecordValue.{RecordValue}
-use Rattle.record_text.specs.declared.reply.RecordValue.TheVariants as value
-use Rattle.record_text.specs.Records.{Records, blocks_of, is_store_full}
-use Rattle.record_text.specs.Interpreter.{record_outcome_of, record_step_of, with_record}
+use Rattle.record_text.specs.Interpreter.{record_outcome_of}
 use Rattle.record_text.proofs.Puts.{put_fits}
 use Rattle.record_text.proofs.Removals.{no_more}
+use Rattle.std.specs.FinMap as finite
+use Rattle.record_text.specs.declared.script.RecordOp.TheVariants as op
+use Rattle.record_text.specs.declared.reply.RecordValue.TheVariants as value
 
 module _ (blocks : ℕ) where
   -- the records that a step leaves, if it leaves any, have their blocks

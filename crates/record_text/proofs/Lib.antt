@@ -1,3 +1,5 @@
+-- what several proofs import
+pub mod Common
 -- how many blocks records take
 pub mod Rooms
 -- records are indexed

@@ -1,8 +1,9 @@
 -- Identifiers listed one by one, down the index.
-use Rattle.std.proofs.Common.{◌≡◌, ℕ, ◌<◌, ◌≤◌, Bool, true, false, cond, List, [], ◌∷◌, ◌++◌, map, take, length, nat_le, sym, ap, ◌∙◌, subst, arith}
-use Rattle.std.proofs.Common.{append_assoc, append-nil, length-append}
+use Rattle.record_text.proofs.Common.{◌≡◌, ℕ, ◌<◌, ◌≤◌, Bool, true, false, cond, List, [], ◌∷◌, ◌++◌, map, take, length, nat_le, sym, ap, ◌∙◌, subst, arith}
+use Rattle.record_text.proofs.Common.{append_assoc, append-nil, map_push}
+use Rattle.std.proofs.Common.{length-append}
 use Rattle.std.specs.List.{filter}
-use Rattle.std.proofs.lemmas.List.{map_push, take_all, take-append-le, length-take}
+use Rattle.std.proofs.lemmas.List.{take_all, take-append-le, length-take}
 use Rattle.std.proofs.lemmas.List.Elements.{filter-append}
 
 -- the entries of the index

@@ -1,19 +1,15 @@
 -- What the index of records has at a place.
-use Rattle.std.proofs.Common.{◌≡◌, ℕ, Bool, false, cond, ◌==◌, List, [], ◌∷◌, map, Option, Some, None, refl, sym, ap, ◌∙◌, subst, arith, eq-eqb, if◌then◌else◌}
+use Rattle.record_text.proofs.Common.{◌≡◌, ℕ, Bool, false, cond, List, [], ◌∷◌, map, Option, Some, None, refl, sym, ap, ◌∙◌, subst, arith, if◌then◌else◌}
+use Rattle.record_text.proofs.Common.{entries_sorted, find, below_all, is_sorted, nat_cmp, is_eq, ordering_then, Ordering, Less, Equal, Greater, below_first}
+use Rattle.record_text.proofs.Common.{below_rest, sorted_first, sorted_rest, positions_total, Records, index_cmp, index_of}
+use Rattle.std.proofs.Common.{◌==◌, eq-eqb}
 use Rattle.std.specs.Prelude.{T}
-use Rattle.std.specs.FinMap as finite
-use Rattle.std.specs.FinMap.{entries_sorted, find, get-entries, get-from_entries}
-use Rattle.std.specs.FinMap.Entries.{below_all, is_sorted}
-use Rattle.std.specs.Ordering.{nat_cmp, is_eq, ordering_then}
-use Rattle.std.specs.declared.cmp.Ordering.{Ordering}
-use Rattle.std.specs.declared.cmp.Ordering.TheVariants.{Less, Equal, Greater}
+use Rattle.std.specs.FinMap.{get-entries, get-from_entries}
 use Rattle.std.proofs.lemmas.Bool.{ne_eqb}
 use Rattle.std.proofs.lemmas.Cmp.{ranked}
-use Rattle.books_model.proofs.Maps.Keys.{below_first, below_rest, sorted_first, sorted_rest}
-use Rattle.books_model.proofs.Maps.Trees.{positions_total}
-use Rattle.record_text.specs.Records.{Records, index_cmp, index_of}
 use Rattle.record_text.specs.Laws.{data_at_rank}
 use Rattle.record_text.proofs.Indexes.{Stored, place_of, second_decides}
+use Rattle.std.specs.FinMap as finite
 
 -- records whose identifiers are all above one have no place of it
 none_above : (rank id : ℕ) (es : List Stored) → T (below_all nat_cmp id es) → find index_cmp (rank, id) (map place_of es) ≡ None

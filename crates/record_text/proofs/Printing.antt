@@ -1,12 +1,8 @@
 -- The text of identifiers and of headers, one piece after another.
-use Rattle.std.proofs.Common.{◌≡◌, ◌++◌, [], ◌∷◌, ℕ, List, codes, sym, ap, ◌∙◌}
-use Rattle.std.specs.List.{flat_map}
-use Rattle.script_reader.specs.declared.text.words.TheConstants.{SPACE, LINE_FEED}
-use Rattle.script_reader.specs.Text.{number}
+use Rattle.record_text.proofs.Common.{◌≡◌, ◌++◌, [], ◌∷◌, ℕ, List, codes, sym, ap, ◌∙◌, flat_map, SPACE, number, StoreInput, ids_word}
+use Rattle.script_reader.specs.declared.text.words.TheConstants.{LINE_FEED}
 use Rattle.books_report.proofs.Outputs.Journals.{join-map, two_pieces}
 use Rattle.record_text.specs.declared.words.TheConstants.{COMMA}
-use Rattle.record_text.specs.Input.{StoreInput}
-use Rattle.record_text.specs.Words.{ids_word}
 use Rattle.record_text.specs.Output.{record_header_line}
 
 -- a comma and an identifier

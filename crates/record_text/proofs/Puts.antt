@@ -1,19 +1,13 @@
 -- Putting a record: what the step comes to, and the blocks after it.
-use Rattle.std.proofs.Common.{◌≡◌, ℕ, ◌≤◌, Bool, true, false, not, ◌&&◌, Option, Some, None, IsSome, is_some, refl, sym, ap, ◌∙◌, subst, arith}
+use Rattle.record_text.proofs.Common.{◌≡◌, ℕ, ◌≤◌, Bool, true, false, not, ◌&&◌, Option, Some, None, refl, sym, ap, ◌∙◌, subst, arith, nat_cmp, nat_cmp_total}
+use Rattle.record_text.proofs.Common.{nat_tests, get-lookup, RecordValue, RecordStore, blocks_of, is_store_full, record_step_of, Gives, Full, HasRoom}
+use Rattle.std.proofs.Common.{IsSome, is_some}
 use Rattle.std.specs.Bool.{if◌then◌else◌}
-use Rattle.std.specs.FinMap as finite
 use Rattle.std.specs.BTreeMap.{BTreeMap, get_by}
-use Rattle.std.specs.Ordering.{nat_cmp}
-use Rattle.std.specs.Cmp.{nat_cmp_total}
-use Rattle.std.proofs.lemmas.Bool.Decides.{nat_tests}
-use Rattle.books_model.proofs.Maps.Trees.{get-lookup, len_after_change, len_after_insert}
+use Rattle.books_model.proofs.Maps.Trees.{len_after_change, len_after_insert}
+use Rattle.std.specs.FinMap as finite
 use Rattle.record_text.specs.declared.script.RecordOp.TheVariants as op
-use Rattle.record_text.specs.declared.reply.RecordValue.{RecordValue}
 use Rattle.record_text.specs.declared.reply.RecordValue.TheVariants as value
-use Rattle.record_text.specs.Records.{RecordStore, blocks_of, is_store_full}
-use Rattle.record_text.specs.Interpreter.{record_step_of}
-use Rattle.books_report.specs.Stores.Interpreter.Step.{Gives, Full}
-use Rattle.record_text.specs.Ranges.{HasRoom}
 
 -- the value of a record that is put, by whether it was there
 abbrev pub put_value : Bool → RecordValue

@@ -1,10 +1,8 @@
 -- Records are printed in the order of the index.
-use Rattle.std.proofs.Common.{ℕ, T, List, [], ◌∷◌, All, map, arith}
-use Rattle.std.specs.FinMap.Entries.{below_all, is_sorted}
+use Rattle.record_text.proofs.Common.{ℕ, List, [], ◌∷◌, map, arith, below_all, is_sorted, below_first, below_rest, sorted_first, sorted_rest, index_cmp}
+use Rattle.std.proofs.Common.{T, All}
 use Rattle.std.proofs.lemmas.List.Elements.{All-nil, All-cons}
 use Rattle.std.proofs.lemmas.List.Kept.{AllPairs-cons}
-use Rattle.books_model.proofs.Maps.Keys.{below_first, below_rest, sorted_first, sorted_rest}
-use Rattle.record_text.specs.Records.{index_cmp}
 use Rattle.record_text.specs.Output.{AreByRank, IsBefore, Printed}
 
 -- an entry of the index, as it is printed

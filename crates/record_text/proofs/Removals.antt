@@ -1,19 +1,13 @@
 -- Taking a record out: what the step comes to, and the blocks after it.
-use Rattle.std.proofs.Common.{◌≡◌, ℕ, ◌-◌, ◌≤◌, Bool, true, false, cond, List, Some, None, ap, ◌∙◌, arith}
-use Rattle.std.specs.FinMap as finite
+use Rattle.record_text.proofs.Common.{◌≡◌, ℕ, ◌≤◌, Bool, true, false, cond, List, Some, None, ap, ◌∙◌, arith, is_at, lookup, nat_cmp, nat_cmp_total}
+use Rattle.record_text.proofs.Common.{exact_unsigned, Records, RecordStore, blocks_of, with_record, record_step_of, Gives, HasRoom}
+use Rattle.books_report.proofs.Common.{Absent}
+use Rattle.std.proofs.Common.{◌-◌}
 use Rattle.std.specs.FinMap.{len-remove}
-use Rattle.std.specs.BTreeMap.{is_at}
-use Rattle.std.specs.Map.{lookup}
-use Rattle.std.specs.Ordering.{nat_cmp}
-use Rattle.std.specs.Cmp.{nat_cmp_total}
-use Rattle.std.proofs.lemmas.Map.Lookups.{exact_unsigned}
 use Rattle.books_model.proofs.Maps.Trees.{from_entries-removed}
+use Rattle.std.specs.FinMap as finite
 use Rattle.record_text.specs.declared.reply.RecordValue.TheVariants as value
 use Rattle.record_text.specs.declared.script.RecordOp.TheVariants as op
-use Rattle.record_text.specs.Records.{Records, RecordStore, blocks_of}
-use Rattle.record_text.specs.Interpreter.{with_record, record_step_of}
-use Rattle.books_report.specs.Stores.Interpreter.Step.{Gives, Absent}
-use Rattle.record_text.specs.Ranges.{HasRoom}
 
 -- as many records or one less
 fewer : (b : Bool) (n : ℕ) → cond b (n - 1) n ≤ n

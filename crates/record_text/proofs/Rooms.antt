@@ -1,13 +1,10 @@
 -- How many blocks records take.
-use Rattle.std.proofs.Common.{◌≡◌, ℕ, ◌*◌, length, ap, arith}
-use Rattle.std.specs.FinMap as finite
+use Rattle.record_text.proofs.Common.{◌≡◌, ℕ, ◌*◌, length, ap, arith, nat_cmp_total, nat_cmp, blocks_of, HasRoom}
 use Rattle.std.specs.FinMap.{len-empty}
-use Rattle.std.specs.Cmp.{nat_cmp_total}
-use Rattle.std.specs.Ordering.{nat_cmp}
-use Rattle.std.specs.BTreeMap as tree
 use Rattle.books_model.proofs.Maps.Trees.{len-from_entries}
-use Rattle.record_text.specs.Records.{blocks_of}
-use Rattle.record_text.specs.Ranges.{HasRoom, IsBlockCount}
+use Rattle.record_text.specs.Ranges.{IsBlockCount}
+use Rattle.std.specs.FinMap as finite
+use Rattle.std.specs.BTreeMap as tree
 
 -- no records take none
 pub empty_has_room : (blocks : ℕ) → IsBlockCount blocks → HasRoom (record { blocks = blocks; records = finite.empty })

@@ -1,7 +1,6 @@
 -- Tests over lists that are put together.
-use Rattle.std.proofs.Common.{◌≡◌, ◌+◌, Bool, true, false, not, ◌&&◌, ◌||◌, cond, List, [], ◌∷◌, ◌++◌, map, length, refl, sym, ap, ◌∙◌, arith}
-use Rattle.std.specs.List.{list_any, count_by, AllByRecursion}
-use Rattle.std.proofs.lemmas.List.Sums.{sum_by-cons}
+use Rattle.script_reader.proofs.Common.{◌≡◌, ◌+◌, Bool, true, false, not, ◌&&◌, ◌||◌, cond, List, [], ◌∷◌, ◌++◌, map, length, refl, sym, ap, ◌∙◌, arith}
+use Rattle.script_reader.proofs.Common.{list_any, count_by, AllByRecursion, sum_by-cons}
 
 -- whether a list has an element
 abbrev pub is_some_list : {A : Type 0} → List A → Bool
@@ -13,7 +12,8 @@ pub both : {a b : Bool} → (a && b) ≡ true → (a ≡ true) × (b ≡ true)
 both {a = true} h = (refl, h)
 both {a = false} h = cc
 
-pub and_true : {a b : Bool} → a ≡ true → b ≡ true → (a && b) ≡ true
+-- a test that passes leaves the other
+pub and_true : {a b c : Bool} → a ≡ true → b ≡ c → (a && b) ≡ c
 and_true {a = true} h g = g
 and_true {a = false} h g = cc
 
@@ -26,11 +26,7 @@ pub or_right : (a : Bool) {b : Bool} → b ≡ true → (a || b) ≡ true
 or_right true h = refl
 or_right false h = h
 
--- a test that does not pass
-pub not_passed : {a : Bool} → not a ≡ true → a ≡ false
-not_passed {a = true} h = cc
-not_passed {a = false} h = refl
-
+-- a test whose opposite does not pass
 pub passed : {a : Bool} → not a ≡ false → a ≡ true
 passed {a = true} h = refl
 passed {a = false} h = cc

@@ -1,22 +1,15 @@
 -- Whole texts by any judge: one that ends if nothing is wrong with its last line, and one with a first fault.
-use Rattle.std.proofs.Common.{◌≡◌, ◌≢◌, ◌⊎◌, inl, inr, ℕ, suc, zero, ◌+◌, ◌-◌, ◌<◌, ◌≤◌, ◌^◌, Bool, true}
-use Rattle.std.proofs.Common.{false, ◌==◌, if◌then◌else◌, List, [], ◌∷◌, ◌++◌, codes}
-use Rattle.std.proofs.Common.{take, drop, length, Option, Some, None, refl, sym, ap, subst, ◌∙◌, append_assoc, length-append, arith}
-use Rattle.std.specs.List.{count_by, flat_map, join_with_byte, position, slice_split}
-use Rattle.std.proofs.lemmas.List.{append-nil}
-use Rattle.std.proofs.lemmas.List.Concat.{flat_map-append}
-use Rattle.std.proofs.lemmas.List.Sums.{sum_by-append}
-use Rattle.script_reader.specs.declared.text.words.TheConstants.{SPACE, LINE_FEED}
-use Rattle.script_reader.specs.declared.fault.Fault.{Fault}
-use Rattle.script_reader.specs.declared.fault.Fault.TheVariants as fault
-use Rattle.script_reader.specs.Lines.{AreWords}
-use Rattle.script_reader.specs.Text.{line, finish_line}
-use Rattle.script_reader.specs.Forms.{Words, is_only}
-use Rattle.script_reader.specs.Reading.{Judge, HaveNoFault, BeginsFaulty, IsFaultBehind, IsFaultInFront, GoesOnBehind}
+use Rattle.script_reader.proofs.Common.{◌≡◌, ◌≢◌, ◌⊎◌, inl, inr, ℕ, suc, zero, ◌+◌, ◌-◌, ◌<◌, ◌≤◌, ◌^◌, Bool, true, false, ◌==◌, if◌then◌else◌, List, [], ◌∷◌}
+use Rattle.script_reader.proofs.Common.{◌++◌, codes, take, drop, length, Option, Some, None, refl, sym, ap, subst, ◌∙◌, append_assoc, length-append, arith}
+use Rattle.script_reader.proofs.Common.{count_by, flat_map, position, slice_split, append-nil, sum_by-append, SPACE, LINE_FEED, Fault, AreWords, line}
+use Rattle.script_reader.proofs.Common.{finish_line, Words, is_only, Judge, HaveNoFault, BeginsFaulty, IsFaultBehind, IsFaultInFront, GoesOnBehind}
+use Rattle.script_reader.proofs.books.Texts.Following.{line_shorter}
+use Rattle.script_reader.proofs.Joined.{joined}
 use Rattle.script_reader.proofs.Judging.{count_line, count_lines, fault_once, faultless_append, finish_once, finish_words, no_fault}
 use Rattle.script_reader.proofs.LineFaults.LineKinds.{only_word}
 use Rattle.script_reader.proofs.books.Texts.Fronting.{take_front}
 use Rattle.script_reader.proofs.text.Tokens.Cutting.{found_at, found_none, taken}
+use Rattle.script_reader.specs.declared.fault.Fault.TheVariants as fault
 
 -- the lines of a text before its last
 pub record IsWhole (judge : Judge) (text : List ℕ) : Type 0 where
@@ -31,9 +24,9 @@ empty_or_not [] = inl refl
 empty_or_not (x ∷ xs) = inr (λ e. cc)
 
 -- a text up to its last line, and what follows it
-with_rest : (text front rest : List ℕ) (ls : List Words) → text ≡ front ++ rest
+with_rest : {text front : List ℕ} (rest : List ℕ) (ls : List Words) → text ≡ front ++ rest
     → front ≡ flat_map line ls ++ finish_line → text ≡ flat_map line ls ++ (finish_line ++ rest)
-with_rest text front rest ls e is = e ∙ ap (λ l. l ++ rest) is ∙ append_assoc (flat_map line ls) finish_line rest
+with_rest rest ls e is = e ∙ ap (λ l. l ++ rest) is ∙ append_assoc (flat_map line ls) finish_line rest
 
 module _ (judge : Judge) (IsText : List ℕ → Type 0) where
   -- its first fault: of a line, or that it goes on
@@ -50,22 +43,22 @@ module _ (judge : Judge) (IsText : List ℕ → Type 0) where
     front_not_both text front rest number why e h fault =
         let s = whole front h in
         no_fault judge [] fault.faulty.more s.lines fault.faulty.rest fault.left rest why fault.faulty.faultless s.faultless
-        s.ends (sym fault.faulty.text_is ∙ with_rest text front rest s.lines e s.text_is) fault.faulty.here
+        s.ends (sym fault.faulty.text_is ∙ with_rest rest s.lines e s.text_is) fault.faulty.here
 
     -- two fronts of one text have the same lines
-    pub same_lines : (text front rest other left : List ℕ) → text ≡ front ++ rest → text ≡ other ++ left → (h : IsText front) (k : IsText other)
+    pub same_lines : {text : List ℕ} (front rest other left : List ℕ) → text ≡ front ++ rest → text ≡ other ++ left → (h : IsText front) (k : IsText other)
         → ((whole front h).lines ≡ (whole other k).lines) × (rest ≡ left)
-    same_lines text front rest other left e g h k =
+    same_lines front rest other left e g h k =
         let s = whole front h in
         let t = whole other k in
         finish_once judge [] s.lines t.lines rest left s.faultless t.faultless
-        (sym (with_rest text front rest s.lines e s.text_is) ∙ with_rest text other left t.lines g t.text_is)
+        (sym (with_rest rest s.lines e s.text_is) ∙ with_rest left t.lines g t.text_is)
 
     -- so they are the same
     pub fronts_once : (text front rest other left : List ℕ) → text ≡ front ++ rest → text ≡ other ++ left → IsText front → IsText other
         → (front ≡ other) × (rest ≡ left)
     fronts_once text front rest other left e g h k =
-        let same = same_lines text front rest other left e g h k in
+        let same = same_lines front rest other left e g h k in
         ((whole front h).text_is ∙ ap (λ l. flat_map line l ++ finish_line) same.0 ∙ sym (whole other k).text_is, same.1)
 
     -- a text has no fault
@@ -96,17 +89,10 @@ module _ (judge : Judge) (IsText : List ℕ → Type 0) where
     read_on (suc fuel) text before left enough f e =
         by (position (λ b. b == LINE_FEED) left) refl (λ words after are is more fine. read_on fuel text (before ++ words ∷ []) after (shorter words after is)
         (faultless_append judge [] before (words ∷ []) f (are, fine, more, tt))
-        (e ∙ ap (λ l. flat_map line before ++ l) is ∙ sym (append_assoc (flat_map line before) (line words) after)
-        ∙ ap (λ l. l ++ after) (ap (λ l. flat_map line before ++ l) (sym (append-nil (line words))) ∙ sym (flat_map-append line before (words ∷ [])))))
+        (e ∙ simp (is, joined)))
       where
         shorter : (words : Words) (after : List ℕ) → left ≡ line words ++ after → length after < fuel
-        shorter words after is = omega (
-          arith,
-          enough,
-          ap length is,
-          length-append (line words) after,
-          length-append (join_with_byte SPACE words) (LINE_FEED ∷ []),
-        )
+        shorter words after is = omega (arith, enough, line_shorter words after is)
 
         whole : (words : Words) (after : List ℕ) → AreWords words → left ≡ line words ++ after
             → ((more : is_only (codes "finish") words ≡ false) → judge before words ≡ None → IsText text ⊎ HasFault text)
@@ -125,8 +111,7 @@ module _ (judge : Judge) (IsText : List ℕ → Type 0) where
             let last : words ≡ codes "finish" ∷ [] = only_word (codes "finish") words ends in
             let is_text = spells before f (sym (ap (judge before) last) ∙ fine) in
             let front : List ℕ = flat_map line before ++ finish_line in
-            let text_is : text ≡ front ++ after = e
-            ∙ ap (λ l. flat_map line before ++ l) (is ∙ ap (λ w. line w ++ after) last) ∙ sym (append_assoc (flat_map line before) finish_line after) in
+            let text_is : text ≡ front ++ after = e ∙ simp (is, last, joined) in
             elim (empty_or_not after) [
               | inl none ↦ inl (subst IsText (sym (text_is ∙ ap (λ l. front ++ l) none ∙ append-nil front)) is_text)
               | inr some ↦ inr (
@@ -158,7 +143,7 @@ module _ (judge : Judge) (IsText : List ℕ → Type 0) where
           }),
         )
         by (Some i) at on =
-            let found = found_at LINE_FEED left i at in
+            let found = found_at LINE_FEED left at in
             let after : List ℕ = take (length (drop i left) - 1) (drop 1 (drop i left)) in
             let words : Words = slice_split (λ b. b == SPACE) (take i left) in
             let line_is = taken left (take i left) after words (found.2, found.1) refl in
@@ -197,7 +182,7 @@ module _ (judge : Judge) (few : (lines : List Words) → HaveNoFault judge [] li
       by (inl (words, are, is, faulty)) =
           let e : text ≡ (lines ++ line words) ++ left = h.text_is ∙ ap (λ l. lines ++ l) is ∙ sym (append_assoc lines (line words) left) in
           let counted : feeds text left ≡ length h.more + 1 =
-          ap (count_by (λ b. b == LINE_FEED)) (take_front text (lines ++ line words) left _ e refl)
+          ap (count_by (λ b. b == LINE_FEED)) (take_front left _ e refl)
           ∙ sum_by-append (λ b. if b == LINE_FEED then 1 else 0) lines (line words)
           ∙ (λ i. count_lines judge [] h.more h.faultless i + count_line words are i) in
           record {
@@ -210,7 +195,7 @@ module _ (judge : Judge) (few : (lines : List Words) → HaveNoFault judge [] li
       by (inr (free, same, is_end)) =
           let e : text ≡ lines ++ left = h.text_is ∙ ap (λ l. lines ++ l) (sym same) in
           let counted : feeds text left ≡ length h.more =
-          ap (count_by (λ b. b == LINE_FEED)) (take_front text lines left _ e refl) ∙ count_lines judge [] h.more h.faultless in
+          ap (count_by (λ b. b == LINE_FEED)) (take_front left _ e refl) ∙ count_lines judge [] h.more h.faultless in
           record {
             shorter = omega (arith, ap length e, length-append lines left);
             few = omega (arith, counted, small);
@@ -232,8 +217,8 @@ module _ (judge : Judge) (few : (lines : List Words) → HaveNoFault judge [] li
       by (inr other) = omega (arith, whole other, counted, what.whole other)
 
   -- a text has few line feeds
-  pub few_of_text : (text : List ℕ) → IsWhole judge text → count_by (λ b. b == LINE_FEED) text + 1 < 2 ^ 32
-  few_of_text text h = omega (
+  pub few_of_text : {text : List ℕ} → IsWhole judge text → count_by (λ b. b == LINE_FEED) text + 1 < 2 ^ 32
+  few_of_text h = omega (
     arith,
     ap (count_by (λ b. b == LINE_FEED)) h.text_is,
     sum_by-append (λ b. if b == LINE_FEED then 1 else 0) (flat_map line h.lines) finish_line,

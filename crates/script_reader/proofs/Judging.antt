@@ -1,19 +1,11 @@
 -- The first fault of a text by any judge: lines that were read in front of it, and that it is one at most.
-use Rattle.std.proofs.Common.{◌≡◌, inl, inr, ℕ, ◌+◌, List, [], ◌∷◌, ◌++◌, codes, length, Option, cond, ◌==◌, Some, None, refl, sym, ap, subst, ◌∙◌}
-use Rattle.std.proofs.Common.{append_assoc, true≢false, arith}
-use Rattle.std.specs.List.{flat_map, count_by, join_with_byte}
-use Rattle.std.proofs.lemmas.List.{append-nil}
-use Rattle.std.proofs.lemmas.List.Concat.{flat_map-append}
-use Rattle.std.proofs.lemmas.List.Sums.{sum_by-append, sum_by-cons}
-use Rattle.std.proofs.lemmas.Option.{none-some, same_Some}
-use Rattle.script_reader.specs.declared.text.words.TheConstants.{SPACE, LINE_FEED}
-use Rattle.script_reader.specs.declared.fault.Fault.{Fault}
-use Rattle.script_reader.specs.declared.fault.Fault.TheVariants as fault
-use Rattle.script_reader.specs.Lines.{IsFreeOf, AreWords}
-use Rattle.script_reader.specs.Text.{line, finish_line}
-use Rattle.script_reader.specs.Forms.{Words, is_only}
-use Rattle.script_reader.specs.Reading.{Judge, HaveNoFault, BeginsFaulty, IsFaultBehind}
+use Rattle.script_reader.proofs.Common.{◌≡◌, inl, inr, ℕ, ◌+◌, List, [], ◌∷◌, ◌++◌, codes, length, Option, cond, ◌==◌, Some, None, refl, sym, ap, subst, ◌∙◌}
+use Rattle.script_reader.proofs.Common.{append_assoc, true≢false, arith, flat_map, count_by, join_with_byte, append-nil, sum_by-append, sum_by-cons, none-some}
+use Rattle.script_reader.proofs.Common.{same_Some, SPACE, LINE_FEED, Fault, IsFreeOf, AreWords, line, finish_line, Words, is_only, Judge, HaveNoFault}
+use Rattle.script_reader.proofs.Common.{BeginsFaulty, IsFaultBehind}
+use Rattle.script_reader.proofs.Joined.{joined}
 use Rattle.script_reader.proofs.text.Tokens.Cutting.{join-free, line_once, no_line, word_from_test}
+use Rattle.script_reader.specs.declared.fault.Fault.TheVariants as fault
 
 -- the last line
 finish : Words
@@ -60,34 +52,6 @@ module _ (judge : Judge) where
   faultless_rest before [] ys f = subst (λ b. HaveNoFault judge b ys) (sym (append-nil before)) f
   faultless_rest before (x ∷ xs) ys f = subst (λ b. HaveNoFault judge b ys) (append_assoc before (x ∷ []) xs) (faultless_rest (before ++ x ∷ []) xs ys f.3)
 
-  -- lines that were read before the fault
-  pub behind_more : (before done : List Words) (start left after : List ℕ) (why : Fault) → HaveNoFault judge before done
-      → start ≡ flat_map line done ++ left → IsFaultBehind judge (before ++ done) left after why → IsFaultBehind judge before start after why
-  behind_more before done start left after why f e h = record {
-    more = done ++ h.more;
-    rest = h.rest;
-    faultless = faultless_append before done h.more f h.faultless;
-    text_is = e ∙ ap (λ l. flat_map line done ++ l) h.text_is
-        ∙ sym (append_assoc (flat_map line done) (flat_map line h.more) h.rest) ∙ ap (λ l. l ++ h.rest) (sym (flat_map-append line done h.more));
-    here = subst (λ b. BeginsFaulty judge b h.rest after why) (append_assoc before done h.more) h.here;
-  }
-
-  -- no whole line is left
-  pub behind_end : (before : List Words) (left after : List ℕ) (why : Fault) → (why ≡ fault.End) × IsFreeOf LINE_FEED left
-      × (after ≡ left) → IsFaultBehind judge before left after why
-  behind_end before left after why h = record { more = []; rest = left; faultless = tt; text_is = refl; here = inr (h.1, h.2, h.0) }
-
-  -- a line with a fault is left
-  pub behind_line : (before : List Words) (left after : List ℕ) (words : Words) (why : Fault) → AreWords words
-      → left ≡ line words ++ after → judge before words ≡ Some why → IsFaultBehind judge before left after why
-  behind_line before left after words why are is faulty = record {
-    more = [];
-    rest = left;
-    faultless = tt;
-    text_is = refl;
-    here = inl (words, are, is, ap (λ b. judge b words) (append-nil before) ∙ faulty);
-  }
-
   -- lines without fault up to the last line, and such lines once more, are the same
   pub finish_once : (before ls ks : List Words) (r s : List ℕ) → HaveNoFault judge before ls → HaveNoFault judge before ks
       → flat_map line ls ++ (finish_line ++ r) ≡ flat_map line ks ++ (finish_line ++ s) → (ls ≡ ks) × (r ≡ s)
@@ -111,13 +75,13 @@ module _ (judge : Judge) where
   no_fault before [] [] rest left after why f g ends e (inl here) =
       let same = line_once here.0 (codes "finish" ∷ []) left after here.1 finish_words (sym here.2 ∙ e) in
       some_none ends (ap (judge (before ++ [])) (sym same.0) ∙ here.3)
-  no_fault before [] [] rest left after why f g ends e (inr here) = no_line rest (codes "finish" ∷ []) after here.0 e
+  no_fault before [] [] rest left after why f g ends e (inr here) = no_line (codes "finish" ∷ []) after here.0 e
   no_fault before [] (v ∷ valid) rest left after why f g ends e (inl here) =
       let same = line_once here.0 v left (flat_map line valid ++ (finish_line ++ after)) here.1 g.0 (sym here.2 ∙ e
       ∙ first_line v valid (finish_line ++ after)) in
       some_none (ap (judge before) same.0 ∙ g.1) (ap (λ b. judge b here.0) (sym (append-nil before)) ∙ here.3)
   no_fault before [] (v ∷ valid) rest left after why f g ends e (inr here) =
-      no_line rest v (flat_map line valid ++ (finish_line ++ after)) here.0 (e ∙ first_line v valid (finish_line ++ after))
+      no_line v (flat_map line valid ++ (finish_line ++ after)) here.0 (e ∙ first_line v valid (finish_line ++ after))
   no_fault before (w ∷ more) [] rest left after why f g ends e here =
       let same = line_once w (codes "finish" ∷ []) (flat_map line more ++ rest) after f.0 finish_words (sym (first_line w more rest) ∙ e) in
       true≢false (sym (ap (is_only (codes "finish")) same.0) ∙ f.2)
@@ -135,18 +99,18 @@ module _ (judge : Judge) where
   fault_once before [] [] r s left other why reason f g e (inl here) (inl there) =
       let same = line_once here.0 there.0 left other here.1 there.1 (sym here.2 ∙ e ∙ there.2) in
       (refl, same_Some why reason (sym here.3 ∙ ap (judge (before ++ [])) same.0 ∙ there.3))
-  fault_once before [] [] r s left other why reason f g e (inl here) (inr there) = absurd (no_line s here.0 left there.0 (sym e ∙ here.2))
-  fault_once before [] [] r s left other why reason f g e (inr here) (inl there) = absurd (no_line r there.0 other here.0 (e ∙ there.2))
+  fault_once before [] [] r s left other why reason f g e (inl here) (inr there) = absurd (no_line here.0 left there.0 (sym e ∙ here.2))
+  fault_once before [] [] r s left other why reason f g e (inr here) (inl there) = absurd (no_line there.0 other here.0 (e ∙ there.2))
   fault_once before [] [] r s left other why reason f g e (inr here) (inr there) = (refl, here.2 ∙ sym there.2)
   fault_once before [] (k ∷ ks) r s left other why reason f g e (inl here) there =
       let same = line_once here.0 k left (flat_map line ks ++ s) here.1 g.0 (sym here.2 ∙ e ∙ first_line k ks s) in
       absurd (some_none (ap (judge before) same.0 ∙ g.1) (ap (λ b. judge b here.0) (sym (append-nil before)) ∙ here.3))
-  fault_once before [] (k ∷ ks) r s left other why reason f g e (inr here) there = absurd (no_line r k (flat_map line ks ++ s) here.0 (e ∙ first_line k ks s))
+  fault_once before [] (k ∷ ks) r s left other why reason f g e (inr here) there = absurd (no_line k (flat_map line ks ++ s) here.0 (e ∙ first_line k ks s))
   fault_once before (l ∷ ls) [] r s left other why reason f g e here (inl there) =
       let same = line_once there.0 l other (flat_map line ls ++ r) there.1 f.0 (sym there.2 ∙ sym e ∙ first_line l ls r) in
       absurd (some_none (ap (judge before) same.0 ∙ f.1) (ap (λ b. judge b there.0) (sym (append-nil before)) ∙ there.3))
   fault_once before (l ∷ ls) [] r s left other why reason f g e here (inr there) =
-      absurd (no_line s l (flat_map line ls ++ r) there.0 (sym e ∙ first_line l ls r))
+      absurd (no_line l (flat_map line ls ++ r) there.0 (sym e ∙ first_line l ls r))
   fault_once before (l ∷ ls) (k ∷ ks) r s left other why reason f g e here there =
       let same = line_once l k (flat_map line ls ++ r) (flat_map line ks ++ s) f.0 g.0 (sym (first_line l ls r) ∙ e ∙ first_line k ks s) in
       let rest = fault_once (before ++ l ∷ []) ls ks r s left other why reason f.3 (subst (λ u. HaveNoFault judge (before ++ u ∷ []) ks)
@@ -164,3 +128,29 @@ module _ (judge : Judge) where
     count_line w f.0,
     count_lines (before ++ w ∷ []) lines f.3,
   )
+
+module _ {judge : Judge} {before : List Words} {left after : List ℕ} {why : Fault} where
+  -- lines that were read before the fault
+  pub behind_more : (done : List Words) {start : List ℕ} → HaveNoFault judge before done → start ≡ flat_map line done ++ left
+      → IsFaultBehind judge (before ++ done) left after why → IsFaultBehind judge before start after why
+  behind_more done f e h = record {
+    more = done ++ h.more;
+    rest = h.rest;
+    faultless = faultless_append judge before done h.more f h.faultless;
+    text_is = e ∙ simp (h.text_is, joined);
+    here = subst (λ b. BeginsFaulty judge b h.rest after why) (append_assoc before done h.more) h.here;
+  }
+
+  -- no whole line is left
+  pub behind_end : {end : Fault} → end ≡ why → (end ≡ fault.End) × IsFreeOf LINE_FEED left × (after ≡ left) → IsFaultBehind judge before left after why
+  behind_end same h = record { more = []; rest = left; faultless = tt; text_is = refl; here = inr (h.1, h.2, sym same ∙ h.0) }
+
+  -- a line with a fault is left
+  pub behind_line : {words : Words} → AreWords words → left ≡ line words ++ after → judge before words ≡ Some why → IsFaultBehind judge before left after why
+  behind_line {words} are is faulty = record {
+    more = [];
+    rest = left;
+    faultless = tt;
+    text_is = refl;
+    here = inl (words, are, is, ap (λ b. judge b words) (append-nil before) ∙ faulty);
+  }

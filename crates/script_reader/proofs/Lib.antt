@@ -1,3 +1,9 @@
+-- what several proofs import
+pub mod Common
+-- what the exit of a `?` hands on
+pub mod HandedOn
+-- lists that are put together
+pub mod Joined
 -- tests over lists that are put together
 pub mod Conditions
 -- the first fault of a text by any judge

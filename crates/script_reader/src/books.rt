@@ -34,7 +34,7 @@ use io_ends::OutOfMemory;
 use std::alloc::Global;
 
 // A row of books: what a line adds to them.
-#[derive(Clone, Copy, Debug, PartialEq, Eq)]
+#[derive(Clone, Copy)]
 pub(crate) enum Row {
     // An account and its cash.
     Account(u32, u64),

@@ -91,7 +91,7 @@ impl fmt::Display for InputFault {
 impl Error for InputFault {}
 
 // Why a part of a text was not read. The number of the line is added if the whole text is read.
-#[derive(Clone, Copy, Debug, PartialEq, Eq)]
+#[derive(Clone, Copy)]
 pub(crate) enum Refusal {
     // The line that was read last has this fault, or with `Fault::End` the line after it.
     LineFault(Fault),

@@ -1,30 +1,18 @@
 -- The kinds of step on timestamps keep the timestamp invariant.
-use Rattle.std.proofs.Common.{◌≡◌, ◌≢◌, ℕ, suc, ◌+◌, ◌<◌, ◌≤◌, Bool, true, false, ◌&&◌, ◌⊎◌, inl, inr, ⊎_elim, List, [], ◌∷◌, ◌++◌, Option, Some, None}
-use Rattle.std.proofs.Common.{nat_lt, if◌then◌else◌, slice_index, slice_set, refl, sym, ap, ◌∙◌, subst, arith, eq-eqb, ne_eqb, get_or-set_other}
-use Rattle.std.proofs.Common.{get_or-set_same}
+use Rattle.stamps_rule.proofs.Common.{◌≡◌, ◌≢◌, ℕ, suc, ◌+◌, ◌<◌, ◌≤◌, Bool, true, false, ◌&&◌, ◌⊎◌, inl, inr, ⊎_elim, List, [], ◌∷◌, ◌++◌, Option, Some, None}
+use Rattle.stamps_rule.proofs.Common.{if◌then◌else◌, slice_index, slice_set, refl, sym, ap, ◌∙◌, subst, arith, eq-eqb, ne_eqb, get_or-set_other}
+use Rattle.stamps_rule.proofs.Common.{get_or-set_same, same_Some, dite, ℕ_discrete, Cause, View, IsIn, has, without, flag, Knows, clock_word, calls_word}
+use Rattle.stamps_rule.proofs.Common.{stamps_word, differ, not_true, has-without, LocksHold, IsSeat, calls_below-same, own, past_causes, newest, older}
+use Rattle.stamps_rule.proofs.Common.{pending_of, waited_of, KeepsStamps, is_idle, is_unstamped, shown_stamp, Shows, GoesAfter, AreSeatsDistinct, WasMet}
+use Rattle.stamps_rule.proofs.Common.{StampsHold, MayDrawStamp, MayAnnounceStamp, MayJudgeStamp, MayLoadCauseStamp, draw_stamp_action, announce_stamp_action}
+use Rattle.stamps_rule.proofs.Common.{judge_stamp_action, load_cause_stamp_action, judged, after_giving_way, after_waiting, after_restarting, after_judgement}
+use Rattle.std.proofs.Common.{nat_lt}
 use Rattle.std.proofs.lemmas.Bool.Decides.{leb_tells}
-use Rattle.std.proofs.lemmas.Option.{same_Some}
-use mathlib.Core.Logic.{dite}
-use native.Mathlib.Decide.{ℕ_discrete}
-use Rattle.history_model.specs.declared.event.Cause.{Cause}
-use Rattle.history_model.specs.declared.view.View.{View}
-use Rattle.history_model.specs.Legal.{IsIn}
-use Rattle.history_model.specs.Sets.{has, without, flag}
-use Rattle.history_model.specs.Table.{Knows, clock_word, calls_word, stamps_word}
-use Rattle.history_model.proofs.SetLemmas.{bool_cases, differ, not_true, has-without}
-use Rattle.locks_rule.specs.Locks.{LocksHold, IsSeat}
-use Rattle.locks_rule.proofs.Counting.{calls_below-same}
-use Rattle.locks_rule.proofs.Own.{own}
-use Rattle.stamps_rule.specs.Causes.{past_causes, newest, older, pending_of, waited_of}
-use Rattle.stamps_rule.specs.Keeping.{KeepsStamps}
-use Rattle.stamps_rule.specs.Stamps.{is_idle, is_unstamped, shown_stamp, Shows, GoesAfter, AreSeatsDistinct, WasMet, StampsHold}
-use Rattle.stamps_rule.specs.Steps.{MayDrawStamp, MayAnnounceStamp, MayJudgeStamp, MayLoadCauseStamp, draw_stamp_action}
-use Rattle.stamps_rule.specs.Steps.{announce_stamp_action, judge_stamp_action, load_cause_stamp_action, judged, attempt_of}
-use Rattle.stamps_rule.specs.Steps.{after_giving_way, after_waiting, after_restarting, after_judgement}
-use Rattle.stamps_rule.proofs.Asides.{words_unchanged, notes_same, stamps_kept, all_kept, causes_kept, causes_empty, waited_kept, earlier_kept}
-use Rattle.stamps_rule.proofs.Asides.{stands_aside}
-use Rattle.stamps_rule.proofs.CauseLists.{newest_added, older_added, newest_last, past_added, in_added, waited_running, pending_yielding}
-use Rattle.stamps_rule.proofs.CauseLists.{waited_yielding, empty_list, distinct_added}
+use Rattle.history_model.proofs.SetLemmas.{bool_cases}
+use Rattle.stamps_rule.specs.Steps.{attempt_of}
+use Rattle.stamps_rule.proofs.Asides.{words_unchanged, notes_same, stamps_kept, all_kept, causes_kept, causes_empty, waited_kept, earlier_kept, stands_aside}
+use Rattle.stamps_rule.proofs.CauseLists.{newest_added, older_added, newest_last, past_added, in_added, waited_running, pending_yielding, waited_yielding}
+use Rattle.stamps_rule.proofs.CauseLists.{empty_list, distinct_added}
 use Rattle.stamps_rule.proofs.Counting.{unstamped_stamped, unstamped_running}
 use Rattle.stamps_rule.proofs.Frames.{moves}
 use Rattle.stamps_rule.proofs.LocksStand.{runs, yields}

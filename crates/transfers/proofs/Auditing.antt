@@ -1,9 +1,6 @@
 -- What an audit has summed so far, on every list that fits what it read.
-use Rattle.std.proofs.Common.{◌≡◌, ℕ, ◌+◌, ◌<◌, ◌≤◌, ◌^◌, List, [], ◌∷◌, ◌++◌, sum, take, get_or, true, refl, ap, ◌∙◌, arith}
-use Rattle.std.proofs.lemmas.List.{take_all}
-use Rattle.std.proofs.lemmas.List.Sums.{sum_by_more, sum_by_more_le}
-use Rattle.txn.proofs.Common.{Read, Trace, after, Fits, SomeFits, WasRead, nothing_yet, was_read, fits_read}
-use Rattle.transfers.specs.Moving.{HasSum, TellsSum}
+use Rattle.transfers.proofs.Common.{◌≡◌, ℕ, ◌+◌, ◌<◌, ◌≤◌, ◌^◌, List, [], ◌∷◌, ◌++◌, sum, take, get_or, refl, arith, sum_by_more}
+use Rattle.transfers.proofs.Common.{sum_by_more_le, Read, Trace, after, Fits, SomeFits, WasRead, nothing_yet, was_read, fits_read, HasSum}
 
 module _ (n vault : ℕ) where
   -- nothing has changed, and the total is the sum of the words before the place
@@ -42,11 +39,3 @@ module _ (n vault : ℕ) where
         let x : Step s = step s some.1 in
         let within : sum (take place s) + get_or s place 0 ≤ sum s = sum_by_more_le (λ n. n) s place 0 x.here.there in
         omega (arith, within, x.before, x.here.word, some.1.good.sum_is, some.1.good.fits)
-
-  -- all are summed
-  pub tells_all : (total : ℕ) (t : Trace) → IsSummed n total t → (s : List ℕ) → Fits n (HasSum vault) t s → TellsSum s true total (after t s)
-  tells_all total t summed s fit = record {
-    keeps = refl;
-    tells = summed.sum_is s fit ∙ ap sum (take_all n s (omega (arith, fit.count)));
-    same = summed.same s fit;
-  }

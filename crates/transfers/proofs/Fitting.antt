@@ -1,8 +1,8 @@
 -- Sums that fit, one after the other.
-use Rattle.std.proofs.Common.{◌≡◌, ℕ, ◌+◌, ◌<◌, ◌≤◌, ◌^◌, List, [], ◌∷◌, ◌++◌, true, false, slice_get, slice_set, Some, refl, sym, ap, ◌∙◌, arith}
-use Rattle.std.proofs.lemmas.Option.{same_Some}
-use Rattle.txn.proofs.Common.{Read, Trace, after, Leads, get_set_same, EndsWithWrite, WasRead, was_read, was_put, fits_write_end}
-use Rattle.transfers.specs.Counting.{AddsWhereFits, AddsPairOr}
+use Rattle.transfers.proofs.Common.{◌≡◌, ℕ, ◌+◌, ◌<◌, ◌≤◌, ◌^◌, List, [], ◌∷◌, ◌++◌, true, false, slice_get, slice_set, Some, refl, sym, ap, ◌∙◌, arith}
+use Rattle.transfers.proofs.Common.{same_Some, Read, Trace, after, Leads, get_set_same, EndsWithWrite, WasRead, was_read, was_put, fits_write_end}
+use Rattle.transfers.proofs.Common.{AddsWhereFits}
+use Rattle.transfers.specs.Counting.{AddsPairOr}
 
 -- the first does not fit
 pub first_not : (a b : ℕ) (s t : List ℕ) → AddsWhereFits a false s t → AddsWhereFits (a + b) false s t

@@ -1,7 +1,6 @@
 -- The counter grows by one amount more.
-use Rattle.std.proofs.Common.{◌≡◌, ℕ, ◌+◌, ◌<◌, ◌^◌, List, [], ◌∷◌, ◌++◌, slice_get, slice_set, Some, refl, sym, ap, ◌∙◌, arith}
-use Rattle.std.proofs.lemmas.Option.{same_Some}
-use Rattle.txn.proofs.Common.{Read, Trace, after, Fits, Leads, get_set_same, EndsWithWrite, WasRead, was_read, fits_read, was_put, fits_write_end}
+use Rattle.transfers.proofs.Common.{◌≡◌, ℕ, ◌+◌, ◌<◌, ◌^◌, List, [], ◌∷◌, ◌++◌, slice_get, slice_set, Some, refl, sym, ap, ◌∙◌, arith, same_Some, Read, Trace}
+use Rattle.transfers.proofs.Common.{after, Fits, Leads, get_set_same, EndsWithWrite, WasRead, was_read, fits_read, was_put, fits_write_end}
 
 -- the counter is m more in t than in s, and fits
 pub record Grown (m : ℕ) (s t : List ℕ) : Type 0 where

@@ -1,3 +1,5 @@
+-- what several proofs import
+pub mod Common
 -- the sum of a list when an amount goes from one word to another
 pub mod Sums
 -- what a transfer's trace says of the lists that fit it

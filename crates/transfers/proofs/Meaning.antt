@@ -1,8 +1,7 @@
 -- What adding all amounts means, at the two ends of the loop.
-use Rattle.std.proofs.Common.{◌≡◌, ℕ, ◌+◌, ◌<◌, ◌≤◌, ◌^◌, List, [], ◌∷◌, ◌++◌, length, take, get_or, sum, true, false, refl, ap, subst, arith}
-use Rattle.std.proofs.lemmas.List.{take_all}
-use Rattle.std.proofs.lemmas.List.Sums.{sum_by_more_le}
-use Rattle.txn.proofs.Common.{Read, Trace, after, Fits, Leads}
+use Rattle.transfers.proofs.Common.{◌≡◌, ℕ, ◌+◌, ◌<◌, ◌≤◌, ◌^◌, List, [], ◌∷◌, ◌++◌, length, take, get_or, sum, true, false, refl, ap, subst, arith, take_all}
+use Rattle.transfers.proofs.Common.{sum_by_more_le, Read, Trace, Fits, Leads}
+use Rattle.txn.proofs.Common.{after}
 use Rattle.transfers.specs.Counting.{AddsAll}
 use Rattle.transfers.proofs.Growing.{Grown, grown_read}
 

@@ -1,7 +1,7 @@
 -- A word is read, and written with a sum.
-use Rattle.std.proofs.Common.{◌≡◌, ℕ, ◌+◌, ◌<◌, ◌^◌, List, [], ◌∷◌, ◌++◌, slice_get, slice_set, refl, sym, ap, ◌∙◌, arith}
-use Rattle.std.proofs.lemmas.Option.{same_Some}
-use Rattle.txn.proofs.Common.{Read, Trace, after, Fits, SomeFits, InEach, Leads, EndsWithWrite, WasRead, was_read, fits_read, was_put, fits_write_end}
+use Rattle.transfers.proofs.Common.{◌≡◌, ℕ, ◌+◌, ◌<◌, ◌^◌, List, [], ◌∷◌, ◌++◌, slice_get, slice_set, refl, sym, ap, ◌∙◌, arith, same_Some, Read, Trace, after}
+use Rattle.transfers.proofs.Common.{Fits, SomeFits, Leads, EndsWithWrite, WasRead, was_read, fits_read, was_put, fits_write_end}
+use Rattle.txn.proofs.Common.{InEach}
 use Rattle.transfers.specs.Counting.{HasRoom, AddsTo}
 
 module _ (n : ℕ) (G : List ℕ → Type 0) (t u : Trace) (a x : ℕ) (read : u ≡ t ++ Read a x ∷ []) where

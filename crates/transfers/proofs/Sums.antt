@@ -1,9 +1,9 @@
 -- The sum of a list when an amount goes from one word to another.
-use Rattle.std.proofs.Common.{◌≡◌, ◌≢◌, ℕ, ◌+◌, ◌-◌, ◌<◌, ◌≤◌, List, length, sum, slice_index, slice_set, ◌∙◌, arith, rules}
-use Rattle.std.proofs.lemmas.List.Sums.{sum_by-set, get_or-le-sum_by}
-use Rattle.std.proofs.lemmas.Option.{get_or_from_slice_get, slice_get-get_or}
+use Rattle.transfers.proofs.Common.{◌≡◌, ◌≢◌, ℕ, ◌+◌, ◌-◌, ◌<◌, ◌≤◌, List, length, sum, slice_index, slice_set, ◌∙◌, arith, slice_get-get_or, moved}
 use Rattle.txn.proofs.Common.{get_set_other}
-use Rattle.transfers.specs.Moving.{moved}
+use Rattle.std.proofs.Common.{rules}
+use Rattle.std.proofs.lemmas.List.Sums.{sum_by-set, get_or-le-sum_by}
+use Rattle.std.proofs.lemmas.Option.{get_or_from_slice_get}
 
 -- another word than the one that was set stays
 other_stays : (s : List ℕ) (i j v : ℕ) → j ≢ i → j < length s → slice_index (slice_set s i v) j ≡ slice_index s j

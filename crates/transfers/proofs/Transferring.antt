@@ -1,8 +1,8 @@
 -- What a transfer's trace says of the lists that fit it.
-use Rattle.std.proofs.Common.{◌≡◌, ◌≢◌, ℕ, ◌+◌, ◌-◌, ◌<◌, ◌≤◌, ◌^◌, List, [], ◌∷◌, ◌++◌, true, false, sum, slice_index, slice_set}
-use Rattle.std.proofs.Common.{refl, sym, ap, ◌∙◌, arith}
-use Rattle.txn.proofs.Common.{Read, Trace, after, Fits, SomeFits, EndsWithWrite, BothPut, BothRead, WasRead, first_read, both_read, both_put}
-use Rattle.transfers.specs.Moving.{HasSum, IsCovered, Moves, moved}
+use Rattle.transfers.proofs.Common.{◌≡◌, ◌≢◌, ℕ, ◌+◌, ◌-◌, ◌<◌, ◌≤◌, ◌^◌, List, [], ◌∷◌, ◌++◌, true, false, sum, slice_index, slice_set, refl, sym, ap, ◌∙◌}
+use Rattle.transfers.proofs.Common.{arith, Read, Trace, after, Fits, SomeFits, EndsWithWrite, WasRead, HasSum, moved}
+use Rattle.txn.proofs.Common.{BothPut, BothRead, first_read, both_read, both_put}
+use Rattle.transfers.specs.Moving.{IsCovered, Moves}
 use Rattle.transfers.proofs.Sums.{two_within, moved_sum}
 
 module _ (n total from to amount held : ℕ) (t u : Trace) (fresh : t ≡ []) (first : u ≡ t ++ Read from held ∷ []) where

@@ -1,7 +1,8 @@
 -- What a trace says of how many are inside, on every list that fits it.
-use Rattle.std.proofs.Common.{◌≡◌, ℕ, ◌+◌, ◌<◌, ◌≤◌, List, [], ◌∷◌, ◌++◌, slice_index, true, false, refl, ap, ◌∙◌, arith}
-use Rattle.std.proofs.lemmas.List.{get_or-set_same}
+use Rattle.turnstile.proofs.Common.{◌≡◌, ◌<◌, arith}
 use Rattle.txn.proofs.Common.{Trace, after, Fits, Read, EndsWithWrite, OnePut, WasRead, first_read, one_put}
+use Rattle.std.proofs.Common.{ℕ, ◌+◌, ◌≤◌, List, [], ◌∷◌, ◌++◌, slice_index, true, false, refl, ap, ◌∙◌}
+use Rattle.std.proofs.lemmas.List.{get_or-set_same}
 use Rattle.turnstile.specs.Entering.{Enters, HasAtMost}
 
 module _ (limit inside : ℕ) (t u : Trace) (fresh : t ≡ []) (read : u ≡ t ++ Read 0 inside ∷ []) where

@@ -1,23 +1,11 @@
 -- What goes with each status, said by the words and the bytes that were read.
-use Rattle.std.proofs.Common.{◌≡◌, ◌≤◌, ◌⊎◌, ◌+◌, ℕ, List, length, Option, IfSome}
-use Rattle.std.specs.Io.KnownBytes.{Appends, IsAtEnd}
-use Rattle.io_ends.specs.Taken.{AppendsPrefix, count_taken}
-use Rattle.script_reader.specs.declared.limits.TheConstants.{MOST_INPUT_BYTES}
-use Rattle.script_reader.specs.Faults.{IsFirstFault, IsFrontFault}
-use Rattle.script_reader.specs.Grammar.{AreTwoTexts}
-use Rattle.script_reader.specs.Input.{ClearingInput}
-use Rattle.books_report.specs.declared.limits.TheConstants.{RESTARTS_BELOW}
-use Rattle.books_report.specs.Output.{IsOutput}
-use Rattle.books_report.specs.Checking.{IsFirstWrongLine}
-use Rattle.record_text.specs.Grammar.{IsRecordFault}
-use Rattle.order_text.specs.Grammar.{IsOrderFault}
-use Rattle.twoplsf.specs.Command.{ByCommand, IsCheck, IsReading, IsValidCommand}
-use Rattle.twoplsf.specs.Check.{agrees_line, differs_line}
-use Rattle.twoplsf.specs.Made.{IsMadeText}
+use Rattle.twoplsf.proofs.Common.{◌≡◌, ◌≤◌, ◌⊎◌, ◌+◌, ℕ, List, length, Option, IfSome, Appends, IsAtEnd, AppendsPrefix, count_taken, MOST_INPUT_BYTES}
+use Rattle.twoplsf.proofs.Common.{IsFirstFault, IsFrontFault, AreTwoTexts, ClearingInput, RESTARTS_BELOW, IsOutput, IsFirstWrongLine, IsRecordFault}
+use Rattle.twoplsf.proofs.Common.{IsOrderFault, ByCommand, IsCheck, IsReading, IsValidCommand, agrees_line, differs_line, IsMadeText, IsRefusalOf, OfBytesRead}
+use Rattle.twoplsf.proofs.Common.{refused_size, refused_words, Status}
 use Rattle.twoplsf.specs.Orders.{IsOrderOutputFor}
 use Rattle.twoplsf.specs.Records.{IsRecordOutputFor}
-use Rattle.twoplsf.specs.Answer.{IsOutputFor, IsRefusalOf, OfBytesRead, refused_size, refused_words}
-use Rattle.twoplsf.specs.declared.status.Status.{Status}
+use Rattle.twoplsf.specs.Answer.{IsOutputFor}
 use Rattle.twoplsf.specs.declared.status.Status.TheVariants as status
 
 -- the text behind the input is an output of it

@@ -1,16 +1,14 @@
 -- The lines of cells, one after another, and the values of their words.
-use Rattle.std.proofs.Common.{◌≡◌, ℕ, suc, ◌+◌, ◌<◌, List, [], ◌∷◌, ◌++◌, Some, length, take, slice_get}
-use Rattle.std.proofs.Common.{refl, sym, ap, ◌∙◌, arith, append_assoc, append-nil, add-one}
+use Rattle.twoplsf.proofs.Common.{◌≡◌, ℕ, suc, ◌+◌, ◌<◌, List, [], ◌∷◌, ◌++◌, Some, length, take, refl, sym, ap, ◌∙◌, arith, append_assoc, append-nil, CELLS}
+use Rattle.twoplsf.proofs.Common.{AreCellValues, cell_line, cells_text}
+use Rattle.std.proofs.Common.{slice_get, add-one}
 use Rattle.std.specs.List.{enumerate_from, flat_map}
 use Rattle.std.proofs.lemmas.Option.{slice_get_within}
 use Rattle.std.proofs.lemmas.List.{length-take-le}
 use Rattle.history_model.proofs.ListPlaces.{take-more}
 use Rattle.txn_cells.specs.contracts.numbers.U128Coded.TheImpl.{ghosts as numbers}
-use Rattle.txn_cells.specs.declared.limits.TheConstants.{CELLS}
-use Rattle.txn_cells.specs.Cells.{AreCellValues}
 use Rattle.txn_cells.specs.Spelling.{one_of_halves}
 use Rattle.txn_cells.proofs.Values.{one_values}
-use Rattle.twoplsf.specs.Cells.{cell_line, cells_text}
 
 -- the lines of cells from a place on, and one more
 lines_push : (n : ℕ) (xs : List ℕ) (y : ℕ)

@@ -1,11 +1,10 @@
 -- Command lines.
-use Rattle.std.proofs.Common.{◌≡◌, ◌<◌, ℕ, min, List, length, sym, ap, ◌∙◌, subst, arith, inl, inr, Option, Some, None, IfNone}
+use Rattle.twoplsf.proofs.Common.{◌≡◌, ◌<◌, ℕ, List, length, sym, ap, ◌∙◌, subst, arith, inl, inr, Option, Some, None, number, IsDrill, IsValidCommand}
+use Rattle.std.proofs.Common.{min, IfNone}
 use Rattle.std.specs.Option.{SomeIff}
 use Rattle.std.specs.Str.Parse.{digits_value}
 use Rattle.script_reader.specs.Number.{IsNumber}
-use Rattle.script_reader.specs.Text.{number}
 use Rattle.script_reader.proofs.text.Tokens.Numerals.{read_is, greatest_u64}
-use Rattle.twoplsf.specs.Command.{IsDrill, IsValidCommand}
 
 -- what was read of a word is its number
 pub number_of : (r : Option ℕ) (word : List ℕ) (w : ℕ)

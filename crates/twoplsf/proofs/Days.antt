@@ -1,24 +1,17 @@
 -- The text of a day is an output.
-use Rattle.std.proofs.lemmas.List.{get_or-map, length-map}
-use Rattle.std.proofs.Common.{◌≡◌, ℕ, suc, ◌<◌, List, [], ◌∷◌, ◌++◌, All, map, length, codes, refl, sym, ap, ◌∙◌, subst}
+use Rattle.twoplsf.proofs.Common.{length-map, ◌≡◌, ℕ, ◌<◌, List, [], ◌∷◌, ◌++◌, All, map, codes, refl, sym, ap, ◌∙◌, subst, Reply, ClearingBooks, ClearingInput}
+use Rattle.twoplsf.proofs.Common.{IsPlace, Line, journal_lines, IsOutput, scripts_of, line_of_done, Done, DayEnd, ran_of_item, closing_books, IsDayOf}
+use Rattle.twoplsf.proofs.Common.{reply_words}
+use Rattle.script_reader.proofs.Common.{line, books_lines, finish_line}
+use Rattle.input_maker.proofs.Common.{IsJournal}
+use Rattle.books_report.proofs.Common.{places_run, Ran, books_after}
+use Rattle.std.proofs.lemmas.List.{get_or-map}
 use Rattle.std.proofs.lemmas.List.Elements.{All-map}
-use Rattle.books_model.specs.declared.reply.Reply.{Reply}
-use Rattle.books_model.specs.Books.{ClearingBooks}
 use Rattle.script_reader.specs.declared.books.version.Version.TheVariants.{Two}
-use Rattle.script_reader.specs.Text.{line, books_lines, finish_line}
-use Rattle.script_reader.specs.Input.{ClearingInput}
-use Rattle.script_reader.specs.Journal.{IsJournal, IsPlace}
-use Rattle.books_report.specs.declared.line.Line.{Line}
-use Rattle.books_report.specs.Journals.{places_run, journal_lines}
-use Rattle.books_report.specs.Output.{Ran, replies_of, books_after, text_of, output_of, IsOutput}
-use Rattle.books_report.specs.Lines.{scripts_of}
+use Rattle.books_report.specs.Output.{replies_of, text_of, output_of}
+use Rattle.twoplsf.specs.Day.{journal_of}
 use Rattle.books_report.specs.Lines as lines
-use Rattle.txn_stores.specs.Journals.{line_of_done}
-use Rattle.worker_pool.specs.Days.{Done}
-use Rattle.worker_pool.specs.declared.done.DayEnd.{DayEnd}
 use Rattle.worker_pool.specs.Days as days
-use Rattle.twoplsf.specs.Day.{ran_of_item, journal_of, closing_books, IsDayOf}
-use Rattle.books_report.specs.Words.{reply_words}
 
 -- the places of a journal are those of its items
 places_same : (done : List Done) → places_run (map ran_of_item done) ≡ days.places_of_items done
@@ -39,10 +32,6 @@ beside (item ∷ done) = ap (λ rans. ran_of_item item ∷ rans) (beside done)
 pub places_of_lines : (input : ClearingInput) (done : List Done) → All (λ (item : Done). IsPlace input (days.place_of_item item)) done
     → All (λ (l : Line). IsPlace input (lines.place_of_line l)) (map line_of_done done)
 places_of_lines input done each = All-map (λ (l : Line). IsPlace input (lines.place_of_line l)) line_of_done done each
-
-pub as_many : (done : List Done) → length (map line_of_done done) ≡ length (map (λ (item : Done). item.reply) done)
-as_many [] = refl
-as_many (item ∷ done) = ap (λ n. suc n) (as_many done)
 
 module _ (input : ClearingInput) (workers : ℕ) (day : DayEnd) (is : IsDayOf input workers day) where
   -- each item is of a script of the input

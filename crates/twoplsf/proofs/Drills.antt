@@ -1,19 +1,14 @@
 -- What a drill says of the closing books.
-use Rattle.std.proofs.Common.{◌≡◌, ◌≤◌, ℕ, ◌+◌, ◌*◌, List, ◌++◌, length, codes, sym, ◌∙◌, arith}
-use Rattle.std.proofs.lemmas.List.{length-map}
+use Rattle.twoplsf.proofs.Common.{◌≡◌, ◌≤◌, ℕ, ◌+◌, ◌*◌, List, ◌++◌, length, codes, sym, ◌∙◌, arith, length-map, ClearingInput, IsOutput, DayEnd, place_of_item}
+use Rattle.twoplsf.proofs.Common.{agrees_line, IsDayOf, closing_books}
+use Rattle.input_maker.proofs.Common.{all_cash, made_submission, all_quantities}
+use Rattle.worker_pool.proofs.Common.{places_of_items}
 use Rattle.std.proofs.lemmas.List.FromFn.{length-map-range_with_len}
-use Rattle.books_model.specs.Laws.{all_cash}
-use Rattle.script_reader.specs.Input.{ClearingInput}
 use Rattle.script_reader.proofs.language.Grouped.Outside.{scripts_counted}
-use Rattle.books_report.specs.Output.{IsOutput}
 use Rattle.books_report.proofs.Order.Turns.{length_of_journal}
-use Rattle.input_maker.specs.Made.{made_input, made_submission, made_submissions, submissions_to}
+use Rattle.input_maker.specs.Made.{made_input, made_submissions, submissions_to}
 use Rattle.input_maker.specs.Statements.{AreForMake}
-use Rattle.input_maker.specs.Days.{MadeCash, MadeQuantities, all_deposits, all_quantities}
-use Rattle.worker_pool.specs.declared.done.DayEnd.{DayEnd}
-use Rattle.worker_pool.specs.Days.{place_of_item, places_of_items}
-use Rattle.twoplsf.specs.Check.{agrees_line}
-use Rattle.twoplsf.specs.Day.{IsDayOf, closing_books}
+use Rattle.input_maker.specs.Days.{MadeCash, MadeQuantities, all_deposits}
 use Rattle.twoplsf.specs.Made.{sum_line, drill_text}
 
 -- an output stays one below a higher limit

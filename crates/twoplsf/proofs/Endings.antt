@@ -1,11 +1,9 @@
 -- What is said of a status, said of its number.
-use Rattle.std.proofs.Common.{◌≡◌, ◌≤◌, ◌⊎◌, inl, inr, ℕ, zero, suc, List, length, Option, Some}
-use Rattle.std.proofs.Common.{None, IfSome, IsSome, true≢false, Result, Ok, IfOk, refl, sym, ap, subst, ◌∙◌}
-use Rattle.std.proofs.lemmas.Option.{IfSome_then}
-use Rattle.script_reader.specs.declared.limits.TheConstants.{MOST_INPUT_BYTES}
-use Rattle.twoplsf.specs.declared.status.Status.{Status}
-use Rattle.twoplsf.specs.declared.status.Status.TheVariants as status
+use Rattle.twoplsf.proofs.Common.{◌≡◌, ◌≤◌, ◌⊎◌, inl, inr, ℕ, suc, List, length, Option, Some, None, IfSome, IsSome, true≢false, Result, Ok, IfOk, refl, sym}
+use Rattle.twoplsf.proofs.Common.{ap, subst, ◌∙◌, IfSome_then, MOST_INPUT_BYTES, Status}
+use Rattle.std.proofs.Common.{zero}
 use Rattle.twoplsf.specs.Ending.{exit_status}
+use Rattle.twoplsf.specs.declared.status.Status.TheVariants as status
 
 -- the status with a number
 status_at : ℕ → Status

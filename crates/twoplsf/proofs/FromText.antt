@@ -1,31 +1,19 @@
 -- What follows from the text that the sink took.
-use Rattle.std.proofs.Common.{◌≡◌, ◌≢◌, ◌+◌, ◌≤◌, ◌<◌, ◌⊎◌, ℕ, List, length, refl, subst, Option, Some, None, IfSome, inl, inr, arith}
-use Rattle.std.specs.Io.KnownBytes.{Appends}
-use Rattle.std.proofs.lemmas.Option.{IfSome_then}
-use Rattle.io_ends.specs.Taken.{TakesAtMost, count_taken}
-use Rattle.script_reader.specs.Grammar.{IsValidInput, AreTwoTexts, BeginWithInput}
-use Rattle.script_reader.specs.declared.fault.Fault.{Fault}
-use Rattle.script_reader.specs.Faults.{IsFirstFault, IsFrontFault}
-use Rattle.script_reader.specs.Input.{ClearingInput}
-use Rattle.books_report.specs.declared.limits.TheConstants.{RESTARTS_BELOW}
-use Rattle.books_report.specs.Output.{IsOutput}
-use Rattle.books_report.specs.Checking.{IsFirstWrongLine}
-use Rattle.script_reader.specs.declared.limits.TheConstants.{MOST_INPUT_BYTES}
-use Rattle.twoplsf.specs.declared.status.Status.{Status}
-use Rattle.twoplsf.specs.declared.status.Status.TheVariants as status
-use Rattle.record_text.specs.Grammar.{IsRecordFault}
-use Rattle.order_text.specs.Grammar.{IsOrderFault}
-use Rattle.twoplsf.specs.Command.{IsAnyRunCommand, IsCheck, IsMaking, IsOrders, IsReading, IsRecords, IsValidCommand}
+use Rattle.twoplsf.proofs.Common.{◌≡◌, ◌≢◌, ◌+◌, ◌≤◌, ◌<◌, ◌⊎◌, ℕ, List, length, refl, subst, Option, Some, None, IfSome, inl, inr, arith, Appends, IfSome_then}
+use Rattle.twoplsf.proofs.Common.{TakesAtMost, count_taken, IsValidInput, AreTwoTexts, BeginWithInput, Fault, IsFirstFault, IsFrontFault, ClearingInput}
+use Rattle.twoplsf.proofs.Common.{RESTARTS_BELOW, IsOutput, IsFirstWrongLine, MOST_INPUT_BYTES, Status, IsRecordFault, IsOrderFault, IsAnyRunCommand, IsCheck}
+use Rattle.twoplsf.proofs.Common.{IsMaking, IsOrders, IsReading, IsRecords, IsValidCommand, differs_line, IsMadeText, IsRefusalOf, HaveInputFor, OfBytesRead}
+use Rattle.twoplsf.proofs.Common.{refused_line, IsOrdersText, IsRecordsText}
 use Rattle.twoplsf.specs.Causes.{Failed, HasCauses}
-use Rattle.twoplsf.specs.Check.{differs_line}
-use Rattle.twoplsf.specs.Made.{IsMadeText, PrintsMade}
-use Rattle.twoplsf.specs.Answer.{IsRefusalOf, HaveInputFor, OfBytesRead, PrintsOutput, refused_line}
+use Rattle.twoplsf.specs.Made.{PrintsMade}
+use Rattle.twoplsf.specs.Answer.{PrintsOutput}
 use Rattle.twoplsf.proofs.ByWords.{IsDoneText, IsDifferenceFor, IsRefusalFor, TookBy}
-use Rattle.twoplsf.specs.Orders.{IsOrdersText, PrintsOrderOutput}
-use Rattle.twoplsf.specs.Records.{IsRecordsText, PrintsRecordOutput}
-use Rattle.twoplsf.proofs.Served.{of_left, run_not_check, records_not_check, orders_not_check, read_not_made, by_run, by_check, by_records, by_orders}
-use Rattle.twoplsf.proofs.Served.{IsOnly, done_input, difference_input, done_is_output, refused_none, refused_first, only_fault, only_front}
-use Rattle.twoplsf.proofs.Served.{only_record, only_order, wrong_is_none, wrong_is_first}
+use Rattle.twoplsf.specs.Orders.{PrintsOrderOutput}
+use Rattle.twoplsf.specs.Records.{PrintsRecordOutput}
+use Rattle.twoplsf.proofs.Served.{of_left, run_not_check, records_not_check, orders_not_check, read_not_made, by_run, by_check, by_records, by_orders, IsOnly}
+use Rattle.twoplsf.proofs.Served.{done_input, difference_input, done_is_output, refused_none, refused_first, only_fault, only_front, only_record, only_order}
+use Rattle.twoplsf.proofs.Served.{wrong_is_none, wrong_is_first}
+use Rattle.twoplsf.specs.declared.status.Status.TheVariants as status
 
 -- the ways in which a command that reads ends on the bytes that were left
 pub data EndsOn (result : Status) (words : List (List ℕ)) (bytes : List ℕ) : Type 0 where

@@ -1,3 +1,5 @@
+-- what several proofs import
+pub mod Common
 -- the text of a day is an output
 pub mod Days
 -- lines of a journal that are written in two pieces

@@ -1,17 +1,10 @@
 -- Lines of a journal that are written in two pieces.
-use Rattle.std.proofs.Common.{◌≡◌, ℕ, ◌+◌, List, [], ◌∷◌, ◌++◌, map, length, sym, ap, ◌∙◌, append_assoc, arith}
-use Rattle.script_reader.specs.Gathered.{caller_at}
-use Rattle.books_model.specs.declared.reply.Reply.{Reply}
-use Rattle.script_reader.specs.Input.{ClearingInput}
-use Rattle.books_report.specs.declared.line.Line.{Line}
-use Rattle.books_report.specs.Lines.{scripts_of}
-use Rattle.txn_stores.specs.Journals.{line_of_done}
-use Rattle.books_report.specs.Journals.{journal_line, journal_lines}
+use Rattle.twoplsf.proofs.Common.{◌≡◌, ℕ, ◌+◌, List, [], ◌∷◌, ◌++◌, map, length, sym, ap, ◌∙◌, append_assoc, arith, Reply, ClearingInput, Line, scripts_of}
+use Rattle.twoplsf.proofs.Common.{line_of_done, journal_lines, Done, ran_of_item, reply_words}
+use Rattle.script_reader.proofs.Common.{caller_at}
+use Rattle.books_report.proofs.Common.{journal_line}
 use Rattle.books_report.proofs.Outputs.Journals.{two_pieces}
-use Rattle.worker_pool.specs.Days.{Done}
-use Rattle.twoplsf.specs.Day.{ran_of_item}
 use Rattle.twoplsf.proofs.Days.{beside}
-use Rattle.books_report.specs.Words.{reply_words}
 
 -- lines behind others begin with the number behind theirs
 lines_behind : (input : ClearingInput) (first : ℕ) (xs ys : List Done)

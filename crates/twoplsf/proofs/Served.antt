@@ -1,29 +1,19 @@
 -- What follows of words, of the bytes that were read, and of the text that was printed.
-use Rattle.std.proofs.Common.{◌≡◌, ◌≤◌, ◌+◌, ◌*◌, ◌++◌, ℕ, List, length, Option, Some, None, IfSome, sym, ap, ◌∙◌, subst, inl}
-use Rattle.std.proofs.Common.{inr, arith, append-nil, [], ◌∷◌}
-use Rattle.std.specs.Io.KnownBytes.{Consumes, IsAtEnd}
-use Rattle.script_reader.specs.declared.fault.Fault.{Fault}
-use Rattle.script_reader.specs.Lines.{word_at}
-use Rattle.script_reader.specs.Faults.{IsFirstFault, IsFrontFault}
-use Rattle.script_reader.specs.Input.{ClearingInput}
-use Rattle.script_reader.specs.Grammar.{AreTwoTexts, Spells}
-use Rattle.twoplsf.specs.Command.{ByCommand, IsAnyRunCommand, IsCells, IsCheck, IsDrill, IsMake, IsMaking, IsOrders}
-use Rattle.twoplsf.specs.Command.{IsReading, IsRecords}
-use Rattle.script_reader.proofs.books.Texts.Deciding.{not_both, one_fault}
+use Rattle.twoplsf.proofs.Common.{◌≡◌, ◌≤◌, ◌+◌, ◌*◌, ◌++◌, ℕ, List, length, Option, Some, None, IfSome, sym, ap, ◌∙◌, subst, inl, inr, arith, append-nil, []}
+use Rattle.twoplsf.proofs.Common.{◌∷◌, Consumes, IsAtEnd, Fault, IsFirstFault, IsFrontFault, ClearingInput, AreTwoTexts, Spells, ByCommand, IsAnyRunCommand}
+use Rattle.twoplsf.proofs.Common.{IsCells, IsCheck, IsDrill, IsMaking, IsOrders, IsReading, IsRecords, not_both, RESTARTS_BELOW, IsOutput, IsFirstWrongLine}
+use Rattle.twoplsf.proofs.Common.{IsRecordFault, SpellsRecords, StoreInput, IsOrderFault, SpellsOrders, BookInput, differs_line, OfBytesRead, IsRefusalOf}
+use Rattle.twoplsf.proofs.Common.{HaveInputFor, refused_line}
+use Rattle.script_reader.proofs.Common.{word_at}
+use Rattle.record_text.proofs.Common.{record_language}
+use Rattle.order_text.proofs.Common.{order_language}
+use Rattle.twoplsf.specs.Command.{IsMake}
+use Rattle.script_reader.proofs.books.Texts.Deciding.{one_fault}
 use Rattle.script_reader.proofs.books.Texts.FrontLaws.{never_both, one_front}
 use Rattle.script_reader.proofs.language.Listed.Telling.{one_fault as one_in_language, not_both as not_in_language}
-use Rattle.books_report.specs.declared.limits.TheConstants.{RESTARTS_BELOW}
-use Rattle.books_report.specs.Output.{IsOutput}
-use Rattle.books_report.specs.Checking.{IsFirstWrongLine}
 use Rattle.books_report.proofs.Checks.Wrong.{one_wrong, none_of_output}
-use Rattle.record_text.specs.Grammar.{IsRecordFault, SpellsRecords}
-use Rattle.record_text.specs.Input.{StoreInput}
-use Rattle.record_text.specs.Language.{record_language, record_language_lawful}
-use Rattle.order_text.specs.Grammar.{IsOrderFault, SpellsOrders}
-use Rattle.order_text.specs.Input.{BookInput}
-use Rattle.order_text.specs.Language.{order_language, order_language_lawful}
-use Rattle.twoplsf.specs.Check.{differs_line}
-use Rattle.twoplsf.specs.Answer.{OfBytesRead, IsRefusalOf, HaveInputFor, refused_line}
+use Rattle.record_text.specs.Language.{record_language_lawful}
+use Rattle.order_text.specs.Language.{order_language_lawful}
 use Rattle.twoplsf.proofs.ByWords.{IsDoneText, IsDifferenceFor, IsRefusalFor}
 
 -- what was read to the end is all that was left

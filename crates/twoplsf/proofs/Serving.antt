@@ -1,50 +1,35 @@
 -- From what was read and answered to what serving came to.
-use Rattle.std.proofs.Common.{◌≡◌, ◌≢◌, ◌≤◌, ◌+◌, ◌⊎◌, ◌↔◌, ℕ, List, length, Option, Some, None, IfSome, IsSome, true, false, refl, sym, ◌∙◌, subst, inl}
-use Rattle.std.proofs.Common.{inr, arith, true≢false, Vec, Global, Result, Ok, Err, IsOk, ◌-◌}
-use Rattle.std.specs.Io.KnownBytes.{Appends, Consumes, IsAtEnd}
+use Rattle.twoplsf.proofs.Common.{◌≡◌, ◌≢◌, ◌≤◌, ◌+◌, ◌⊎◌, ℕ, List, length, Option, Some, None, IfSome, IsSome, true, false, refl, sym, ◌∙◌, subst, inl, inr}
+use Rattle.twoplsf.proofs.Common.{arith, true≢false, Vec, Global, Result, Ok, Err, ◌-◌, Appends, Consumes, IsAtEnd, Rose, AppendsPrefix, TakesAtMost}
+use Rattle.twoplsf.proofs.Common.{count_taken, Fault, MOST_INPUT_BYTES, IsFirstFault, IsFrontFault, Spells, AreTwoTexts, ClearingInput, StoreInput, BookInput}
+use Rattle.twoplsf.proofs.Common.{DayEnd, SpellsRecords, IsRecordFault, SpellsOrders, IsOrderFault, CELLS, sums_of, AreCellValues, IsAnyRunCommand, IsCells}
+use Rattle.twoplsf.proofs.Common.{IsCheck, IsDrill, IsMaking, IsOrders, IsReading, IsRecords, IsValidCommand, agrees_line, differs_line, cells_text}
+use Rattle.twoplsf.proofs.Common.{IsComparisonOf, IsDayFor, IsOrdersRunOf, IsRecordsRunOf, IsRunOf, IsRefusalOf, OfBytesRead, refused_line, Status}
+use Rattle.std.proofs.Common.{◌↔◌, IsOk}
 use Rattle.io_ends.specs.declared.source.Source.{Ghosts as Sources}
 use Rattle.io_ends.specs.declared.sink.Sink.{Ghosts as Sinks}
-use Rattle.io_ends.specs.Counts.{Rose}
-use Rattle.io_ends.specs.Taken.{AppendsPrefix, TakesAtMost, count_taken}
-use Rattle.script_reader.specs.declared.fault.Fault.{Fault}
-use Rattle.script_reader.specs.declared.limits.TheConstants.{MOST_INPUT_BYTES}
-use Rattle.script_reader.specs.Faults.{IsFirstFault, IsFrontFault}
-use Rattle.script_reader.specs.Grammar.{Spells, AreTwoTexts}
-use Rattle.script_reader.specs.Input.{ClearingInput}
 use Rattle.input_maker.specs.Made.{made_input_text}
-use Rattle.record_text.specs.Input.{StoreInput}
-use Rattle.order_text.specs.Input.{BookInput}
-use Rattle.worker_pool.specs.declared.done.DayEnd.{DayEnd}
 use Rattle.txn_records.specs.Days.{RecordDay}
 use Rattle.order_match.specs.Days.{OrderDay}
-use Rattle.record_text.specs.Grammar.{SpellsRecords, IsRecordFault}
-use Rattle.order_text.specs.Grammar.{SpellsOrders, IsOrderFault}
 use Rattle.txn_cells.specs.declared.coded.Coded.{Ghosts as Codes}
-use Rattle.txn_cells.specs.declared.limits.TheConstants.{CELLS}
-use Rattle.txn_cells.specs.Adding.{sums_of}
-use Rattle.txn_cells.specs.Cells.{AreCellValues}
-use Rattle.twoplsf.specs.Command.{IsAnyRunCommand, IsCells, IsCellsCommand, IsCheck, IsDrill, IsDrillCommand, IsMakeCommand, IsMaking, IsOrders}
-use Rattle.twoplsf.specs.Command.{IsOrdersCommand, IsReading, IsRecords, IsRecordsCommand, IsRunCommand, IsValidCommand}
-use Rattle.twoplsf.specs.Commands.{IsCommand, IsInRange, reads_text}
-use Rattle.twoplsf.specs.Check.{agrees_line, differs_line}
-use Rattle.twoplsf.specs.Cells.{IsCellsRunFor, cells_text}
+use Rattle.twoplsf.specs.Command.{IsCellsCommand, IsDrillCommand, IsMakeCommand, IsOrdersCommand, IsRecordsCommand, IsRunCommand}
+use Rattle.twoplsf.specs.Commands.{IsCommand, reads_text}
+use Rattle.twoplsf.specs.Cells.{IsCellsRunFor}
 use Rattle.twoplsf.specs.Made.{IsDrillDay}
 use Rattle.twoplsf.specs.Orders.{IsOrdersDayFor}
 use Rattle.twoplsf.specs.Records.{IsRecordsDayFor}
 use Rattle.twoplsf.specs.Serving.{IsServed}
-use Rattle.twoplsf.specs.Answer.{Answers, IsAnswer, IsCellsOf, IsComparisonOf, IsDayFor, IsDrillOf, IsOrdersRunOf}
-use Rattle.twoplsf.specs.Answer.{IsRecordsRunOf, IsRunOf, IsRefusalOf, IsTextAlone, IsTextFor, OfBytesRead}
-use Rattle.twoplsf.specs.Answer.{Refuses, TookText, WasGiven, only_status, refused_line, served_of, status_of, text_of_answer}
+use Rattle.twoplsf.specs.Answer.{Answers, IsAnswer, IsCellsOf, IsDrillOf, IsTextAlone, IsTextFor, Refuses, TookText, WasGiven, only_status, served_of}
+use Rattle.twoplsf.specs.Answer.{status_of, text_of_answer}
 use Rattle.twoplsf.specs.declared.answer.Answer.{Answer}
 use Rattle.twoplsf.specs.declared.answer.Answer.TheVariants.{Text, Day, Records, Orders, Cells}
 use Rattle.twoplsf.specs.declared.command.Command.{Command}
-use Rattle.twoplsf.specs.declared.command.Command.TheVariants as command
 use Rattle.twoplsf.specs.declared.command.Plan.{Plan}
 use Rattle.twoplsf.specs.declared.serve.Served.{Served}
-use Rattle.twoplsf.specs.declared.status.Status.{Status}
-use Rattle.twoplsf.specs.declared.status.Status.TheVariants as status
 use Rattle.twoplsf.proofs.ByWords.{IsDifferenceFor, IsDoneText, IsRefusalFor, IsTextBy, TookBy}
 use Rattle.twoplsf.proofs.Served.{all_read, run_mark, check_mark, records_mark, orders_mark, make_mark, drill_mark, cells_mark, mark}
+use Rattle.twoplsf.specs.declared.command.Command.TheVariants as command
+use Rattle.twoplsf.specs.declared.status.Status.TheVariants as status
 
 -- a command that reads has the words of one, and another those of one that does not
 pub reading_is : (words : List (List ℕ)) (o : Command) → IsCommand words o → reads_text o ≡ true → IsReading words
@@ -79,16 +64,6 @@ valid_is words o is = by (reads_or_not o)
     by : (reads_text o ≡ true) ⊎ (reads_text o ≡ false) → IsValidCommand words
     by (inl reads) = inl (reading_is words o is reads)
     by (inr not) = inr (making_is words o is not)
-
--- its numbers are in their ranges
-pub range_is : (words : List (List ℕ)) (o : Command) → IsCommand words o → IsInRange o
-range_is words (command.Run w) is = is.range
-range_is words command.Check is = tt
-range_is words (command.Records w) is = is.range
-range_is words (command.Orders w) is = is.range
-range_is words (command.Make plan) is = is.range
-range_is words (command.Drill w plan) is = (is.workers_range, is.range)
-range_is words (command.Cells w rounds) is = (is.workers_range, is.rounds_range)
 
 -- what is said of a text and its status, of the refusal of bytes, and of the answer to an input, holds of the answer
 module _ (P : Answer → Type 0) where

@@ -1,19 +1,19 @@
 -- Sums over the entries of a map, in the order of their keys.
-use Rattle.std.proofs.Common.{◌≡◌, ℕ, ◌+◌, ◌*◌, ◌≤◌, Bool, true, false, cond, T, List, length, filter, Some, ap, ◌∙◌, arith}
+use Rattle.twoplsf.proofs.Common.{◌≡◌, ℕ, ◌+◌, ◌*◌, ◌≤◌, Bool, true, false, List, length, Some, ap, ◌∙◌, arith, is_lt, nat_cmp_total, ClearingBooks, up_to}
+use Rattle.books_model.proofs.Common.{AreInRange}
+use Rattle.script_reader.proofs.Common.{positions_total}
+use Rattle.input_maker.proofs.Common.{exact_positions, AllByRecursion-weaker, All-entries, sum_by-most}
+use Rattle.std.proofs.Common.{cond, T, filter}
 use Rattle.std.specs.List.{AllByRecursion, find, sum_by}
-use Rattle.std.specs.Ordering.{is_lt}
-use Rattle.std.specs.Cmp.{IsTotalOrder, nat_cmp_total}
+use Rattle.std.specs.Cmp.{IsTotalOrder}
 use Rattle.std.specs.declared.cmp.Ordering.{Ordering}
-use Rattle.std.specs.FinMap as map
 use Rattle.std.specs.FinMap.Entries.{is_sorted}
 use Rattle.std.proofs.lemmas.List.Sums.{sum_by_push}
 use Rattle.std.proofs.lemmas.Map.Lookups.{exact_unsigned}
 use Rattle.books_model.specs.declared.limits.TheConstants.{MOST_BLOCKS, GREATEST_CASH, GREATEST_QUANTITY}
-use Rattle.books_model.specs.Books.{ClearingBooks}
-use Rattle.books_model.specs.Ranges.{AreInRange}
-use Rattle.books_model.proofs.Maps.Trees.{positions_total, exact_positions}
-use Rattle.books_model.proofs.Maps.Entries.{AllByRecursion-weaker, All-entries, sum_by-filter, sum_by-most}
-use Rattle.books_report.proofs.Walking.Walks.{up_to, up_to-next}
+use Rattle.books_model.proofs.Maps.Entries.{sum_by-filter}
+use Rattle.books_report.proofs.Walking.Walks.{up_to-next}
+use Rattle.std.specs.FinMap as map
 
 -- what some of the terms add up to is no more than all of them could
 sum_of_some : {X : Type 0} (p : X → Bool) (f : X → ℕ) (most : ℕ) (xs : List X) → AllByRecursion (λ x. f x ≤ most) xs → sum_by f (filter p xs) ≤ length xs * most

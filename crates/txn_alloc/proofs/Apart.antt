@@ -1,11 +1,6 @@
 -- A block is in one of an arena's parts alone.
-use Rattle.std.proofs.Common.{◌≡◌, ℕ, ◌+◌, ◌<◌, ◌≤◌, ◌⊎◌, inl, inr, Bool, true, false, cond, List, [], ◌∷◌, refl, sym, ap, ◌∙◌, subst, arith}
-use mathlib.Core.Logic.{dite}
-use native.Mathlib.Decide.{ℕ_discrete}
-use Rattle.std.specs.FinSet as set
-use Rattle.txn_alloc.specs.declared.arena.Arena.{Arena}
-use Rattle.txn_alloc.specs.FreeLists.{IsHead, IsInBlock}
-use Rattle.txn_alloc.specs.EntryMaps.{Entries, Blocks, Part, IsOwn}
+use Rattle.txn_alloc.proofs.Common.{◌≡◌, ℕ, ◌+◌, ◌<◌, ◌≤◌, ◌⊎◌, inl, inr, Bool, true, false, cond, List, [], ◌∷◌, refl, sym, ap, ◌∙◌, subst, arith, dite}
+use Rattle.txn_alloc.proofs.Common.{ℕ_discrete, Arena, IsHead, IsInBlock, Entries, Blocks, Part, IsOwn}
 use Rattle.txn_alloc.proofs.Maps.Counting.{times_of}
 use Rattle.txn_alloc.proofs.FreeLists.Lists.{same_block}
 use Rattle.txn_alloc.proofs.Maps.Parts.{IsOne, used_of}
@@ -13,6 +8,7 @@ use Rattle.txn_alloc.proofs.FreeLists.Wider.{head_is}
 use Rattle.txn_alloc.proofs.Sets.{in_here, out_itself, contains-insert_other, contains-remove_other}
 use Rattle.txn_alloc.specs.Blocks.{times_among}
 use Rattle.txn_alloc.specs.Statements.{MovedBlock}
+use Rattle.std.specs.FinSet as set
 
 -- a block of a set counts once there
 pub member_one : (s : Blocks) (b : ℕ) → set.contains s b ≡ true → times_of s b ≡ 1
@@ -33,11 +29,11 @@ out_of s b none = at (set.contains s b) refl
   where
     at : (m : Bool) → set.contains s b ≡ m → set.contains s b ≡ false
     at false e = e
-    at true e = let one : times_of s b ≡ 1 = member_one s b e in absurd (omega (arith, none, one))
+    at true e = absurd (omega (arith, member_one s b e))
 
 -- a block of one set is in no other
 pub out_other : (s other : Blocks) (b : ℕ) → set.contains s b ≡ true → times_of s b + times_of other b ≤ 1 → set.contains other b ≡ false
-out_other s other b k once = let one : times_of s b ≡ 1 = member_one s b k in out_of other b (omega (arith, one, once))
+out_other s other b k once = out_of other b (omega (arith, member_one s b k))
 
 -- a set of blocks below a number has none from it on
 pub out_above : (s : Blocks) (n b : ℕ) → ((d : ℕ) → set.contains s d ≡ true → d < n) → n ≤ b → times_of s b ≡ 0
@@ -45,7 +41,7 @@ out_above s n b below le = at (set.contains s b) refl
   where
     at : (m : Bool) → set.contains s b ≡ m → times_of s b ≡ 0
     at false e = out_none s b e
-    at true e = let lt = below b e in absurd (omega (arith, lt, le))
+    at true e = absurd (omega (arith, below b e))
 
 -- a word that a map's call may not write: no root of the map, no head, and in no block that the map uses before or after
 pub not_own : (part : Part) → IsOne part → (key : ℕ) (old new : List ℕ) (f g : Entries) (u v : Blocks) → part.Holds old f u → part.Holds new g v → (a : ℕ)
@@ -66,8 +62,8 @@ other_out arena theirs before free after now d a e k once many mine uses other =
     let same : e ≡ d = same_block arena e d a other mine in
     let one : times_of theirs d ≡ 1 = member_one theirs d k in
     elim uses [
-      | inl w ↦ let here : times_of before d ≡ 1 = member_one before d (ap (λ z. set.contains before z) (sym same) ∙ w) in omega (arith, one, once, here)
-      | inr w ↦ let here : times_of after d ≡ 1 = member_one after d (ap (λ z. set.contains after z) (sym same) ∙ w) in omega (arith, one, once, here, many)
+      | inl w ↦ let here : times_of before d ≡ 1 = member_one before d (ap (set.contains before) (sym same) ∙ w) in omega arith
+      | inr w ↦ let here : times_of after d ≡ 1 = member_one after d (ap (set.contains after) (sym same) ∙ w) in omega arith
     ]
 
 abbrev times_by : Bool → ℕ
@@ -78,15 +74,17 @@ pub moved_times : (used free : Blocks) (c : ℕ) → set.contains used c ≡ fal
     → times_of (set.insert used c) b + times_of (set.remove free c) b ≡ times_of used b + times_of free b
 moved_times used free c out member b = dite (ℕ_discrete b c)
     (λ e. subst (λ z. times_of (set.insert used c) z + times_of (set.remove free c) z ≡ times_of used z + times_of free z) (sym e) (
-    let in_new : times_of (set.insert used c) c ≡ 1 = member_one (set.insert used c) c (in_here used c) in
-    let gone : times_of (set.remove free c) c ≡ 0 = out_none (set.remove free c) c (out_itself free c) in
-    let was_out : times_of used c ≡ 0 = out_none used c out in
-    let was_free : times_of free c ≡ 1 = member_one free c member in
-    omega (arith, in_new, gone, was_out, was_free)))
+    omega (
+      arith,
+      member_one (set.insert used c) c (in_here used c),
+      out_none (set.remove free c) c (out_itself free c),
+      out_none used c out,
+      member_one free c member,
+    )))
     (λ ne.
-    let here : times_of (set.insert used c) b ≡ times_of used b = ap (λ m. times_by m) (contains-insert_other used c b ne) in
-    let there : times_of (set.remove free c) b ≡ times_of free b = ap (λ m. times_by m) (contains-remove_other free c b ne) in
-    omega (arith, here, there))
+    let here : times_of (set.insert used c) b ≡ times_of used b = ap times_by (contains-insert_other used c b ne) in
+    let there : times_of (set.remove free c) b ≡ times_of free b = ap times_by (contains-remove_other free c b ne) in
+    omega arith)
 
 pub moved_block : MovedBlock
 moved_block used free c out member b =

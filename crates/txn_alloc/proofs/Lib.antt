@@ -1,3 +1,5 @@
+-- what several proofs import
+pub mod Common
 -- the set of a list's blocks
 pub mod Sets
 -- the free lists, as blocks are taken, given back and laid
@@ -6,3 +8,5 @@ pub mod FreeLists
 pub mod Maps
 -- a block is in one of an arena's parts alone
 pub mod Apart
+-- what a later call left, said at the shape that an earlier call began with
+pub mod Since

@@ -1,11 +1,9 @@
 -- The set of a list's blocks.
-use Rattle.std.proofs.Common.{◌≡◌, ◌≢◌, ℕ, true, false, List, [], ◌∷◌, ◌⊎◌, nat_eq, refl, sym, ◌∙◌, rules}
-use Rattle.std.specs.List.{IsDistinct, AllByRecursion, list_any}
-use Rattle.std.specs.Ordering.{nat_cmp}
-use Rattle.std.specs.Cmp.{nat_cmp_total}
-use Rattle.std.specs.FinSet.{members, nat_cmp-IsAntisymmetric, contains-from_list_nat}
+use Rattle.txn_alloc.proofs.Common.{◌≡◌, ◌≢◌, ℕ, true, false, List, [], ◌∷◌, ◌⊎◌, nat_eq, refl, sym, ◌∙◌, rules, IsDistinct, AllByRecursion, list_any, nat_cmp}
+use Rattle.txn_alloc.proofs.Common.{IsDistinct-cons}
+use Rattle.std.specs.FinSet.{members, contains-from_list_nat}
+use Rattle.std.proofs.lemmas.Map.Keys.{IsDistinct-head}
 use Rattle.std.specs.FinSet as set
-use Rattle.std.proofs.lemmas.Map.Keys.{IsDistinct-head, IsDistinct-cons}
 
 abbrev pub Blocks : Type 0
 Blocks = set.FinSet nat_cmp
@@ -39,10 +37,6 @@ contains-insert_other free b c n = grind (members, rules)
 
 pub contains-remove_other : (free : Blocks) (b c : ℕ) → c ≢ b → set.contains (set.remove free b) c ≡ set.contains free c
 contains-remove_other free b c n = grind (members, rules)
-
--- a block that comes and goes
-pub remove-insert : (free : Blocks) (b : ℕ) → set.contains free b ≡ false → set.remove (set.insert free b) b ≡ free
-remove-insert free b out = set.same_set nat_cmp_total nat_cmp-IsAntisymmetric _ _ (λ q. grind (members, rules))
 
 -- none of a list that is no block of it
 not_any : (b : ℕ) (bs : List ℕ) → AllByRecursion (λ y. nat_eq b y ≡ false) bs → list_any (λ y. nat_eq y b) bs ≡ false

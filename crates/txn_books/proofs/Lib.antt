@@ -1,3 +1,5 @@
+-- what several proofs import
+pub mod Common
 -- what words that stand for books say of each part, and of a change of one
 pub mod OneState
 -- books read off words, entry by entry

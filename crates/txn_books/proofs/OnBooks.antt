@@ -1,5 +1,7 @@
 -- from what a call on books answered and did to what holds after it
 pub mod Calls
+-- what an insert into a map says of books
+pub mod Putting
 -- what calls on the tree of accounts say of books
 pub mod Accounts
 -- what calls on the queue say of books

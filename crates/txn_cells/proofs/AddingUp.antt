@@ -1,30 +1,25 @@
 -- What additions come to, one after another.
-use Rattle.std.proofs.Common.{◌≡◌, ◌≢◌, ◌⊎◌, inl, inr, ⊎_elim, ℕ, zero, suc, ◌+◌, ◌-◌, ◌*◌, ◌%◌, ◌^◌, ◌<◌, ◌≤◌, Bool, true, false, ◌==◌, if◌then◌else◌}
-use Rattle.std.proofs.Common.{List, [], ◌∷◌, ◌++◌, Some, length, replicate, take, slice_get, slice_index, slice_set, sum_by}
-use Rattle.std.proofs.Common.{refl, sym, ap, ◌∙◌, subst, arith, add-zero, mul-one}
-use Rattle.std.proofs.lemmas.Bool.Decides.{eqb_tells}
-use Rattle.std.proofs.lemmas.List.{get_or-set_same, get_or-set_other, get_or-replicate, length-set, take_all}
+use Rattle.txn_cells.proofs.Common.{◌≡◌, ◌≢◌, ◌⊎◌, inl, inr, ⊎_elim, ℕ, zero, suc, ◌+◌, ◌-◌, ◌*◌, ◌%◌, ◌^◌, ◌<◌, ◌≤◌, Bool, true, false, ◌==◌, if◌then◌else◌}
+use Rattle.txn_cells.proofs.Common.{List, [], ◌∷◌, ◌++◌, Some, length, replicate, take, slice_get, slice_index, slice_set, sum_by, refl, sym, ap, ◌∙◌, subst}
+use Rattle.txn_cells.proofs.Common.{arith, add-zero, eqb_tells, get_or-set_same, get_or-set_other, get_or-replicate, length-set, slice_get_within, Entry, IsIn}
+use Rattle.txn_cells.proofs.Common.{after, below_get, MOST_PASSES, ClosedView, AreRecords, IsCoherent, IsLegalInEachOrder, CELLS, MOST_ROUNDS, AddsInRound}
+use Rattle.txn_cells.proofs.Common.{AreAllCells, added_by, added_to, first_cell, second_cell, sums_of, AreCellValues, AreSoMany, IsRound}
+use Rattle.values_rule.proofs.Common.{replay_items, IsLegalTrace, item_of_entry, items_of_entry}
+use Rattle.word_table.proofs.Common.{entry_from}
+use Rattle.txn_commit.proofs.Common.{in_flat_map}
+use Rattle.std.proofs.Common.{mul-one}
+use Rattle.std.proofs.lemmas.List.{take_all}
 use Rattle.std.proofs.lemmas.List.FromFn.{fill_by_all}
 use Rattle.std.proofs.lemmas.List.Sums.{sum_by_push}
-use Rattle.std.proofs.lemmas.Option.{slice_get_within, slice_get-get_or}
-use Rattle.history_model.specs.declared.entry.Entry.{Entry}
+use Rattle.std.proofs.lemmas.Option.{slice_get-get_or}
 use Rattle.history_model.specs.declared.item.Item.{Item}
 use Rattle.history_model.specs.Histories.{replay_effects}
-use Rattle.history_model.specs.Items.{replay_items}
-use Rattle.history_model.specs.Legal.{IsIn}
-use Rattle.history_model.specs.Traces.{IsLegalTrace, after}
-use Rattle.history_model.proofs.ListPlaces.{below_get, take-more}
+use Rattle.history_model.proofs.ListPlaces.{take-more}
 use Rattle.history_model.proofs.Items.ItemOrders.{next_words, replay_items-append}
 use Rattle.values_rule.specs.Closing.{IsPlaced}
-use Rattle.values_rule.specs.History.{item_of_entry, items_of_entry}
-use Rattle.values_rule.proofs.Told.ItemsIn.{entry_from, entry_into, flat_map_in, in_flat_map}
-use Rattle.word_table.specs.declared.limits.TheConstants.{MOST_PASSES}
-use Rattle.word_table.specs.Closing.{ClosedView, AreRecords, IsCoherent, IsLegalInEachOrder}
+use Rattle.values_rule.proofs.Told.ItemsIn.{entry_into, flat_map_in}
 use Rattle.txn_cells.specs.declared.coded.Coded.{Ghosts as Codes}
-use Rattle.txn_cells.specs.declared.limits.TheConstants.{CELLS, MOST_ROUNDS}
-use Rattle.txn_cells.specs.Adding.{AddsInRound, AreAllCells, added_by, added_to, amount_by, first_cell, second_cell, sums_of, sum_below}
-use Rattle.txn_cells.specs.Cells.{AreCellValues}
-use Rattle.txn_cells.specs.Rounds.{AreSoMany, IsRound}
+use Rattle.txn_cells.specs.Adding.{amount_by, sum_below}
 use Rattle.txn_cells.proofs.Keyed.{HasOneEach, sum_of_each}
 use Rattle.txn_cells.proofs.SumsBelow.{sum_of_all, alike_below, none_below, one_below, ones, small_below}
 

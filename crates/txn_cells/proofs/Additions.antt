@@ -1,18 +1,13 @@
 -- One caller's addition to a cell, and both of a round.
-use Rattle.std.proofs.Common.{◌≡◌, ℕ, ◌+◌, ◌-◌, ◌%◌, ◌^◌, List, [], ◌∷◌, Some, slice_get, slice_index, slice_set, true, refl, sym, ap, ◌∙◌, subst}
-use Rattle.std.proofs.lemmas.Option.{get_or_from_slice_get}
+use Rattle.txn_cells.proofs.Common.{◌≡◌, ℕ, ◌+◌, ◌-◌, ◌%◌, ◌^◌, List, [], ◌∷◌, Some, slice_get, slice_index, slice_set, true, refl, sym, ap, ◌∙◌, subst}
+use Rattle.txn_cells.proofs.Common.{get_or_from_slice_get, Begins, Fits, InEachState, LeadsTo, leads_then, CELLS, Get, Set, AddsInRound, added_by}
+use Rattle.txn_cells.proofs.Common.{added_to, first_cell, second_cell, AreCells, AreCellValues, DoesTyped}
 use Rattle.history_model.specs.declared.shape.Shape.{Ghosts as Shapes}
-use Rattle.history_model.specs.Traces.{after, Begins}
-use Rattle.history_model.specs.Fitting.{Fits}
+use Rattle.history_model.specs.Traces.{after}
 use Rattle.txn_words.specs.declared.words.Words.{Ghosts as AnyWords}
-use Rattle.txn_words.specs.Calls.{InEachState, LeadsTo}
-use Rattle.txn_words.proofs.CallLaws.{state_after, leads_then, leads_from_start}
+use Rattle.txn_words.proofs.CallLaws.{leads_from_start}
 use Rattle.txn_cells.specs.declared.coded.Coded.{Ghosts as Codes}
-use Rattle.txn_cells.specs.declared.limits.TheConstants.{CELLS}
-use Rattle.txn_cells.specs.declared.typed.TypedEvent.TheVariants.{Get, Set}
-use Rattle.txn_cells.specs.Adding.{AddsInRound, added_by, added_to, first_cell, second_cell}
-use Rattle.txn_cells.specs.Cells.{AreCells, AreCellValues}
-use Rattle.txn_cells.specs.Typed.{DoesTyped, IsLegalTyped, after_typed}
+use Rattle.txn_cells.specs.Typed.{IsLegalTyped, after_typed}
 use Rattle.txn_cells.specs.Inner.Adding.{AddsTo}
 use Rattle.txn_cells.proofs.Arrays.{does_next}
 
@@ -35,14 +30,6 @@ module _ {W S O : Type 0} (words : AnyWords W S O) (shapes : Shapes S) (code : C
               subst (λ n. AreCellValues code at len (after (words.trace w) s) (slice_set values i n)) sum t.1;
         };
   }
-
-  -- the cells are there still
-  pub cells_added : (v w : W) (i amount : ℕ) → words.shape w ≡ words.shape v → Begins (words.trace v) (words.trace w)
-      → InEachState words shapes v (AreCells code at len) → LeadsTo words shapes v w (AddsTo code at len i amount)
-      → InEachState words shapes w (AreCells code at len)
-  cells_added v w i amount shape begins cells adds =
-      state_after words shapes v w (AreCells code at len) (AreCells code at len) (AddsTo code at len i amount) shape begins
-      cells adds (λ x y c d. (added_to i amount c.0, d.each c.0 c.1))
 
   -- both additions of a round
   pub round_adds : (u v w : W) (caller round p q a : ℕ) → at ≡ 0 → len ≡ CELLS → p ≡ first_cell caller round → q ≡ second_cell caller round → a ≡ 2 ^ 64 - 1
@@ -69,11 +56,6 @@ module _ {W S O : Type 0} (words : AnyWords W S O) (shapes : Shapes S) (code : C
             (subst (λ n. AreCellValues code 0 n t (added_to q 1 (added_to p a values))) all
             (subst (λ z. AreCellValues code z len t (added_to q 1 (added_to p a values))) first_word (done values now)));
       }
-
-  -- what the cells of a trace's end are is said under the job's shape
-  pub cells_left : (w : W) (shape : S) → words.shape w ≡ shape → InEachState words shapes w (AreCells code at len)
-      → (s : List ℕ) → Fits (shapes.word_count shape) (shapes.good shape) (words.trace w) s → AreCells code at len (after (words.trace w) s)
-  cells_left w shape is cells s fit = cells.at s (subst (λ z. Fits (shapes.word_count z) (shapes.good z) (words.trace w) s) (sym is) fit)
 
   -- a job begins with the cells
   pub cells_at_first : (w : W) → words.trace w ≡ [] → ((s : List ℕ) → shapes.good (words.shape w) s → AreCells code at len s)

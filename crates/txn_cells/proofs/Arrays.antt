@@ -1,18 +1,11 @@
 -- The calls of an array, over any words.
-use Rattle.std.proofs.Common.{◌≡◌, ℕ, ◌+◌, ◌*◌, ◌<◌, ◌≤◌, List, [], ◌∷◌, ◌++◌, length, sym, subst}
+use Rattle.txn_cells.proofs.Common.{◌≡◌, ℕ, ◌+◌, ◌*◌, ◌<◌, ◌≤◌, List, [], ◌∷◌, ◌++◌, length, sym, subst, after, Begins, SomeFits, Leads, some_at, InEachState}
+use Rattle.txn_cells.proofs.Common.{LeadsTo, Looks, each_plain, state_after, leads_then, Get, Set, AreCells, cell_words, TypedTrace, DoesTyped, PutsWords}
 use Rattle.history_model.specs.declared.shape.Shape.{Ghosts as Shapes}
-use Rattle.history_model.specs.Traces.{after, Begins}
-use Rattle.history_model.specs.Fitting.{SomeFits, Leads}
-use Rattle.history_model.proofs.Traces.FittingLaws.{some_at}
 use Rattle.txn_words.specs.declared.words.Words.{Ghosts as AnyWords}
-use Rattle.txn_words.specs.Calls.{InEachState, LeadsTo}
-use Rattle.txn_words.specs.Looks.{Looks}
-use Rattle.txn_words.proofs.CallLaws.{each_plain, leads_plain, state_after, leads_then}
+use Rattle.txn_words.proofs.CallLaws.{leads_plain}
 use Rattle.txn_cells.specs.declared.coded.Coded.{Ghosts as Codes}
-use Rattle.txn_cells.specs.declared.typed.TypedEvent.TheVariants.{Get, Set}
-use Rattle.txn_cells.specs.Cells.{AreCells, cell_words}
-use Rattle.txn_cells.specs.Typed.{TypedTrace, after_typed, DoesTyped}
-use Rattle.txn_cells.specs.Inner.Puts.{PutsWords}
+use Rattle.txn_cells.specs.Typed.{after_typed}
 use Rattle.txn_cells.proofs.Calls.{does_both, value_read, does_get, does_set}
 
 module _ {W S O T : Type 0} (words : AnyWords W S O) (shapes : Shapes S) (code : Codes T) (at len : ℕ) where

@@ -1,12 +1,10 @@
 -- Cells that have 0.
-use Rattle.std.proofs.Common.{◌≡◌, ◌⊎◌, ⊎_elim, [], ◌∷◌, ℕ, ◌+◌, ◌-◌, ◌*◌, ◌<◌, List, length, replicate, take, refl, sym, ap, ◌∙◌, arith}
+use Rattle.txn_cells.proofs.Common.{◌≡◌, ◌⊎◌, ⊎_elim, [], ◌∷◌, ℕ, ◌+◌, ◌-◌, ◌*◌, ◌<◌, List, length, replicate, take, refl, sym, ap, ◌∙◌, arith}
+use Rattle.txn_cells.proofs.Common.{get_or-replicate, get_or_from_slice_get, slice_get_within, CELLS, AreCellValues}
 use Rattle.std.specs.List.{AllByRecursion}
-use Rattle.std.proofs.lemmas.List.{get_or-replicate, take-replicate, drop-replicate}
-use Rattle.std.proofs.lemmas.Option.{get_or_from_slice_get, slice_get_within}
+use Rattle.std.proofs.lemmas.List.{take-replicate, drop-replicate}
 use Rattle.txn_cells.specs.contracts.numbers.U128Coded.TheImpl.{ghosts as numbers}
-use Rattle.txn_cells.specs.declared.limits.TheConstants.{CELLS}
 use Rattle.txn_cells.specs.Spelling.{halves_of}
-use Rattle.txn_cells.specs.Cells.{AreCellValues}
 
 -- words that were made as clones of 0
 all_zeros : (xs : List ℕ) → AllByRecursion (λ y. (y ≡ 0) ⊎ (y ≡ 0)) xs → xs ≡ replicate (length xs) 0

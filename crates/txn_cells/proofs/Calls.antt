@@ -1,15 +1,10 @@
 -- What calls on cells do to values, in every state that fits.
-use Rattle.std.proofs.Common.{◌≡◌, ℕ, ◌+◌, ◌*◌, ◌<◌, ◌≤◌, List, [], ◌∷◌, ◌++◌, Some, length, slice_get, slice_set, refl, sym, ap, ◌∙◌, subst, arith}
-use Rattle.history_model.specs.Traces.{Trace, after, Begins}
-use Rattle.history_model.specs.Fitting.{Fits, SomeFits, InEach, Leads}
-use Rattle.history_model.proofs.Traces.TraceLaws.{length-after, begins_refl, begins_trans}
-use Rattle.history_model.proofs.Traces.FittingLaws.{fits_begins, leads_each}
-use Rattle.txn_words.specs.Looks.{Looks}
+use Rattle.txn_cells.proofs.Common.{◌≡◌, ℕ, ◌+◌, ◌*◌, ◌<◌, ◌≤◌, List, [], ◌∷◌, ◌++◌, Some, length, slice_get, slice_set, refl, sym, ap, ◌∙◌, subst, arith}
+use Rattle.txn_cells.proofs.Common.{Trace, after, Begins, Fits, SomeFits, InEach, Leads, length-after, begins_trans, fits_begins, Looks, Get, Set}
+use Rattle.txn_cells.proofs.Common.{AreCellValues, AreCells, cell_words, TypedTrace, DoesTyped, PutsWords}
+use Rattle.txn_words.proofs.Common.{begins_refl}
 use Rattle.txn_cells.specs.declared.coded.Coded.{Ghosts as Codes}
-use Rattle.txn_cells.specs.declared.typed.TypedEvent.TheVariants.{Get, Set}
-use Rattle.txn_cells.specs.Cells.{AreCellValues, AreCells, cell_words}
-use Rattle.txn_cells.specs.Typed.{TypedTrace, after_typed, IsLegalTyped, DoesTyped, AreCalls, trace_after, typed_of}
-use Rattle.txn_cells.specs.Inner.Puts.{PutsWords}
+use Rattle.txn_cells.specs.Typed.{after_typed, IsLegalTyped, AreCalls, trace_after, typed_of}
 use Rattle.txn_cells.proofs.Values.{value_at, value_is, cell_within, values_put}
 
 -- typed events in two parts
@@ -43,20 +38,6 @@ module _ {T : Type 0} (code : Codes T) (at len : ℕ) where
   }
 
   module _ (n : ℕ) (G : List ℕ → Type 0) where
-    -- one call after another
-    pub does_then : (t u v : Trace) (e f : TypedTrace T) → Begins u v → Leads n G t u (DoesTyped code at len e)
-        → Leads n G u v (DoesTyped code at len f) → Leads n G t v (DoesTyped code at len (e ++ f))
-    does_then t u v e f b first second = record {
-      at = λ s fit. does_both e f (after t s) (after u s) (after v s) (first.at s (fits_begins n G u v s b fit)) (second.at s fit);
-    }
-
-    -- the cells are there still
-    pub cells_kept : (t u : Trace) (e : TypedTrace T) → Begins t u → InEach n G t (AreCells code at len)
-        → Leads n G t u (DoesTyped code at len e) → InEach n G u (AreCells code at len)
-    cells_kept t u e b cells does =
-        leads_each n G t u (AreCells code at len) (AreCells code at len) (DoesTyped code at len e) b cells does
-        (λ x y c d. (after_typed e c.0, (d.each c.0 c.1).1))
-
     -- all calls, one after another
     pub calls_begin : (old : Trace) (calls : List (Trace × TypedTrace T)) → AreCalls code at len n G old calls → Begins old (trace_after old calls)
     unfolding AreCalls trace_after

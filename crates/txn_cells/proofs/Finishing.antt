@@ -1,15 +1,8 @@
 -- A closed table whose callers have made their rounds.
-use Rattle.std.proofs.Common.{◌≡◌, ℕ, ◌*◌, ◌<◌, ◌≤◌, List, replicate, sym, subst}
-use Rattle.history_model.specs.declared.entry.Entry.{Entry}
-use Rattle.history_model.specs.Legal.{IsIn}
-use Rattle.word_table.specs.declared.limits.TheConstants.{MOST_PASSES}
-use Rattle.word_table.specs.Closing.{ClosedView, AreRecords, AreSeenBy, IsCoherent, IsLegalInEachOrder}
-use Rattle.word_table.specs.Copies.{PassView}
+use Rattle.txn_cells.proofs.Common.{◌≡◌, ℕ, ◌*◌, ◌<◌, ◌≤◌, List, replicate, sym, subst, Entry, IsIn, MOST_PASSES, ClosedView, AreRecords, AreSeenBy, IsCoherent}
+use Rattle.txn_cells.proofs.Common.{IsLegalInEachOrder, PassView, CELLS, MOST_ROUNDS, AreAllCells, sums_of, AreCellValues, AreSoMany, IsRound}
 use Rattle.txn_cells.specs.contracts.numbers.U128Coded.TheImpl.{ghosts as numbers}
-use Rattle.txn_cells.specs.declared.limits.TheConstants.{CELLS, MOST_ROUNDS}
-use Rattle.txn_cells.specs.Adding.{AreAllCells, sums_of}
-use Rattle.txn_cells.specs.Cells.{AreCellValues}
-use Rattle.txn_cells.specs.Rounds.{AreSoMany, HaveRounds, IsRound}
+use Rattle.txn_cells.specs.Rounds.{HaveRounds}
 use Rattle.txn_cells.proofs.AddingUp.{all_kept, are_sums, so_many}
 use Rattle.txn_cells.proofs.Beginning.{zero_cells}
 use Rattle.txn_cells.proofs.Gathering.{HaveMade, each_made, none_besides}

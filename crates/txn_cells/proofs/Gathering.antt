@@ -1,24 +1,12 @@
 -- What callers did, from what each of them did.
-use Rattle.std.proofs.Common.{◌≡◌, ◌⊎◌, inl, inr, ⊎_elim, ℕ, ◌+◌, ◌*◌, ◌<◌, ◌≤◌, List, [], ◌∷◌, ◌++◌, Some, length}
-use Rattle.std.proofs.Common.{get_or, slice_get, slice_index, sym, ap, ◌∙◌, subst, arith}
-use Rattle.std.proofs.lemmas.Bool.Decides.{eqb_tells}
-use Rattle.std.proofs.lemmas.Option.{get_or_from_slice_get, slice_get_within}
-use Rattle.history_model.specs.declared.entry.Entry.{Entry}
-use Rattle.history_model.specs.Fitting.{IsGood}
-use Rattle.history_model.specs.Legal.{IsIn}
-use Rattle.history_model.specs.Views.{number}
-use Rattle.history_model.proofs.ListPlaces.{below_get}
-use Rattle.values_rule.proofs.Members.{in_first, none_in, in_join}
+use Rattle.txn_cells.proofs.Common.{◌≡◌, ◌⊎◌, inl, inr, ⊎_elim, ℕ, ◌+◌, ◌*◌, ◌<◌, ◌≤◌, List, [], ◌∷◌, ◌++◌, Some, length, get_or, slice_get, slice_index, sym}
+use Rattle.txn_cells.proofs.Common.{ap, ◌∙◌, subst, arith, eqb_tells, get_or_from_slice_get, slice_get_within, Entry, IsGood, IsIn, number, below_get}
+use Rattle.txn_cells.proofs.Common.{AreSeenBy, ClosedView, PassView, CELLS, AreAllCells, AreCells, HasRounds, IsRound}
+use Rattle.word_table.proofs.Common.{in_first, none_in, in_join}
 use Rattle.values_rule.proofs.Told.ItemsIn.{in_parts}
-use Rattle.word_table.specs.Closing.{AreSeenBy, ClosedView}
-use Rattle.word_table.specs.Copies.{PassView}
 use Rattle.txn_threads.specs.Clients.{HaveWorked}
 use Rattle.txn_cells.specs.contracts.numbers.U128Coded.TheImpl.{ghosts as numbers}
 use Rattle.txn_cells.specs.declared.coded.Coded.{Ghosts as Codes}
-use Rattle.txn_cells.specs.declared.limits.TheConstants.{CELLS}
-use Rattle.txn_cells.specs.Adding.{AreAllCells}
-use Rattle.txn_cells.specs.Cells.{AreCells}
-use Rattle.txn_cells.specs.Rounds.{HasRounds, IsRound}
 
 -- what is said of the words of an array that has all cells is said of them
 module _ (code : Codes ℕ) (at len : ℕ) (first : at ≡ 0) (all : len ≡ CELLS) where

@@ -1,8 +1,7 @@
 -- Lists that have one member for each round of each caller.
-use Rattle.std.proofs.Common.{◌≡◌, ⊎_elim, ℕ, ◌+◌, ◌-◌, ◌<◌, ◌≤◌, Bool, true, false, ◌==◌, if◌then◌else◌, List, Some, slice_get}
-use Rattle.std.proofs.Common.{sum_by, refl, sym, ap, ◌∙◌, arith}
+use Rattle.txn_cells.proofs.Common.{◌≡◌, ⊎_elim, ℕ, ◌+◌, ◌-◌, ◌<◌, ◌≤◌, Bool, true, false, ◌==◌, if◌then◌else◌, List, Some, slice_get, sum_by, refl, sym, ap}
+use Rattle.txn_cells.proofs.Common.{◌∙◌, arith, eqb_tells}
 use Rattle.std.proofs.lemmas.Bool.{cases_Bool}
-use Rattle.std.proofs.lemmas.Bool.Decides.{eqb_tells}
 use Rattle.txn_cells.proofs.SumsBelow.{sum_of_all, same_in_all, none_in_all, one_in_all, same_terms, one_term, turned}
 
 -- the amount, if the member counts and has this caller and call

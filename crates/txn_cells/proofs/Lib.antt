@@ -1,3 +1,5 @@
+-- what several proofs import
+pub mod Common
 -- words from a place on, as a list and one by one
 pub mod Windows
 -- what is known of cells' values, as words are read and put in

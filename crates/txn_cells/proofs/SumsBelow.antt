@@ -1,9 +1,8 @@
 -- Sums of terms by number, and sums over a list each of whose members has a number.
-use Rattle.std.proofs.Common.{◌≡◌, ◌≢◌, ◌⊎◌, inl, inr, ⊎_elim, ℕ, zero, suc, ◌+◌, ◌*◌, ◌<◌, ◌≤◌, List, [], ◌∷◌, Some, length, slice_get}
-use Rattle.std.proofs.Common.{sum_by, refl, sym, ap, ◌∙◌, arith, add-zero, zero-add, zero-mul, suc-mul, one-add}
+use Rattle.txn_cells.proofs.Common.{◌≡◌, ◌≢◌, ◌⊎◌, inl, inr, ⊎_elim, ℕ, zero, suc, ◌+◌, ◌*◌, ◌<◌, ◌≤◌, List, [], ◌∷◌, Some, length, slice_get, sum_by, refl}
+use Rattle.txn_cells.proofs.Common.{sym, ap, ◌∙◌, arith, add-zero, same_Some, eqb_tells}
+use Rattle.std.proofs.Common.{zero-add, zero-mul, suc-mul, one-add}
 use Rattle.std.proofs.lemmas.List.Sums.{sum_by-cons}
-use Rattle.std.proofs.lemmas.Option.{same_Some}
-use Rattle.std.proofs.lemmas.Bool.Decides.{eqb_tells}
 use Rattle.txn_cells.specs.Adding.{sum_below}
 
 pub same_below : (n : ℕ) (f g : ℕ → ℕ) → ((k : ℕ) → k < n → f k ≡ g k) → sum_below n f ≡ sum_below n g

@@ -1,21 +1,13 @@
 -- Two cells are read, and their values put in crosswise.
-use Rattle.std.proofs.Common.{◌≡◌, ◌⊎◌, inl, inr, ℕ, ◌+◌, ◌*◌, ◌<◌, ◌≤◌, List, [], ◌∷◌, length, ◌∙◌}
+use Rattle.txn_cells.proofs.Common.{◌≡◌, ◌⊎◌, inl, inr, ℕ, ◌+◌, ◌*◌, ◌<◌, ◌≤◌, List, [], ◌∷◌, length, ◌∙◌, Trace, Begins, SomeFits, InEachState, LeadsTo, Looks}
+use Rattle.txn_cells.proofs.Common.{AppendsOnly, AppendsReads, only_then, sees_then, each_plain, Get, Set, AreCells, cell_words, DoesTyped, PutsWords}
 use Rattle.history_model.specs.declared.shape.Shape.{Ghosts as Shapes}
-use Rattle.history_model.specs.Traces.{Trace, Begins}
-use Rattle.history_model.specs.Fitting.{SomeFits}
 use Rattle.txn_words.specs.declared.words.Words.{Ghosts as AnyWords}
-use Rattle.txn_words.specs.Calls.{InEachState, LeadsTo}
-use Rattle.txn_words.specs.Looks.{Looks}
-use Rattle.txn_words.specs.Frames.{AppendsOnly, AppendsReads}
-use Rattle.txn_words.proofs.FrameLaws.{only_then, only_more}
-use Rattle.txn_words.proofs.ReadLaws.{sees_then, sees_more}
-use Rattle.txn_words.proofs.CallLaws.{each_plain, state_at}
+use Rattle.txn_words.proofs.FrameLaws.{only_more}
+use Rattle.txn_words.proofs.ReadLaws.{sees_more}
+use Rattle.txn_words.proofs.CallLaws.{state_at}
 use Rattle.txn_words.proofs.Looks.{each_looked}
 use Rattle.txn_cells.specs.declared.coded.Coded.{Ghosts as Codes}
-use Rattle.txn_cells.specs.declared.typed.TypedEvent.TheVariants.{Get, Set}
-use Rattle.txn_cells.specs.Cells.{AreCells, cell_words}
-use Rattle.txn_cells.specs.Typed.{DoesTyped}
-use Rattle.txn_cells.specs.Inner.Puts.{PutsWords}
 use Rattle.txn_cells.proofs.Arrays.{value_found, gets, sets, does_next}
 
 module _ {W S O T : Type 0} (words : AnyWords W S O) (shapes : Shapes S) (code : Codes T) (at len : ℕ) where

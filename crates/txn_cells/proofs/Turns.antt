@@ -1,20 +1,14 @@
 -- A cell's words, read and put in one by one.
-use Rattle.std.proofs.Common.{◌≡◌, ℕ, ◌+◌, ◌*◌, ◌<◌, ◌≤◌, List, [], ◌∷◌, ◌++◌, Some, length, take, get_or, slice_get, slice_set, sym, ap, ◌∙◌, subst, arith}
-use Rattle.std.proofs.lemmas.List.{get_or-set_same, length-set, take-set}
-use Rattle.std.proofs.lemmas.Option.{get_or_from_slice_get}
+use Rattle.txn_cells.proofs.Common.{◌≡◌, ℕ, ◌+◌, ◌*◌, ◌<◌, ◌≤◌, List, [], ◌∷◌, ◌++◌, Some, length, take, get_or, slice_get, slice_set, sym, ap, ◌∙◌, subst}
+use Rattle.txn_cells.proofs.Common.{arith, get_or-set_same, length-set, get_or_from_slice_get, Trace, after, Begins, Fits, InEach, Leads, length-after}
+use Rattle.txn_cells.proofs.Common.{fits_begins, Looks, AreCells, cell_words, HasWords, PutsWords}
+use Rattle.txn_words.proofs.Common.{EndsWithWrite}
+use Rattle.std.proofs.lemmas.List.{take-set}
 use Rattle.history_model.specs.declared.event.Event.TheVariants.{Read}
-use Rattle.history_model.specs.Traces.{Trace, after, Begins}
-use Rattle.history_model.specs.Fitting.{Fits, InEach, Leads}
-use Rattle.history_model.proofs.Traces.TraceLaws.{length-after}
-use Rattle.history_model.proofs.Traces.FittingLaws.{fits_begins}
-use Rattle.txn_words.specs.Looks.{Looks}
-use Rattle.txn_words.specs.Steps.{EndsWithWrite}
-use Rattle.txn_words.proofs.Looks.{looks_read, looks_map, looks_none}
+use Rattle.txn_words.proofs.Looks.{looks_read, looks_map}
 use Rattle.txn_words.proofs.Steps.{after_write_end, fits_write_end}
 use Rattle.txn_cells.specs.declared.coded.Coded.{Ghosts as Codes}
-use Rattle.txn_cells.specs.Cells.{AreCells, cell_words}
-use Rattle.txn_cells.specs.Inner.Puts.{HasWords, PutsWords}
-use Rattle.txn_cells.proofs.Windows.{has_more, puts_none, puts_more, window_is}
+use Rattle.txn_cells.proofs.Windows.{has_more, puts_more, window_is}
 use Rattle.txn_cells.proofs.Values.{cell_within}
 
 module _ (n : ℕ) (G : List ℕ → Type 0) (t : Trace) (place k : ℕ) where
@@ -43,13 +37,6 @@ module _ (n : ℕ) (G : List ℕ → Type 0) (t : Trace) (place k : ℕ) where
   }
 
 module _ (n : ℕ) (G : List ℕ → Type 0) (t : Trace) where
-  -- nothing was read, and nothing put in
-  pub none_read : (IsSeen : ℕ → Type 0) (place : ℕ) → Looks n G t t (λ _. IsSeen) (HasWords place [])
-  none_read IsSeen place = looks_none n G t (λ _. IsSeen) (HasWords place []) (record { at = λ s fit k below. absurd (omega (arith, below)) })
-
-  pub none_put : (place : ℕ) → Leads n G t t (PutsWords place [])
-  none_put place = record { at = λ s fit. puts_none place (after t s) }
-
   module _ {T : Type 0} (code : Codes T) (count : (x : T) → code.is_value x → length (code.words x) ≡ code.WORDS)
       (one : (x y : T) → code.is_value x → code.is_value y → code.words x ≡ code.words y → x ≡ y) (at len : ℕ) where
     -- all words of a cell were read

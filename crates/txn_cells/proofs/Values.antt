@@ -1,12 +1,10 @@
 -- What is known of cells' values, as words are read and put in.
-use Rattle.std.proofs.Common.{◌≡◌, ◌≢◌, ◌⊎◌, inl, inr, ℕ, ◌+◌, ◌*◌, ◌<◌, ◌≤◌, List, Some, length, take, drop, slice_get, slice_set, sym, ap, ◌∙◌, subst, arith}
-use Rattle.std.proofs.lemmas.List.{length-set}
+use Rattle.txn_cells.proofs.Common.{◌≡◌, ◌≢◌, ◌⊎◌, inl, inr, ℕ, ◌+◌, ◌*◌, ◌<◌, ◌≤◌, List, Some, length, take, drop, slice_get, slice_set, sym, ap, ◌∙◌, subst}
+use Rattle.txn_cells.proofs.Common.{arith, length-set, slice_get_within, AreCellValues, AreCells, cell_words, PutsWords}
+use Rattle.values_rule.proofs.Common.{same_list}
 use Rattle.std.proofs.lemmas.Bool.{cases_order}
-use Rattle.history_model.proofs.ListPlaces.{same_list}
-use Rattle.std.proofs.lemmas.Option.{slice_get_within, slice_get_cases}
+use Rattle.std.proofs.lemmas.Option.{slice_get_cases}
 use Rattle.txn_cells.specs.declared.coded.Coded.{Ghosts as Codes}
-use Rattle.txn_cells.specs.Cells.{AreCellValues, AreCells, cell_words}
-use Rattle.txn_cells.specs.Inner.Puts.{PutsWords}
 use Rattle.txn_cells.proofs.Windows.{window_within, window_stays, window_is, cells_apart, get_set_cases}
 
 module _ {T : Type 0} (code : Codes T) (count : (x : T) → code.is_value x → length (code.words x) ≡ code.WORDS)

@@ -1,45 +1,10 @@
 -- Words from a place on, as a list and one by one.
-use Rattle.std.proofs.Common.{
-  ◌≡◌,
-  ◌≢◌,
-  ◌⊎◌,
-  inl,
-  inr,
-  ℕ,
-  zero,
-  suc,
-  ◌+◌,
-  ◌*◌,
-  ◌<◌,
-  ◌≤◌,
-  List,
-  [],
-  ◌∷◌,
-  Some,
-  length,
-  take,
-  drop,
-  get_or,
-  slice_get,
-  slice_set,
-  refl,
-  sym,
-  ap,
-  ◌∙◌,
-  arith,
-  min,
-  ◌-◌,
-  length-take,
-  length-drop,
-  get_or-take,
-  get_or-drop,
-}
-use Rattle.std.proofs.lemmas.List.{get_or-set_same, get_or-set_other, length-set}
+use Rattle.txn_cells.proofs.Common.{◌≡◌, ◌≢◌, ◌⊎◌, inl, inr, ℕ, zero, suc, ◌+◌, ◌*◌, ◌<◌, ◌≤◌, List, [], ◌∷◌, Some, length, take, drop, get_or, slice_get}
+use Rattle.txn_cells.proofs.Common.{slice_set, refl, sym, ap, ◌∙◌, arith, ◌-◌, get_or-set_same, get_or-set_other, length-set, same_Some, HasWords, PutsWords}
+use Rattle.std.proofs.Common.{min, length-take, length-drop, get_or-take, get_or-drop}
 use Rattle.std.proofs.lemmas.Grind.{same_number_lists}
 use Rattle.std.proofs.lemmas.Bool.{cases_lt}
-use Rattle.std.proofs.lemmas.Option.{same_Some}
 use Rattle.std.proofs.Math.Nat.{mul-le-mul_right, suc-mul}
-use Rattle.txn_cells.specs.Inner.Puts.{HasWords, PutsWords}
 
 -- so many words from a place on, if they are there
 pub length_window : (n a : ℕ) (s : List ℕ) → a + n ≤ length s → length (take n (drop a s)) ≡ n
@@ -60,9 +25,6 @@ window_is n a s words within count stand =
     same_number_lists _ words (long ∙ sym count) (λ k below. let small : k < n = omega (arith, below, long) in
     window_at n a s k small ∙ stand k (omega (arith, small, count)))
 
-pub window_has : (n a : ℕ) (s words : List ℕ) → length words ≡ n → take n (drop a s) ≡ words → HasWords a words s
-window_has n a s words count is k below = sym (window_at n a s k (omega (arith, below, count))) ∙ ap (λ w. get_or w k 0) is
-
 -- a window that other words leave alone
 pub window_stays : (n a : ℕ) (s t : List ℕ) → length t ≡ length s → a + n ≤ length s
     → ((k : ℕ) → k < n → get_or t (a + k) 0 ≡ get_or s (a + k) 0) → take n (drop a t) ≡ take n (drop a s)
@@ -70,10 +32,6 @@ window_stays n a s t same within each =
     let long : length (take n (drop a s)) ≡ n = length_window n a s within in
     window_is n a t (take n (drop a s)) (omega (arith, within, same)) long (λ k below. let small : k < n =
     omega (arith, below, long) in each k small ∙ sym (window_at n a s k small))
-
--- no word was put in yet
-pub puts_none : (place : ℕ) (s : List ℕ) → PutsWords place [] s s
-puts_none place s = record { count = refl; stand = λ k below. absurd (omega (arith, below)); others = λ a h. refl }
 
 -- the front of a list of words, and one word more
 length_front : (k : ℕ) (words : List ℕ) → k < length words → length (take k words) ≡ k

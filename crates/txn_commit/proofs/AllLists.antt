@@ -1,33 +1,17 @@
 -- What all workers ran, put together, over the closed table.
-use Rattle.std.proofs.Common.{◌≡◌, ◌≢◌, ℕ, zero, suc, ◌+◌, ◌<◌, ◌≤◌, ◌%◌, Bool, true, false, ⊎_elim, List, [], ◌∷◌, ◌++◌, All, AllPairs, flat_map, map, length}
-use Rattle.std.proofs.Common.{take, get_or, slice_get, slice_index, Some, refl, sym, ap, ◌∙◌, subst, subst₂, arith}
-use Rattle.std.specs.List.{range_with_len}
-use Rattle.std.proofs.lemmas.List.{length-map}
-use Rattle.std.proofs.lemmas.List.Concat.{flat_map-cons}
-use Rattle.std.proofs.lemmas.List.Elements.{All-weaker}
+use Rattle.txn_commit.proofs.Common.{◌≡◌, ◌≢◌, ℕ, zero, suc, ◌+◌, ◌<◌, ◌≤◌, ◌%◌, Bool, true, false, ⊎_elim, List, [], ◌∷◌, ◌++◌, All, AllPairs, flat_map, map}
+use Rattle.txn_commit.proofs.Common.{length, take, get_or, slice_get, slice_index, Some, refl, sym, ap, ◌∙◌, subst, subst₂, arith, range_with_len, length-map}
+use Rattle.txn_commit.proofs.Common.{flat_map-cons, All-weaker, get_or_from_slice_get, slice_get-get_or, slice_get_within, dite, dec_lt, Entry, Item}
+use Rattle.txn_commit.proofs.Common.{replay_items, IsIn, IsLegalTrace, after, below_get, map_at, number, item_of_entry, items_of_entry, entry_from, in_flat_map}
+use Rattle.txn_commit.proofs.Common.{IsAttemptOf, AreRecords, ClosedView, IsCoherent, IsLegalInEachOrder, items_of_closed, PassView, DeskView, Done, indexes_of}
+use Rattle.txn_commit.proofs.Common.{AreOnceInOrder, HaveRecords, AreRecorded, HasRun, IsMade, Made, RanFirst}
+use Rattle.values_rule.proofs.Common.{IsArrangement}
 use Rattle.std.proofs.lemmas.Nat.{mod_below}
-use Rattle.std.proofs.lemmas.Option.{get_or_from_slice_get, slice_get-get_or, slice_get_within}
-use mathlib.Core.Logic.{dite}
-use native.Mathlib.Decide.{dec_lt}
-use Rattle.history_model.specs.declared.entry.Entry.{Entry}
-use Rattle.history_model.specs.declared.item.Item.{Item}
-use Rattle.history_model.specs.Arrangements.{IsArrangement}
 use Rattle.history_model.specs.Histories.{replay_effects}
-use Rattle.history_model.specs.Items.{replay_items}
-use Rattle.history_model.specs.Legal.{IsIn}
-use Rattle.history_model.specs.Traces.{IsLegalTrace, after}
-use Rattle.history_model.proofs.ListPlaces.{below_get, map_at}
-use Rattle.history_model.specs.Views.{number}
 use Rattle.txn_threads.specs.Clients.{HaveWorked}
-use Rattle.values_rule.specs.History.{item_of_entry, items_of_entry}
-use Rattle.values_rule.proofs.Told.ItemsIn.{entry_from, in_flat_map, IsAttemptOf}
-use Rattle.word_table.specs.Closing.{AreRecords, AreSeenBy, ClosedView, IsCoherent, IsLegalInEachOrder, items_of_closed}
-use Rattle.word_table.specs.Copies.{PassView}
-use Rattle.word_table.specs.Desks.{DeskView}
-use Rattle.txn_commit.specs.declared.lists.Done.{Done}
-use Rattle.txn_commit.specs.Lists.{calls_of, indexes_of, AreCounted, AreDealt, AreMeant, AreOnceInOrder, HaveRecords}
-use Rattle.txn_commit.specs.Ordered.{AreRecorded}
-use Rattle.txn_commit.specs.Inner.ListWork.{HasRun, IsMade, IsMadeBy, Made, RanFirst}
+use Rattle.word_table.specs.Closing.{AreSeenBy}
+use Rattle.txn_commit.specs.Lists.{calls_of, AreCounted, AreDealt, AreMeant}
+use Rattle.txn_commit.specs.Inner.ListWork.{IsMadeBy}
 use Rattle.txn_commit.proofs.Flattened.{all_in, beside_flat, beside_images, in_flat, into_flat, of_in, one_flat, pairs_flat, AreBeside}
 use Rattle.txn_commit.proofs.ListWork.{both_values, caller_of, in_range, index_of, no_values, own_values, values_of}
 use Rattle.txn_commit.proofs.Orders.Once.{later_index}

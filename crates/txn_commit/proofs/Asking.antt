@@ -1,28 +1,19 @@
 -- What asking for the lock of a word comes to in an attempt, and what a load after it leaves.
-use Rattle.std.proofs.Common.{◌≡◌, ◌≢◌, ℕ, true, false, List, [], ◌∷◌, ◌++◌, Option, Some, refl, sym, ap, ◌∙◌, subst}
-use Rattle.history_model.specs.declared.event.Cause.{Cause}
-use Rattle.history_model.specs.declared.event.Event.TheVariants.{Read}
+use Rattle.txn_commit.proofs.Common.{◌≡◌, ◌≢◌, ℕ, true, false, List, [], ◌∷◌, ◌++◌, Option, Some, refl, sym, ap, ◌∙◌, subst, Cause, Read, View, lock_of_word}
+use Rattle.txn_commit.proofs.Common.{Trace, IsGranted, differ, DeskView, HasUseOf, Asks, GainsAtMost, Halt, AsksForWord}
+use Rattle.lock_or_yield.proofs.Common.{AsksTo}
 use Rattle.history_model.specs.declared.shape.Shape.{Ghosts as Shapes}
-use Rattle.history_model.specs.declared.view.View.{View}
-use Rattle.history_model.specs.Locks.{lock_of_word}
-use Rattle.history_model.specs.Traces.{Trace}
-use Rattle.history_model.specs.Views.{IsGranted}
-use Rattle.history_model.proofs.SetLemmas.{differ}
-use Rattle.word_table.specs.Desks.{DeskView}
-use Rattle.word_table.specs.Versions.{HasUseOf}
 use Rattle.lock_or_yield.specs.declared.turn.Intent.{Intent}
-use Rattle.lock_or_yield.specs.declared.turn.Intent.TheVariants as intent
-use Rattle.lock_or_yield.specs.declared.want.Got.TheVariants as got
-use Rattle.lock_or_yield.specs.Asking.{Asks, GainsAtMost}
-use Rattle.lock_or_yield.specs.Intents.{AsksSince, AsksTo, IsHeldTo}
+use Rattle.lock_or_yield.specs.Intents.{AsksSince, IsHeldTo}
 use Rattle.lock_or_yield.proofs.Wanting.{asks_none, locks_none}
 use Rattle.txn_commit.specs.declared.attempt.Asked.{Asked}
-use Rattle.txn_commit.specs.declared.attempt.Asked.TheVariants as asked
-use Rattle.txn_commit.specs.declared.attempt.Halt.{Halt}
-use Rattle.txn_commit.specs.declared.attempt.Halt.TheVariants as halt
-use Rattle.txn_commit.specs.Inner.Asking.{AsksForWord, FindsUse, UsesLock}
+use Rattle.txn_commit.specs.Inner.Asking.{FindsUse, UsesLock}
 use Rattle.txn_commit.proofs.Attempts.{gave_way_to, held_not_yield}
 use Rattle.txn_commit.proofs.Footprints.{met_cause}
+use Rattle.lock_or_yield.specs.declared.turn.Intent.TheVariants as intent
+use Rattle.lock_or_yield.specs.declared.want.Got.TheVariants as got
+use Rattle.txn_commit.specs.declared.attempt.Asked.TheVariants as asked
+use Rattle.txn_commit.specs.declared.attempt.Halt.TheVariants as halt
 
 -- it was held before
 pub asked_held : (n : ℕ) (i : Intent) (a : ℕ) (v : View) (h : Option Halt) → v.met ≡ [] → IsHeldTo i v (lock_of_word a)

@@ -1,38 +1,18 @@
 -- An attempt between two of its calls: what asking for a lock, a load, a store and a halt leave of it.
-use Rattle.std.proofs.Common.{◌≡◌, ◌≢◌, ℕ, zero, suc, ◌+◌, ◌<◌, ◌≤◌, List, [], ◌∷◌, ◌++◌, length, All, true, false, inr, Option, Some, None, Result, Ok, Err}
-use Rattle.std.proofs.Common.{IsOk, OnOk, OnErr, is_err, get_or, slice_get, refl, sym, ap, ◌∙◌, subst, arith, length-append}
-use Rattle.std.proofs.lemmas.List.{append-nil}
-use Rattle.std.proofs.lemmas.List.Elements.{All-append}
-use Rattle.std.proofs.lemmas.Option.{slice_get_within, get_or_from_slice_get}
-use Rattle.history_model.specs.declared.entry.Abandoned.{Abandoned}
-use Rattle.history_model.specs.declared.event.Cause.{Cause}
-use Rattle.history_model.specs.declared.event.Event.TheVariants.{Read, Write}
-use Rattle.history_model.specs.declared.view.View.{View}
-use Rattle.history_model.specs.Fitting.{Fits, IsGood, SomeFits}
-use Rattle.history_model.specs.Items.{replay_items}
-use Rattle.history_model.specs.declared.view.Phase.TheVariants.{Running, Yielding}
-use Rattle.history_model.specs.Locks.{lock_of_word}
-use Rattle.history_model.specs.Marks.{count_writes}
-use Rattle.history_model.specs.Sets.{has_pair}
-use Rattle.history_model.specs.Traces.{Trace}
-use Rattle.history_model.specs.Undoing.{Notes, notes_of}
-use Rattle.history_model.specs.Views.{number, HasWriteGrant}
-use Rattle.history_model.proofs.Traces.FittingLaws.{fits_front, fits_write}
-use Rattle.history_model.proofs.Traces.MarkLaws.{notes_counted, read_unnoted, write_noted}
-use Rattle.stamps_rule.specs.Stamps.{AreRestartsBounded}
-use Rattle.values_rule.specs.Steps.{store_value_action}
-use Rattle.undo_log.specs.Room.{Room}
-use Rattle.word_table.specs.Calls.{ReadsArranged}
-use Rattle.word_table.specs.Copies.{PassView}
-use Rattle.word_table.specs.Desks.{DeskView}
-use Rattle.lock_or_yield.specs.Asking.{Asks, MeetsAndYields, WentOn}
-use Rattle.txn_commit.specs.declared.attempt.Asked.TheVariants as asked
-use Rattle.txn_commit.specs.declared.attempt.Halt.{Halt}
-use Rattle.txn_commit.specs.declared.attempt.Halt.TheVariants as halt
-use Rattle.txn_commit.specs.declared.attempt.TheConstants.{UNDO_ROOM}
-use Rattle.txn_commit.specs.Attempts.{DidEvents, GaveWayTo, IsSoundAttempt, StillRuns, StaysInCall, start_of, stop_of}
+use Rattle.txn_commit.proofs.Common.{◌≡◌, ◌≢◌, ℕ, zero, suc, ◌+◌, ◌<◌, ◌≤◌, List, [], ◌∷◌, ◌++◌, length, All, true, false, inr, Option, Some, None, Result, Ok}
+use Rattle.txn_commit.proofs.Common.{Err, OnErr, get_or, slice_get, refl, sym, ap, ◌∙◌, subst, arith, length-append, append-nil, All-append, slice_get_within}
+use Rattle.txn_commit.proofs.Common.{get_or_from_slice_get, Abandoned, Cause, Read, Write, View, Fits, IsGood, SomeFits, replay_items, Running, Yielding}
+use Rattle.txn_commit.proofs.Common.{lock_of_word, count_writes, has_pair, Trace, Notes, notes_of, number, HasWriteGrant, AreRestartsBounded}
+use Rattle.txn_commit.proofs.Common.{store_value_action, Room, ReadsArranged, PassView, DeskView, Asks, MeetsAndYields, WentOn, Halt, UNDO_ROOM, DidEvents}
+use Rattle.txn_commit.proofs.Common.{GaveWayTo, IsSoundAttempt, StillRuns, StaysInCall, start_of, stop_of}
+use Rattle.txn_words.proofs.Common.{fits_front, notes_counted}
+use Rattle.std.proofs.Common.{IsOk, OnOk, is_err}
+use Rattle.history_model.proofs.Traces.FittingLaws.{fits_write}
+use Rattle.history_model.proofs.Traces.MarkLaws.{read_unnoted, write_noted}
 use Rattle.txn_commit.specs.Inner.Asking.{HasBegun}
 use Rattle.txn_commit.proofs.Footprints.{footprint_events, footprint_loaded, footprint_yields}
+use Rattle.txn_commit.specs.declared.attempt.Asked.TheVariants as asked
+use Rattle.txn_commit.specs.declared.attempt.Halt.TheVariants as halt
 
 -- an attempt that gave way, and what the pass then had seen
 pub gave_way_to : (n : ℕ) (met : List (ℕ × ℕ)) (cause : Cause) (old new : View)

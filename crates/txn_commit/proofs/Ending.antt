@@ -1,41 +1,20 @@
 -- How a transaction begins and ends.
-use Rattle.std.proofs.Common.{◌≡◌, ℕ, ◌+◌, ◌<◌, ◌≤◌, Bool, true, List, [], ◌∷◌, ◌++◌, length, length-append, slice_index, All, Option, None, Some}
-use Rattle.std.proofs.Common.{Result, Ok, Err, OnErr, refl, sym, ap, ◌∙◌, subst, arith}
-use Rattle.history_model.specs.declared.entry.Abandoned.{Abandoned}
-use Rattle.history_model.specs.declared.entry.Entry.{Entry}
-use Rattle.history_model.specs.declared.item.Item.{Item}
-use Rattle.history_model.specs.declared.view.View.{View}
-use Rattle.history_model.specs.declared.event.Cause.{Cause}
-use Rattle.history_model.specs.Counts.{is_attempt}
-use Rattle.history_model.specs.Fitting.{Fits, IsGood, SomeFits}
-use Rattle.history_model.specs.Items.{replay_items}
-use Rattle.history_model.specs.Legal.{IsIn}
-use Rattle.history_model.specs.Traces.{Trace, after, IsLegalTrace}
-use Rattle.history_model.specs.Locks.{lock_of_word}
-use Rattle.history_model.specs.Undoing.{Notes, notes_of}
-use Rattle.history_model.specs.Views.{number, HasWriteGrant}
-use Rattle.locks_rule.proofs.Own.{own_number}
-use Rattle.locks_rule.specs.Actions.{Action}
-use Rattle.stamps_rule.specs.Stamps.{AreRestartsBounded}
-use Rattle.values_rule.specs.Steps.{begin_call_action, clear_stamp_action, entry_of, after_commit}
-use Rattle.undo_log.specs.Room.{Room}
-use Rattle.values_rule.specs.History.{items_of_attempts, knew_of}
-use Rattle.values_rule.specs.Records.{Knew}
-use Rattle.word_table.specs.Calls.{ReadsArranged}
-use Rattle.word_table.specs.Copies.{HoldsNothing, PassView}
-use Rattle.word_table.specs.Desks.{DeskHolds, DeskView}
-use Rattle.word_table.specs.Kinds.{TakenIn}
-use Rattle.txn_commit.specs.declared.attempt.TheConstants.{UNDO_ROOM}
-use Rattle.txn_commit.specs.declared.transaction.Receipt.{Receipt}
-use Rattle.txn_commit.specs.declared.attempt.Halt.{Halt}
-use Rattle.txn_commit.specs.declared.attempt.Halt.TheVariants as halt
-use Rattle.txn_commit.specs.Attempts.{GaveWayTo, IsSoundAttempt, StillRuns, StaysInCall, StandsAs, start_of}
-use Rattle.locks_rule.specs.Versions.{uses_of}
-use Rattle.txn_commit.specs.Uses.{ListsUses}
-use Rattle.txn_commit.specs.Inner.Releasing.{Releases, Undoes}
-use Rattle.txn_commit.specs.Transactions.{AsksItsFootprint, EndsWithoutEntry, GetsEntry, IsMeant, LeavesFootprint}
+use Rattle.txn_commit.proofs.Common.{◌≡◌, ℕ, ◌+◌, ◌<◌, ◌≤◌, Bool, true, List, [], ◌∷◌, ◌++◌, length, length-append, slice_index, All, Option, None, Some}
+use Rattle.txn_commit.proofs.Common.{Result, Ok, Err, OnErr, refl, sym, ap, ◌∙◌, subst, arith, Abandoned, Entry, Item, View, Cause, Fits, IsGood, SomeFits}
+use Rattle.txn_commit.proofs.Common.{replay_items, IsIn, Trace, after, IsLegalTrace, lock_of_word, Notes, number, HasWriteGrant, AreRestartsBounded}
+use Rattle.txn_commit.proofs.Common.{begin_call_action, entry_of, after_commit, Room, Knew, ReadsArranged, PassView, DeskView, UNDO_ROOM, Receipt, Halt}
+use Rattle.txn_commit.proofs.Common.{GaveWayTo, IsSoundAttempt, StillRuns, StaysInCall, StandsAs, start_of, uses_of, ListsUses, Releases, Undoes}
+use Rattle.txn_commit.proofs.Common.{AsksItsFootprint, EndsWithoutEntry, GetsEntry, LeavesFootprint}
+use Rattle.word_table.proofs.Common.{is_attempt, own_number, Action, clear_stamp_action, TakenIn}
+use Rattle.values_rule.proofs.Common.{knew_of}
+use Rattle.lock_or_yield.proofs.Common.{DeskHolds}
+use Rattle.history_model.specs.Undoing.{notes_of}
+use Rattle.values_rule.specs.History.{items_of_attempts}
+use Rattle.word_table.specs.Copies.{HoldsNothing}
+use Rattle.txn_commit.specs.Transactions.{IsMeant}
 use Rattle.txn_commit.proofs.Attempts.{same_call, some_fits}
 use Rattle.txn_commit.proofs.Footprints.{asked_none, footprint_same, still_its_footprint}
+use Rattle.txn_commit.specs.declared.attempt.Halt.TheVariants as halt
 
 -- a call that is over has as few attempts that gave way as before
 pub ends_bounded : (n j : ℕ) (old new : View) → AreRestartsBounded n (number old) old

@@ -1,14 +1,9 @@
 -- Lists that are put together of others, and two lists of which the one has something for each of the other.
-use Rattle.std.proofs.Common.{◌≡◌, ◌≢◌, ℕ, zero, suc, ◌<◌, ⊎_elim, List, [], ◌∷◌, ◌++◌, All}
-use Rattle.std.proofs.Common.{AllPairs, flat_map, length, map, get_or, slice_get, Some, refl}
-use Rattle.std.proofs.Common.{sym, ap, ◌∙◌, subst, subst₂, arith}
-use Rattle.std.proofs.lemmas.List.{append-nil}
-use Rattle.std.proofs.lemmas.List.Concat.{flat_map-cons}
-use Rattle.std.proofs.lemmas.List.Elements.{All-append}
-use Rattle.std.proofs.lemmas.List.Kept.{AllPairs-cons}
-use Rattle.std.proofs.lemmas.Option.{get_or_from_slice_get, same_Some, slice_get-get_or, slice_get_within}
-use Rattle.history_model.specs.Legal.{IsIn}
-use Rattle.values_rule.proofs.Members.{in_first, in_second, none_in}
+use Rattle.txn_commit.proofs.Common.{◌≡◌, ◌≢◌, ℕ, zero, suc, ◌<◌, ⊎_elim, List, [], ◌∷◌, ◌++◌, All, AllPairs, flat_map, length, map, get_or, slice_get, Some}
+use Rattle.txn_commit.proofs.Common.{refl, sym, ap, ◌∙◌, subst, subst₂, arith, append-nil, flat_map-cons, All-append, AllPairs-cons, get_or_from_slice_get}
+use Rattle.txn_commit.proofs.Common.{slice_get-get_or, slice_get_within, IsIn, in_first}
+use Rattle.word_table.proofs.Common.{in_second, none_in}
+use Rattle.std.proofs.lemmas.Option.{same_Some}
 use Rattle.values_rule.proofs.Told.ItemsIn.{in_parts}
 
 -- of all that stands in a list

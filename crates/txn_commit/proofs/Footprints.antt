@@ -1,23 +1,12 @@
 -- Which words a call asked for: those that its attempts touch, and those at which one of them gave way.
-use Rattle.std.proofs.Common.{◌≡◌, ℕ, suc, ◌+◌, Bool, true, ◌⊎◌, inl, inr, ⊎_elim, List, [], ◌∷◌, ◌++◌, length, slice_get, sym, ap, ◌∙◌, subst, arith}
+use Rattle.txn_commit.proofs.Common.{◌≡◌, ℕ, suc, ◌+◌, Bool, true, ◌⊎◌, inl, inr, ⊎_elim, List, [], ◌∷◌, ◌++◌, length, slice_get, sym, ap, ◌∙◌, subst, arith}
+use Rattle.txn_commit.proofs.Common.{Abandoned, Entry, Cause, Read, View, IsIn, lock_of_word, has, has_pair, Trace, differ, has-nil, entry_of, in_first, Asks}
+use Rattle.txn_commit.proofs.Common.{MeetsAndYields, WentOn, GaveWayTo, LeavesFootprint, AsksItsFootprint}
+use Rattle.values_rule.proofs.Common.{Touches}
 use Rattle.std.proofs.lemmas.List.{append_assoc}
-use Rattle.history_model.specs.declared.entry.Abandoned.{Abandoned}
-use Rattle.history_model.specs.declared.entry.Entry.{Entry}
-use Rattle.history_model.specs.declared.event.Cause.{Cause}
-use Rattle.history_model.specs.declared.event.Event.TheVariants.{Read}
-use Rattle.history_model.specs.declared.view.View.{View}
-use Rattle.history_model.specs.Legal.{IsIn}
-use Rattle.history_model.specs.Locks.{lock_of_word}
-use Rattle.history_model.specs.Sets.{has, has_pair}
-use Rattle.history_model.specs.Traces.{Trace, Touches}
 use Rattle.history_model.proofs.Traces.EndEvents.{touches_first}
-use Rattle.history_model.proofs.SetLemmas.{differ, has-nil}
 use Rattle.stamps_rule.proofs.LockKinds.{pair-append_old, pair-append_last}
-use Rattle.values_rule.specs.Steps.{entry_of}
-use Rattle.values_rule.proofs.Members.{in_first}
-use Rattle.lock_or_yield.specs.Asking.{Asks, MeetsAndYields, WentOn}
-use Rattle.txn_commit.specs.Attempts.{GaveWayTo}
-use Rattle.txn_commit.specs.Transactions.{IsFootprint, LeavesFootprint, AsksItsFootprint}
+use Rattle.txn_commit.specs.Transactions.{IsFootprint}
 
 -- what stands at a place of the second part
 get_second : {A : Type 0} (xs ys : List A) (i : ℕ) → slice_get (xs ++ ys) (length xs + i) ≡ slice_get ys i

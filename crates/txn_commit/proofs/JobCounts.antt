@@ -1,18 +1,13 @@
 -- How many jobs lists of jobs have, and which.
-use Rattle.std.proofs.Common.{◌≡◌, ℕ, ◌<◌, ◌≤◌, Bool, All, List, [], Vec, Global, Some, Result, IfOk, get_or, length, map, slice_get, sum, sym, ap}
-use Rattle.std.proofs.Common.{◌∙◌, subst, arith}
-use Rattle.std.specs.List.{range_with_len}
-use Rattle.std.proofs.lemmas.List.{get_or-map, length-map}
+use Rattle.txn_commit.proofs.Common.{◌≡◌, ℕ, ◌<◌, ◌≤◌, Bool, All, List, [], Some, Result, get_or, length, map, slice_get, sym, ap, ◌∙◌, subst, arith}
+use Rattle.txn_commit.proofs.Common.{range_with_len, length-map, get_or_from_slice_get, slice_get-get_or, slice_get_within, Entry, below_get, Receipt}
+use Rattle.txn_commit.proofs.Common.{jobs_of_first, count_jobs, GetsEntry}
+use Rattle.std.proofs.Common.{Vec, Global, IfOk, sum}
+use Rattle.std.proofs.lemmas.List.{get_or-map}
 use Rattle.std.proofs.lemmas.List.FromFn.{fill_by_all}
 use Rattle.std.proofs.lemmas.List.Sums.{get_or-le-sum_by, sum-map}
-use Rattle.std.proofs.lemmas.Option.{get_or_from_slice_get, slice_get-get_or, slice_get_within}
 use Rattle.std.proofs.lemmas.Result.{IfOk-weaker}
-use Rattle.history_model.specs.declared.entry.Entry.{Entry}
-use Rattle.history_model.proofs.ListPlaces.{below_get}
-use Rattle.txn_commit.specs.declared.transaction.Receipt.{Receipt}
-use Rattle.txn_commit.specs.Lists.{jobs_of_first}
-use Rattle.txn_commit.specs.Jobs.{count_jobs, count_at, job_at, list_at, means_at}
-use Rattle.txn_commit.specs.Transactions.{GetsEntry}
+use Rattle.txn_commit.specs.Jobs.{count_at, job_at, list_at, means_at}
 
 module _ {J : Type 0} (lists : List (Vec J Global)) where
   abbrev items_of : Vec J Global → List J

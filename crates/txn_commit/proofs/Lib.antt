@@ -1,3 +1,5 @@
+-- what several proofs import
+pub mod Common
 -- giving up locks and undoing writes
 pub mod Releasing
 -- the uses of an attempt, listed by rising lock

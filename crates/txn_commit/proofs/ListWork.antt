@@ -1,22 +1,16 @@
 -- What one worker ran: a job more, a list more, and the callers so far.
-use Rattle.std.proofs.Common.{◌≡◌, ◌≢◌, ℕ, zero, suc, ◌+◌, ◌<◌, ◌≤◌, ◌%◌, ◌==◌, Bool, true, false, cond, ⊎_elim, List, [], ◌∷◌, ◌++◌, All}
-use Rattle.std.proofs.Common.{map, get_or, slice_get, Some, length, refl, sym, ap, ◌∙◌, subst, arith, append_assoc, length-append}
+use Rattle.txn_commit.proofs.Common.{◌≡◌, ◌≢◌, ℕ, zero, suc, ◌+◌, ◌<◌, ◌≤◌, ◌%◌, ◌==◌, Bool, true, false, cond, ⊎_elim, List, [], ◌∷◌, ◌++◌, All, map, get_or}
+use Rattle.txn_commit.proofs.Common.{slice_get, Some, length, refl, sym, ap, ◌∙◌, subst, arith, append_assoc, length-append, filter, range_with_len, append-nil}
+use Rattle.txn_commit.proofs.Common.{length-map, map_push, All-append, All-push, All-weaker, get_or-range_with_len, length-range_with_len}
+use Rattle.txn_commit.proofs.Common.{get_or_from_slice_get, slice_get_within, dite, dec_lt, View, number, at_map, Done, indexes_of, jobs_of_first, HasRun}
+use Rattle.txn_commit.proofs.Common.{IsMade, Made, RanFirst, RanList}
 use Rattle.std.specs.Prelude.{sum_by}
-use Rattle.std.specs.List.{filter, range_with_len}
 use Rattle.std.proofs.lemmas.Bool.Decides.{eqb_tells}
-use Rattle.std.proofs.lemmas.List.{append-nil, length-map, map-append, map-id, map_push}
-use Rattle.std.proofs.lemmas.List.Elements.{All-append, All-head, All-nil, All-push, All-tail, All-weaker, filter-append}
-use Rattle.std.proofs.lemmas.List.FromFn.{get_or-range_with_len, length-range_with_len, map-range_with_len_more}
+use Rattle.std.proofs.lemmas.List.{map-append, map-id}
+use Rattle.std.proofs.lemmas.List.Elements.{All-head, All-nil, All-tail, filter-append}
+use Rattle.std.proofs.lemmas.List.FromFn.{map-range_with_len_more}
 use Rattle.std.proofs.lemmas.List.Sums.{sum_by_push}
-use Rattle.std.proofs.lemmas.Option.{get_or_from_slice_get, slice_get_within}
-use mathlib.Core.Logic.{dite}
-use native.Mathlib.Decide.{dec_lt}
-use Rattle.history_model.specs.declared.view.View.{View}
-use Rattle.history_model.specs.Views.{number}
-use Rattle.history_model.proofs.ListPlaces.{at_map}
-use Rattle.txn_commit.specs.declared.lists.Done.{Done}
-use Rattle.txn_commit.specs.Lists.{indexes_of, jobs_of_first}
-use Rattle.txn_commit.specs.Inner.ListWork.{HasRun, IsMade, Made, RanFirst, RanList, RanOne}
+use Rattle.txn_commit.specs.Inner.ListWork.{RanOne}
 
 -- one number more
 pub range_on : (a n j : ℕ) → a + n ≡ j → range_with_len a (n + 1) ≡ range_with_len a n ++ j ∷ []

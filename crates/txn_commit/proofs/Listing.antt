@@ -1,22 +1,11 @@
 -- The uses of an attempt that were listed are those of its entry.
-use Rattle.std.proofs.Common.{◌≡◌, ℕ, Bool, true, ◌||◌, ◌&&◌, List, [], ◌∷◌}
-use Rattle.std.proofs.Common.{slice_set, refl, sym, ap, ◌∙◌, subst, eq-eqb, ne_eqb}
-use mathlib.Core.Logic.{dite}
-use native.Mathlib.Decide.{ℕ_discrete}
-use Rattle.history_model.specs.declared.event.Event.TheVariants.{Read, Write}
-use Rattle.history_model.specs.declared.item.LockUse.{LockUse}
-use Rattle.history_model.specs.declared.view.View.{View}
-use Rattle.history_model.specs.Legal.{IsIn}
-use Rattle.history_model.specs.Locks.{lock_of_word}
-use Rattle.history_model.specs.Sets.{has}
-use Rattle.history_model.specs.Traces.{Trace}
+use Rattle.txn_commit.proofs.Common.{◌≡◌, ℕ, Bool, true, List, [], ◌∷◌, slice_set, refl, sym, ap, ◌∙◌, subst, eq-eqb, dite, ℕ_discrete, Read, Write, LockUse}
+use Rattle.txn_commit.proofs.Common.{View, IsIn, lock_of_word, has, Trace, map_at, at_map, has-nil, uses_of, locks_of, AreUsesOf, ListsUses}
+use Rattle.lock_or_yield.proofs.Common.{has-join_same, has-join_other}
+use Rattle.std.proofs.Common.{◌||◌, ◌&&◌, ne_eqb}
 use Rattle.history_model.specs.Undoing.{notes_of}
-use Rattle.history_model.proofs.ListPlaces.{map_at, at_map}
-use Rattle.history_model.proofs.SetLemmas.{has-nil, has-join_same, has-join_other}
-use Rattle.locks_rule.specs.Versions.{writes_lock, use_of, uses_of, locks_of}
+use Rattle.locks_rule.specs.Versions.{writes_lock, use_of}
 use Rattle.word_table.proofs.Copied.VersionCopies.{found_use}
-use Rattle.word_table.specs.Uses.{AreUsesOf}
-use Rattle.txn_commit.specs.Uses.{ListsUses}
 
 -- the notes of a trace are of the locks that it writes
 pub notes_written : (k : ℕ) (t : Trace) (s : List ℕ) → has k (locks_of (notes_of t s)) ≡ writes_lock k t

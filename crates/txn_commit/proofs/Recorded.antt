@@ -1,12 +1,6 @@
 -- Items, each beside the entry of its call, if the closed records are these entries.
-use Rattle.std.proofs.Common.{◌≡◌, ◌≢◌, ◌↔◌, ℕ, List, AllPairs, length, get_or, slice_get, Some, sym, ap, ◌∙◌, arith}
-use Rattle.std.proofs.lemmas.Option.{slice_get-get_or, slice_get_within}
-use Rattle.history_model.specs.declared.entry.Entry.{Entry}
-use Rattle.history_model.specs.Legal.{IsIn}
-use Rattle.history_model.proofs.ListPlaces.{below_get}
-use Rattle.word_table.specs.Closing.{AreRecords, ClosedView}
-use Rattle.txn_commit.specs.declared.lists.Done.{Done}
-use Rattle.txn_commit.specs.Lists.{HaveRecords, IsEntryOf}
+use Rattle.txn_commit.proofs.Common.{◌≡◌, ◌≢◌, ◌↔◌, ℕ, List, AllPairs, length, get_or, slice_get, Some, sym, ap, ◌∙◌, arith, slice_get-get_or, slice_get_within}
+use Rattle.txn_commit.proofs.Common.{Entry, IsIn, below_get, AreRecords, ClosedView, Done, HaveRecords, IsEntryOf}
 use Rattle.word_table.proofs.Joined.Counting.{no_more_than}
 
 module _ {A S : Type 0} (closed : ClosedView S) (done : List (Done A)) (entries : List Entry) (as_many : length done ≡ length entries)

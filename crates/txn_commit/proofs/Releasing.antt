@@ -1,16 +1,10 @@
 -- Giving up locks, one after another, and undoing writes.
-use Rattle.std.proofs.Common.{◌≡◌, ◌≢◌, ℕ, ◌*◌, ◌/◌, ◌<◌, ◌≤◌, ◌⊎◌, inl, inr, ⊎_elim, [], Option, Some, None, IfSome, refl, sym, ap, ◌∙◌, subst, arith}
+use Rattle.txn_commit.proofs.Common.{◌≡◌, ◌≢◌, ℕ, ◌<◌, ◌≤◌, ◌⊎◌, inl, inr, ⊎_elim, [], Option, Some, None, IfSome, refl, sym, ap, ◌∙◌, subst, arith, LOCKS}
+use Rattle.txn_commit.proofs.Common.{View, Phase, Idle, Running, Yielding, Withdrawing, Releasing, HasClaim, IsLeast, Releases}
+use Rattle.word_table.proofs.Common.{has-without, released_phase, release_writer_action}
+use Rattle.std.proofs.Common.{◌*◌, ◌/◌}
 use Rattle.std.proofs.lemmas.Bool.{cases_lt}
-use Rattle.history_model.specs.declared.TheConstants.{LOCKS}
-use Rattle.history_model.specs.declared.view.View.{View}
-use Rattle.history_model.specs.declared.view.Phase.{Phase}
-use Rattle.history_model.specs.declared.view.Phase.TheVariants.{Idle, Running, Yielding, Withdrawing, Releasing}
-use Rattle.history_model.specs.Views.{HasClaim}
-use Rattle.history_model.proofs.SetLemmas.{has-without}
-use Rattle.locks_rule.specs.Steps.{released_phase, release_writer_action}
 use Rattle.word_table.specs.Calls.{paid}
-use Rattle.word_table.specs.Least.{IsLeast}
-use Rattle.txn_commit.specs.Inner.Releasing.{Releases}
 use Rattle.std.specs.Prelude.{◌-◌}
 
 -- how many locks there are at most from the next one on
@@ -64,9 +58,6 @@ released_twice Running = refl
 released_twice Yielding = refl
 released_twice Withdrawing = refl
 released_twice Releasing = refl
-
-pub releases_none : (v : View) → Releases v v
-releases_none v = record { rest = refl; phase = inl refl }
 
 abbrev changed : View → View → View
 changed old new = record old {

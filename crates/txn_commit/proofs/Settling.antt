@@ -1,21 +1,9 @@
 -- An attempt is settled: its writes are kept or undone, what it used is listed, and it gets its entry, or is given up.
-use Rattle.std.proofs.Common.{◌≡◌, ℕ, ◌<◌, Bool, true, false, ◌⊎◌, inl, inr, ⊎_elim, List, [], All, refl, sym, ap, ◌∙◌, subst, arith}
-use Rattle.history_model.specs.declared.entry.Entry.{Entry}
-use Rattle.history_model.specs.declared.item.LockUse.{LockUse}
-use Rattle.history_model.specs.declared.view.View.{View}
-use Rattle.history_model.specs.declared.view.Phase.{Phase}
-use Rattle.history_model.specs.declared.view.Phase.TheVariants.{Idle, Running, Yielding, Withdrawing, Releasing}
-use Rattle.history_model.specs.Counts.{is_attempt, is_open}
-use Rattle.history_model.specs.Legal.{IsIn}
-use Rattle.history_model.specs.Sets.{has}
-use Rattle.history_model.specs.Undoing.{Notes, notes_of}
-use Rattle.history_model.proofs.SetLemmas.{has-nil}
-use Rattle.locks_rule.specs.Versions.{uses_of, locks_of}
-use Rattle.values_rule.specs.Records.{Knew}
-use Rattle.values_rule.specs.Steps.{entry_of, undoing_phase}
-use Rattle.txn_commit.specs.Uses.{ListsUses}
-use Rattle.word_table.specs.Uses.{AreUsesOf}
-use Rattle.txn_commit.specs.Inner.Releasing.{UndoesSome, Undoes, UndoesUnless}
+use Rattle.txn_commit.proofs.Common.{◌≡◌, ℕ, Bool, true, false, ◌⊎◌, inl, inr, ⊎_elim, List, [], refl, ap, ◌∙◌, subst, Entry, LockUse, View, Phase, Idle}
+use Rattle.txn_commit.proofs.Common.{Running, Yielding, Withdrawing, Releasing, IsIn, has, Notes, notes_of, has-nil, uses_of, locks_of, Knew, entry_of}
+use Rattle.txn_commit.proofs.Common.{ListsUses, AreUsesOf, UndoesSome, Undoes}
+use Rattle.word_table.proofs.Common.{undoing_phase}
+use Rattle.txn_commit.specs.Inner.Releasing.{UndoesUnless}
 use Rattle.txn_commit.proofs.Listing.{entry_listed, notes_written}
 
 -- what was listed between is what the entry has
@@ -64,23 +52,3 @@ pub between : (kept : Bool) (old mid : View) → UndoesUnless kept old mid → o
 between true old mid u runs = inl (ap (λ (v : View). v.phase) (u.stays refl) ∙ runs)
 between false old mid u runs = let done = u.undone refl in
     ⊎_elim (λ e. inl (e ∙ runs)) (λ e. inr (e ∙ ap undoing_phase runs, done.none_left)) done.some.phase
-
-pub attempts_between : (kept : Bool) (old mid : View) → UndoesUnless kept old mid → old.phase ≡ Running → is_attempt mid.phase ≡ true
-attempts_between kept old mid u runs = ⊎_elim (λ e. ap is_attempt e) (λ t. ap is_attempt t.0) (between kept old mid u runs)
-
-pub opens_between : (kept : Bool) (old mid : View) → UndoesUnless kept old mid → old.phase ≡ Running → is_open mid.phase ≡ true
-opens_between kept old mid u runs = ⊎_elim (λ e. ap is_open e) (λ t. ap is_open t.0) (between kept old mid u runs)
-
-pub trace_between : (kept : Bool) (old mid : View) → UndoesUnless kept old mid → mid.trace ≡ old.trace
-trace_between true old mid u = ap (λ (v : View). v.trace) (u.stays refl)
-trace_between false old mid u = ap (λ (v : View). v.trace) (u.undone refl).some.rest
-
-pub base_between : (kept : Bool) (old mid : View) → UndoesUnless kept old mid → mid.base ≡ old.base
-base_between true old mid u = ap (λ (v : View). v.base) (u.stays refl)
-base_between false old mid u = ap (λ (v : View). v.base) (u.undone refl).some.rest
-
-pub within_between : (kept : Bool) (old mid : View) → UndoesUnless kept old mid → (n : ℕ) → All (λ (note : ℕ × ℕ). note.0 < n) old.undo
-    → All (λ (note : ℕ × ℕ). note.0 < n) mid.undo
-within_between true old mid u n h = subst (λ (v : View). All (λ (note : ℕ × ℕ). note.0 < n) v.undo) (sym (u.stays refl)) h
-within_between false old mid u n h = subst (λ (l : Notes). All (λ (note : ℕ × ℕ). note.0 < n) l) (sym (u.undone refl).none_left)
-    (λ k d lt. absurd (omega arith))

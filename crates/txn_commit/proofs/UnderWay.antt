@@ -1,11 +1,5 @@
 -- How far a worker has come with the lists of the callers.
-use Rattle.std.proofs.Common.{◌≡◌, ℕ, ◌≤◌, Bool, List, length}
-use Rattle.history_model.specs.declared.view.Phase.TheVariants.{Idle}
-use Rattle.history_model.specs.Views.{number}
-use Rattle.word_table.specs.Copies.{PassView}
-use Rattle.txn_commit.specs.declared.lists.Done.{Done}
-use Rattle.txn_commit.specs.Lists.{jobs_of_first}
-use Rattle.txn_commit.specs.Inner.ListWork.{HasRun, RanFirst}
+use Rattle.txn_commit.proofs.Common.{◌≡◌, ℕ, ◌≤◌, Bool, List, length, Idle, number, PassView, Done, jobs_of_first, HasRun, RanFirst}
 
 module _ {A : Type 0} (good : List ℕ → Type 0) (means : ℕ → ℕ → List ℕ → Bool → A → List ℕ → Type 0) where
   -- of the first n callers a pass ran those that are its own, since it began; so it made no more calls than these have jobs

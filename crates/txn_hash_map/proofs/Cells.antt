@@ -1,20 +1,13 @@
 -- Chains of cells in one word list.
-use Rattle.std.proofs.Common.{◌≡◌, ◌≢◌, ℕ, ◌+◌, ◌*◌, ◌/◌, ◌%◌, ◌^◌, ◌<◌, ◌≤◌, ◌⊎◌, inl, inr, true, false, List, [], ◌∷◌, ◌++◌, length, slice_get, Some, None}
-use Rattle.std.proofs.Common.{refl, sym, ap, ◌∙◌, subst, arith, rules}
-use mathlib.Core.Bool.{true≢false}
-use mathlib.Core.Logic.{dite}
-use native.Mathlib.Decide.{ℕ_discrete}
-use Rattle.std.specs.List.{AllByRecursion}
-use Rattle.std.proofs.lemmas.Option.{same_Some}
-use Rattle.txn_alloc.specs.declared.arena.Arena.{Arena}
-use Rattle.txn_alloc.specs.FreeLists.{block_at}
-use Rattle.txn_alloc.proofs.Maps.Cells.{value_first, value_later, has_first, has_later, has_not, one_in, one_here, times_in}
-use Rattle.txn_alloc.proofs.Maps.Counting.{AreKeyed, keyed_once, length_below}
+use Rattle.txn_hash_map.proofs.Common.{◌≡◌, ◌≢◌, ℕ, ◌+◌, ◌*◌, ◌/◌, ◌^◌, ◌<◌, ◌≤◌, ◌⊎◌, inl, inr, true, false, List, [], ◌∷◌, ◌++◌, length, slice_get, Some}
+use Rattle.txn_hash_map.proofs.Common.{None, refl, sym, ap, ◌∙◌, subst, arith, rules, true≢false, dite, ℕ_discrete, AllByRecursion, same_Some, Arena, block_at}
+use Rattle.txn_hash_map.proofs.Common.{value_first, value_later, has_first, has_later, AreKeyed, keyed_once, BUCKETS, Cell, value_of, has_block, HasKeysOnce}
+use Rattle.txn_hash_map.proofs.Common.{HasChain, HasKeysIn, place_after}
+use Rattle.std.proofs.Common.{◌%◌}
+use Rattle.txn_alloc.proofs.Maps.Cells.{has_not, one_here}
+use Rattle.txn_alloc.proofs.Maps.Counting.{length_below}
 use Rattle.txn_alloc.specs.declared.spread.TheConstants.{MULTIPLIER}
-use Rattle.txn_hash_map.specs.declared.map.TheConstants.{BUCKETS}
-use Rattle.txn_alloc.specs.EntryMaps.{Cell, value_of, has_block, HasKeysOnce}
-use Rattle.txn_hash_map.specs.Chains.{HasChain, HasKeysIn, bucket_of}
-use Rattle.txn_hash_map.specs.Searches.{place_after}
+use Rattle.txn_hash_map.specs.Chains.{bucket_of}
 use Rattle.std.proofs.lemmas.Nat.{shr_below}
 
 top_below : (x : ℕ) → x % 2 ^ 64 / 2 ^ 56 < 256
@@ -88,9 +81,7 @@ chain_keyed arena s p (c ∷ cs) h = (h.2, chain_keyed arena s (block_at arena c
 pub block_once : (arena : Arena) (s : List ℕ) (p : ℕ) (c : Cell) (cs : List Cell) → HasChain arena s p (c ∷ cs)
     → HasKeysOnce (c ∷ cs) → has_block c.block cs ≡ false
 block_once arena s p c cs h once =
-    let one : one_in c.block c ≡ 1 = one_here c.block c refl in
-    let k : one_in c.block c + times_in c.block cs ≤ 1 = keyed_once arena s c.block (c ∷ cs) (chain_keyed arena s p (c ∷ cs) h) once in
-    has_not c.block cs (omega (arith, one, k))
+    has_not c.block cs (omega (arith, one_here c.block c refl, keyed_once arena s c.block (c ∷ cs) (chain_keyed arena s p (c ∷ cs) h) once))
 
 -- and a chain is no longer than the arena has blocks
 pub chain_short : (arena : Arena) (s : List ℕ) (p : ℕ) (cs : List Cell) → HasChain arena s p cs → HasKeysOnce cs → length cs ≤ arena.blocks

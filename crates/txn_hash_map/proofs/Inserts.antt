@@ -1,42 +1,33 @@
 -- What an insert of a new key leads to, writes and reads, in every fitting state at once.
-use Rattle.std.proofs.Common.{ℕ, inl, inr, List, Some}
-use Rattle.history_model.specs.Traces.{Trace, after, Begins}
-use Rattle.history_model.specs.Fitting.{Fits, InEach, Leads}
-use Rattle.history_model.proofs.Traces.TraceLaws.{begins_trans}
-use Rattle.history_model.proofs.Traces.FittingLaws.{fits_begins}
-use Rattle.txn_words.specs.Frames.{KeepsOthers, AppendsOnly, AppendsReads}
-use Rattle.txn_words.specs.Looks.{Looks}
-use Rattle.txn_words.proofs.Looks.{leads_back, each_looked, seen_before}
+use Rattle.txn_hash_map.proofs.Common.{ℕ, inl, inr, List, Some, Trace, after, Begins, Fits, InEach, Leads, begins_trans, fits_begins, KeepsOthers, AppendsOnly}
+use Rattle.txn_hash_map.proofs.Common.{AppendsReads, Looks, each_looked, seen_before, IsHead, TakesBlock, Entries, Blocks, HasMapApart, HoldsApart, IsOwn}
+use Rattle.txn_hash_map.proofs.Common.{ChainMap, IsLaid, chain_part, IsMissing, IsLink, IsPutInFront, IsBucketOrIn}
+use Rattle.txn_alloc.proofs.Common.{leads_back, IsNearest, IsWrittenByTake, IsReadByTake, Takes, Inserts, TakesNearest, MayReadToInsert}
 use Rattle.txn_alloc.specs.declared.put.Put.TheVariants.{New}
-use Rattle.txn_alloc.specs.FreeLists.{IsHead, IsNearest, IsWrittenByTake, IsReadByTake, TakesBlock, Takes}
-use Rattle.txn_alloc.specs.EntryMaps.{Entries, Blocks, HasMapApart, HoldsApart, Inserts, TakesNearest, IsOwn, MayReadToInsert}
 use Rattle.txn_alloc.proofs.Maps.Parts.{IsOne}
-use Rattle.txn_alloc.proofs.Maps.Founds as founds
-use Rattle.txn_hash_map.specs.declared.map.ChainMap.{ChainMap}
-use Rattle.txn_hash_map.specs.Chains.{IsLaid, chain_part}
-use Rattle.txn_hash_map.specs.Searches.{IsMissing, IsLink, IsPutInFront, IsBucketOrIn}
 use Rattle.txn_hash_map.proofs.OneMap.{one_map}
 use Rattle.txn_hash_map.proofs.Steps.{missing_value}
 use Rattle.txn_hash_map.proofs.Looks.{near_own}
 use Rattle.txn_hash_map.proofs.Stands.{laid_alike}
 use Rattle.txn_hash_map.proofs.Changes.{left_new}
+use Rattle.txn_alloc.proofs.Maps.Founds as founds
 
 -- in one word list the map is one
 pub is_one : (map : ChainMap) → IsOne (chain_part map)
 is_one map = λ s f g u v. one_map map s f g u v
 
-module _ (map : ChainMap) (key x n : ℕ) (G : List ℕ
-    → Type 0) (t u : Trace) (order : InEach n G t (HasMapApart (chain_part map)))
-    (l : Looks n G t u (IsLink map key) (IsMissing map key)) (v : Trace) (bv : Begins u v) where
+module _ {map : ChainMap} {key : ℕ} (x : ℕ) {n : ℕ} {G : List ℕ
+    → Type 0} {t u : Trace} (order : InEach n G t (HasMapApart (chain_part map)))
+    (l : Looks n G t u (IsLink map key) (IsMissing map key)) {v : Trace} (bv : Begins u v) where
   -- the map lies as before
   pub laid_taken : Leads n G u v (KeepsOthers (IsHead map.arena)) → InEach n G v (IsLaid map)
   laid_taken keeps = record {
-    at = λ s fit. laid_alike map (after u s) (after v s) ((keeps.at s fit).count)
+    at = λ s fit. laid_alike (after v s) ((keeps.at s fit).count)
         (((each_looked n G t u l (HasMapApart (chain_part map)) order).at s (fits_begins n G u v s bv fit)).holds.map.laid);
   }
 
   -- a block was taken, and put in front of the chain
-  module _ (w : Trace) (b : ℕ) (bw : Begins v w) (takes : Leads n G u v (Takes map.arena (Some b))) (keeps : Leads n G u v (KeepsOthers (IsHead map.arena)))
+  module _ {w : Trace} {b : ℕ} (bw : Begins v w) (takes : Leads n G u v (Takes map.arena (Some b))) (keeps : Leads n G u v (KeepsOthers (IsHead map.arena)))
       (puts : Leads n G v w (IsPutInFront map key x b)) where
     begins : Begins t w
     begins = begins_trans t u w l.begins (begins_trans u v w bv bw)
@@ -50,10 +41,10 @@ module _ (map : ChainMap) (key x n : ℕ) (G : List ℕ
         (leads_back n G t u l v (Takes map.arena (Some b)) bv takes).at s fit_v free hold.free_lists in
         let kept : KeepsOthers (IsHead map.arena) (after t s) (after v s) = (leads_back n G t u l v (KeepsOthers (IsHead map.arena)) bv keeps).at s fit_v in
         record {
-          absent = missing_value map key (after t s) f used missing hold.map;
+          absent = missing_value map key (after t s) missing hold.map;
           was_free = taken.was_free;
           left =
-              left_new map key x b (after t s) (after v s) (after w s) f used free hold missing taken kept (puts.at s fit);
+              left_new hold missing taken kept (puts.at s fit);
         }
 
     pub inserts_new : Leads n G t w (Inserts (chain_part map) key x New)

@@ -1,3 +1,5 @@
+-- what several proofs import
+pub mod Common
 -- how far a search along a chain has come
 pub mod Passed
 -- chains of cells in one word list

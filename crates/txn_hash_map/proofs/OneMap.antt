@@ -1,14 +1,11 @@
 -- In one word list the map is one.
-use Rattle.std.proofs.Common.{◌≡◌, ℕ, ◌+◌, ◌<◌, Bool, true, false, List, refl, sym, ap, ◌∙◌}
+use Rattle.txn_hash_map.proofs.Common.{◌≡◌, ℕ, ◌+◌, ◌<◌, Bool, true, false, List, refl, sym, ap, ◌∙◌, ChainMap, BUCKETS, Entries, Blocks, value_of, has_block}
+use Rattle.txn_hash_map.proofs.Common.{ChainsHold, bucket_of}
 use Rattle.std.specs.Cmp.{nat_cmp_total}
 use Rattle.std.specs.FinSet.{nat_cmp-IsAntisymmetric}
+use Rattle.txn_hash_map.proofs.Cells.{bucket_below, one_chain}
 use Rattle.std.specs.FinSet as set
 use Rattle.std.specs.FinMap as entry_map
-use Rattle.txn_hash_map.specs.declared.map.ChainMap.{ChainMap}
-use Rattle.txn_hash_map.specs.declared.map.TheConstants.{BUCKETS}
-use Rattle.txn_alloc.specs.EntryMaps.{Entries, Blocks, value_of, has_block}
-use Rattle.txn_hash_map.specs.Chains.{ChainsHold, bucket_of}
-use Rattle.txn_hash_map.proofs.Cells.{bucket_below, one_chain}
 
 pub both : (a b : Bool) → (a ≡ true → b ≡ true) → (b ≡ true → a ≡ true) → a ≡ b
 both true b f g = sym (f refl)
@@ -22,8 +19,8 @@ module _ (map : ChainMap) (s : List ℕ) (f g : Entries) (u w : Blocks) (h : Cha
   pub one_map : (f ≡ g) × (u ≡ w)
   one_map = (
     entry_map.same_map nat_cmp_total nat_cmp-IsAntisymmetric f g (λ q. h.entries_are q
-        ∙ ap (λ cs. value_of q cs) (same_cells (bucket_of q) (bucket_below q)) ∙ sym (k.entries_are q)),
+        ∙ ap (value_of q) (same_cells (bucket_of q) (bucket_below q)) ∙ sym (k.entries_are q)),
     set.same_set nat_cmp_total nat_cmp-IsAntisymmetric u w (λ q. both (set.contains u q) (set.contains w q)
-        (λ m. let d = h.used_in q m in k.in_used q d.0 d.1 (ap (λ cs. has_block q cs) (sym (same_cells d.0 d.1)) ∙ d.2))
-        (λ m. let d = k.used_in q m in h.in_used q d.0 d.1 (ap (λ cs. has_block q cs) (same_cells d.0 d.1) ∙ d.2))),
+        (λ m. let d = h.used_in q m in k.in_used q d.0 d.1 (ap (has_block q) (sym (same_cells d.0 d.1)) ∙ d.2))
+        (λ m. let d = k.used_in q m in h.in_used q d.0 d.1 (ap (has_block q) (same_cells d.0 d.1) ∙ d.2))),
   )

@@ -1,9 +1,6 @@
 -- How far a search along a chain has come.
+use Rattle.txn_hash_map.proofs.Common.{ChainMap, Cell, value_of, HasKeysOnce, HasChain, bucket_of, IsLaid, place_after}
 use Rattle.std.specs.Prelude.{◌≡◌, ℕ, ◌+◌, List, ◌++◌, None, length}
-use Rattle.txn_hash_map.specs.declared.map.ChainMap.{ChainMap}
-use Rattle.txn_alloc.specs.EntryMaps.{Cell, value_of, HasKeysOnce}
-use Rattle.txn_hash_map.specs.Chains.{HasChain, bucket_of, IsLaid}
-use Rattle.txn_hash_map.specs.Searches.{place_after}
 
 -- the chain of the key's bucket begins with so many cells that do not have the key, and then goes on at the place
 pub record IsPassed (map : ChainMap) (key place passed : ℕ) (words : List ℕ) : Type 0 where

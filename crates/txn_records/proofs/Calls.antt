@@ -1,27 +1,15 @@
 -- What calls on the trees say of records.
-use Rattle.std.proofs.Common.{◌≡◌, ℕ, ◌<◌, true, false, List, Option, Some, None, IfSome, is_some, refl, sym, ap, ◌∙◌, subst}
-use Rattle.std.specs.FinMap as finite
+use Rattle.txn_records.proofs.Common.{◌≡◌, ℕ, ◌<◌, true, false, List, Option, Some, None, IfSome, is_some, refl, sym, ap, ◌∙◌, Records, IsRank, data_at_rank}
+use Rattle.txn_records.proofs.Common.{Tells, TellsAndChanges, Put, New, Old, Full, removed_here, removed_there, Turns, RecordShape, RANK_STEP, index_key_of}
+use Rattle.txn_records.proofs.Common.{Trees, HasTrees, HasSomeTrees, IsGoodFor, Stands, rank_in, first_in, first_key_in, PutsRecord, first_key, first_entry}
+use Rattle.txn_stores.proofs.Common.{Begins, InEachState, LeadsTo}
+use Rattle.txn_alloc.proofs.Common.{state_after}
 use Rattle.history_model.specs.declared.shape.Shape.{Ghosts as Shapes}
-use Rattle.history_model.specs.Traces.{Begins}
-use Rattle.record_text.specs.Records.{Records}
-use Rattle.record_text.specs.Ranges.{IsRank}
-use Rattle.record_text.specs.Laws.{data_at_rank}
 use Rattle.txn_words.specs.declared.words.Words.{Ghosts as AnyWords}
-use Rattle.txn_words.specs.Access.{Tells, TellsAndChanges}
-use Rattle.txn_words.specs.Calls.{InEachState, LeadsTo}
-use Rattle.txn_words.proofs.CallLaws.{state_after}
-use Rattle.txn_alloc.specs.declared.put.Put.{Put}
-use Rattle.txn_alloc.specs.declared.put.Put.TheVariants.{New, Old, Full}
-use Rattle.txn_stores.proofs.Maps.{removed_here, removed_there}
-use Rattle.txn_stores.proofs.Turning.{Turns}
-use Rattle.txn_records.specs.declared.shape.RecordShape.{RecordShape}
-use Rattle.txn_records.specs.declared.layout.TheConstants.{RANK_STEP}
-use Rattle.txn_records.specs.Layout.{index_key_of}
-use Rattle.txn_records.specs.Standing.{Trees, HasTrees, HasSomeTrees, HoldRecords, IsGoodFor, Stands, rank_in}
-use Rattle.txn_records.specs.Access.{first_in, first_key_in, PutsRecord, UnlessNoRoom}
-use Rattle.txn_records.specs.Inner.Listing.{first_key, first_entry}
+use Rattle.txn_records.specs.Access.{UnlessNoRoom}
 use Rattle.txn_records.proofs.Keys.{key_first, entry_first}
 use Rattle.txn_records.proofs.Held.{rank_range, no_record, some_record, range_removed, cut_held, dropped, dropped_held}
+use Rattle.std.specs.FinMap as finite
 
 module _ (shape : RecordShape) where
   pub good_trees : (x : List ℕ) → IsGoodFor shape x → HasSomeTrees shape x
@@ -102,7 +90,7 @@ module _ (shape : RecordShape) where
           record {
             trees = k.0;
             parts = k.1;
-            held = subst (λ z. HoldRecords z (finite.remove records id)) (sym both)
+            held = rw both
                 (dropped_held stand.trees records rank id lt stand.held (sym k.2.1.0));
             range = range_removed records id stand.range;
           };

@@ -1,23 +1,14 @@
 -- The words of a store with no record: zeros, but for the lists of the free blocks.
-use Rattle.std.proofs.Common.{◌≡◌, ℕ, ◌<◌, List, length, slice_get, Some, replicate, sym, ap, ◌∙◌, arith}
-use Rattle.std.specs.Ordering.{nat_cmp}
+use Rattle.txn_records.proofs.Common.{◌≡◌, ℕ, ◌<◌, List, length, slice_get, Some, replicate, sym, ap, ◌∙◌, arith, nat_cmp, data_at_rank, KeepsOthers, IsHead}
+use Rattle.txn_records.proofs.Common.{FreeListsHold, times_of, TreeHolds, three_among, RecordShape, ById, ByRank, words_of, arena_of, tree_of, Stands, rank_in}
+use Rattle.txn_alloc.proofs.Common.{IsWrittenByLaying}
 use Rattle.std.specs.List.{range_with_len}
-use Rattle.std.specs.FinSet as set
-use Rattle.std.specs.FinMap as finite
-use Rattle.record_text.specs.Laws.{data_at_rank}
-use Rattle.txn_words.specs.Frames.{KeepsOthers}
-use Rattle.txn_alloc.specs.FreeLists.{IsHead, FreeListsHold}
-use Rattle.txn_alloc.specs.Laying.{IsWrittenByLaying}
-use Rattle.txn_alloc.proofs.Maps.Counting.{times_of}
 use Rattle.txn_alloc.proofs.Sets.{out_empty}
-use Rattle.txn_tree_map.specs.Trees.{TreeHolds}
-use Rattle.txn_alloc.proofs.Apart.{member_one, out_none, three_among}
+use Rattle.txn_alloc.proofs.Apart.{member_one, out_none}
 use Rattle.txn_stores.proofs.Ranges.{all_among}
 use Rattle.txn_stores.proofs.Emptied.{laid_count, no_tree, zero_before}
-use Rattle.txn_records.specs.declared.shape.RecordShape.{RecordShape}
-use Rattle.txn_records.specs.declared.layout.Order.TheVariants.{ById, ByRank}
-use Rattle.txn_records.specs.Layout.{words_of, arena_of, tree_of}
-use Rattle.txn_records.specs.Standing.{Stands, rank_in}
+use Rattle.std.specs.FinSet as set
+use Rattle.std.specs.FinMap as finite
 
 -- the numbers of all blocks
 abbrev pub all_blocks : RecordShape → List ℕ

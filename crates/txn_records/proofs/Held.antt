@@ -1,17 +1,8 @@
 -- Trees that hold records, and hold them after a change.
-use Rattle.std.proofs.Common.{◌≡◌, ◌≢◌, ℕ, ◌<◌, ◌≤◌, if◌then◌else◌, Option, Some, None}
-use Rattle.std.proofs.Common.{IfSome, unwrap_or, refl, sym, ap, ◌∙◌, subst, arith, eq-eqb, ne_eqb}
-use mathlib.Core.Logic.{dite}
-use native.Mathlib.Decide.{ℕ_discrete}
+use Rattle.txn_records.proofs.Common.{◌≡◌, ◌≢◌, ℕ, ◌<◌, ◌≤◌, if◌then◌else◌, Option, Some, None, IfSome, unwrap_or, refl, sym, ap, ◌∙◌, subst, arith, eq-eqb}
+use Rattle.txn_records.proofs.Common.{ne_eqb, dite, ℕ_discrete, GREATEST_DATA, Records, IsId, IsRank, data_at_rank, removed_here, removed_there, inserted_here}
+use Rattle.txn_records.proofs.Common.{inserted_there, RANK_STEP, index_key_of, Trees, HoldRecords, RecordsAreInRange, rank_in}
 use Rattle.std.specs.FinMap as finite
-use Rattle.record_text.specs.declared.limits.TheConstants.{GREATEST_DATA}
-use Rattle.record_text.specs.Records.{Records}
-use Rattle.record_text.specs.Ranges.{IsId, IsRank}
-use Rattle.record_text.specs.Laws.{data_at_rank}
-use Rattle.txn_stores.proofs.Maps.{removed_here, removed_there, inserted_here, inserted_there}
-use Rattle.txn_records.specs.declared.layout.TheConstants.{RANK_STEP}
-use Rattle.txn_records.specs.Layout.{index_key_of}
-use Rattle.txn_records.specs.Standing.{Trees, HoldRecords, RecordsAreInRange, rank_in}
 
 -- an identifier is below the step of the ranks
 pub id_below : (id : ℕ) → IsId id → id < RANK_STEP
@@ -59,8 +50,7 @@ rank_range records range id (Some rank) e =
 -- records in range stay so
 pub range_removed : (records : Records) (id : ℕ) → RecordsAreInRange records → RecordsAreInRange (finite.remove records id)
 range_removed records id range q rank content there = dite (ℕ_discrete q id)
-    (λ e. absurd (let none : finite.get (finite.remove records id) q ≡ None =
-    subst (λ z. finite.get (finite.remove records id) z ≡ None) (sym e) (removed_here records id) in cc))
+    (λ e. absurd (cc (removed_here records id)))
     (λ ne. range q rank content (sym (removed_there records id q ne) ∙ there))
 
 same_some : {A : Type 0} (x y : A) → Some x ≡ Some y → x ≡ y
@@ -83,30 +73,24 @@ module _ (trees now : Trees) (records : Records) (held : HoldRecords trees recor
       → ((r : ℕ) → r ≢ rank → finite.get now.index (index_key_of r id) ≡ None) → HoldRecords now (finite.insert records id (rank, content))
   put_held rank content rank_here here gone = record {
     ranks = λ q. dite (ℕ_discrete q id)
-        (λ e. subst (λ z. finite.get now.ranks z ≡ rank_in (finite.get (finite.insert records id (rank, content)) z)) (sym e)
-        (rank_here ∙ sym (ap rank_in (inserted_here records id (rank, content)))))
-        (λ ne. ranks_there q ne ∙ held.ranks q ∙ sym (ap rank_in (inserted_there records id (rank, content) q ne)));
+        (λ e. rw (e, inserted_here) rank_here)
+        (λ ne. rw inserted_there (ranks_there q ne ∙ held.ranks q));
     index = λ r q below. dite (ℕ_discrete q id)
-        (λ e. subst (λ z. finite.get now.index (index_key_of r z) ≡ data_at_rank r (finite.get (finite.insert records id (rank, content)) z)) (sym e)
-        (dite (ℕ_discrete r rank)
-        (λ same. subst (λ z. finite.get now.index (index_key_of z id) ≡ data_at_rank z (finite.get (finite.insert records id (rank, content)) id)) (sym same)
-        (here ∙ sym (ap (data_at_rank rank) (inserted_here records id (rank, content)) ∙ data_here rank content)))
-        (λ other. gone r other ∙ sym (ap (data_at_rank r) (inserted_here records id (rank, content))
-        ∙ data_elsewhere (Some (rank, content)) rank r refl other))))
-        (λ ne. index_there r q below ne ∙ held.index r q below ∙ sym (ap (data_at_rank r) (inserted_there records id (rank, content) q ne)));
+        (λ e. rw (e, inserted_here) (dite (ℕ_discrete r rank)
+        (λ same. rw same (here ∙ sym (data_here rank content)))
+        (λ other. gone r other ∙ sym (data_elsewhere (Some (rank, content)) rank r refl other))))
+        (λ ne. rw inserted_there (index_there r q below ne ∙ held.index r q below));
   }
 
   pub cut_held : finite.get now.ranks id ≡ None → ((r : ℕ) → finite.get now.index (index_key_of r id) ≡ None)
       → HoldRecords now (finite.remove records id)
   cut_held none gone = record {
     ranks = λ q. dite (ℕ_discrete q id)
-        (λ e. subst (λ z. finite.get now.ranks z ≡ rank_in (finite.get (finite.remove records id) z)) (sym e)
-        (none ∙ sym (ap rank_in (removed_here records id))))
-        (λ ne. ranks_there q ne ∙ held.ranks q ∙ sym (ap rank_in (removed_there records id q ne)));
+        (λ e. rw (e, removed_here) none)
+        (λ ne. rw removed_there (ranks_there q ne ∙ held.ranks q));
     index = λ r q below. dite (ℕ_discrete q id)
-        (λ e. subst (λ z. finite.get now.index (index_key_of r z) ≡ data_at_rank r (finite.get (finite.remove records id) z)) (sym e)
-        (gone r ∙ sym (ap (data_at_rank r) (removed_here records id))))
-        (λ ne. index_there r q below ne ∙ held.index r q below ∙ sym (ap (data_at_rank r) (removed_there records id q ne)));
+        (λ e. rw (e, removed_here) (gone r))
+        (λ ne. rw removed_there (index_there r q below ne ∙ held.index r q below));
   }
 
 -- the trees after a record was taken out of both
@@ -120,7 +104,6 @@ dropped_held trees records rank id lt held has =
     (λ r q below ne. removed_there trees.index (index_key_of rank id) (index_key_of r q) (λ e. ne (keys_differ r q rank id below lt e).1))
     (removed_here trees.ranks id)
     (λ r. dite (ℕ_discrete r rank)
-    (λ e. subst (λ z. finite.get (finite.remove trees.index (index_key_of rank id)) (index_key_of z id) ≡ None) (sym e)
-    (removed_here trees.index (index_key_of rank id)))
+    (λ e. rw e (removed_here trees.index (index_key_of rank id)))
     (λ ne. removed_there trees.index (index_key_of rank id) (index_key_of r id) (λ e. ne (keys_differ r id rank id lt lt e).0)
     ∙ held.index r id lt ∙ data_elsewhere (finite.get records id) rank r (sym (held.ranks id) ∙ has) ne))

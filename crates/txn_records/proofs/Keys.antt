@@ -1,32 +1,28 @@
 -- The keys of the index, in order.
-use Rattle.std.proofs.Common.{◌≡◌, ◌≢◌, ℕ, ◌*◌, ◌/◌, ◌%◌, ◌<◌, ◌≤◌, Bool, true, false, cond, T, nat_lt, nat_le, List, [], ◌∷◌, map, Option}
-use Rattle.std.proofs.Common.{Some, None, refl, sym, ap, ◌∙◌, subst, arith, rules, eqb-true, ◌==◌, if◌then◌else◌, unwrap_or, inl, inr}
+use Rattle.txn_records.proofs.Common.{◌≡◌, ◌≢◌, ℕ, ◌*◌, ◌/◌, ◌%◌, ◌<◌, ◌≤◌, Bool, true, false, cond, nat_lt, nat_le, List, [], ◌∷◌, map, Option, Some, None}
+use Rattle.txn_records.proofs.Common.{refl, sym, ap, ◌∙◌, subst, arith, rules, eqb-true, ◌==◌, if◌then◌else◌, unwrap_or, inl, inr, nat_cmp_total, nat_cmp}
+use Rattle.txn_records.proofs.Common.{AllByRecursion, nat_cmp-IsAntisymmetric, get-entries, entries_sorted, Records, index_of, data_at_rank, tied, Entries}
+use Rattle.txn_records.proofs.Common.{RANK_STEP, index_key_of, Trees, HoldRecords, RecordsAreInRange, first_in, first_key_in, keys_of, entries_of, first_key}
+use Rattle.txn_records.proofs.Common.{first_entry}
+use Rattle.record_text.proofs.Common.{below_first, below_rest, sorted_first, sorted_rest, index_cmp}
+use Rattle.books_report.proofs.Common.{is_lt-nat_cmp}
+use Rattle.std.proofs.Common.{T}
 use Rattle.std.proofs.lemmas.Bool.{cases_lt}
 use Rattle.std.specs.Prelude.{find as first}
 use Rattle.std.specs.declared.cmp.Ordering.{Ordering}
 use Rattle.std.specs.declared.cmp.Ordering.TheVariants.{Less, Equal, Greater}
-use Rattle.std.specs.Cmp.{nat_cmp_total, tied_itself, both_ways}
-use Rattle.std.specs.Ordering.{nat_cmp, ordering_then, eq_by_cmp, is_eq, is_lt}
-use Rattle.std.specs.List.{AllByRecursion}
-use Rattle.std.specs.FinMap as finite
-use Rattle.std.specs.FinMap.{nat_cmp-IsAntisymmetric, get-entries, get-from_sorted, entries-from_sorted, entries_sorted}
+use Rattle.std.specs.Cmp.{tied_itself, both_ways}
+use Rattle.std.specs.Ordering.{ordering_then, eq_by_cmp, is_eq, is_lt}
+use Rattle.std.specs.FinMap.{get-from_sorted, entries-from_sorted}
 use Rattle.std.specs.FinMap.Entries.{find, is_sorted, below_all}
 use Rattle.std.proofs.lemmas.Map.Views.{tells_apart}
 use Rattle.books_model.proofs.Maps.Entries.{All-entries}
-use Rattle.books_model.proofs.Maps.Keys.{below_first, below_rest, sorted_first, sorted_rest, is_lt-nat_cmp}
 use Rattle.books_model.proofs.Maps.Trees.{positions_total, exact_positions}
-use Rattle.record_text.specs.Records.{Records, index_cmp, index_of}
-use Rattle.record_text.specs.Laws.{data_at_rank}
 use Rattle.record_text.proofs.Places.{at_place}
-use Rattle.txn_tree_map.proofs.Held.Entries.{lower, tied, untied}
-use Rattle.txn_alloc.specs.EntryMaps.{Entries}
-use Rattle.txn_records.specs.declared.layout.TheConstants.{RANK_STEP}
-use Rattle.txn_records.specs.Layout.{index_key_of}
-use Rattle.txn_records.specs.Standing.{Trees, HoldRecords, RecordsAreInRange}
-use Rattle.txn_records.specs.Access.{first_in, first_key_in}
-use Rattle.txn_records.specs.Inner.Listing.{keys_of, entries_of, first_key, first_entry}
+use Rattle.txn_tree_map.proofs.Held.Entries.{lower, untied}
 use Rattle.txn_records.proofs.Held.{id_below, keys_differ}
 use Rattle.txn_records.proofs.Lengths.{as_key, key_rest}
+use Rattle.std.specs.FinMap as finite
 
 -- a place in the index: rank and identifier, both below the step
 abbrev pub IsPlace : ℕ × ℕ → Type 0
@@ -118,9 +114,6 @@ at_rank rank (Some stored) content e = at (stored.0 == rank) refl
     at false is = let told : None ≡ Some content = sym (ap (λ t. if t then Some stored.1 else None) is) ∙ e in absurd (cc)
 
 module _ (records : Records) (range : RecordsAreInRange records) where
-  index_entries : List Entry
-  index_entries = finite.entries (index_of records)
-
   place_in : (p : ℕ × ℕ) (content : ℕ) → finite.get (index_of records) p ≡ Some content → IsPlace p
   place_in p content e =
       let there : finite.get records p.1 ≡ Some (p.0, content) = at_rank p.0 (finite.get records p.1) content (sym (at_place records p.0 p.1) ∙ e) in

@@ -1,21 +1,12 @@
 -- How many entries trees have that hold records.
-use Rattle.std.proofs.Common.{◌≡◌, ℕ, zero, suc, ◌+◌, ◌/◌, ◌%◌, ◌<◌, List, [], ◌∷◌, length, Some, None, refl, sym, ap, ◌∙◌, subst, arith, rules}
-use mathlib.Core.Logic.{dite}
-use native.Mathlib.Decide.{ℕ_discrete}
-use Rattle.std.specs.Cmp.{nat_cmp_total}
-use Rattle.std.specs.Ordering.{nat_cmp}
-use Rattle.std.specs.FinMap as finite
-use Rattle.std.specs.FinMap.{nat_cmp-IsAntisymmetric, find, len-entries, get-entries, empty_of_len, len-empty, get-empty}
-use Rattle.books_model.proofs.Maps.Trees.{len_after_insert}
-use Rattle.record_text.specs.Records.{Records}
-use Rattle.record_text.specs.Laws.{data_at_rank}
-use Rattle.txn_alloc.specs.EntryMaps.{Entries}
-use Rattle.txn_tree_map.proofs.Held.Entries.{tied}
-use Rattle.txn_stores.proofs.Maps.{removed_here, removed_there, inserted_here, inserted_there}
-use Rattle.txn_records.specs.declared.layout.TheConstants.{RANK_STEP}
-use Rattle.txn_records.specs.Layout.{index_key_of}
-use Rattle.txn_records.specs.Standing.{Trees, HoldRecords, RecordsAreInRange, rank_in}
+use Rattle.txn_records.proofs.Common.{◌≡◌, ℕ, suc, ◌+◌, ◌/◌, ◌%◌, ◌<◌, List, [], ◌∷◌, length, Some, None, refl, sym, ap, ◌∙◌, subst, arith, rules, dite}
+use Rattle.txn_records.proofs.Common.{ℕ_discrete, nat_cmp_total, nat_cmp, nat_cmp-IsAntisymmetric, len-entries, get-entries, len_after_insert, Records}
+use Rattle.txn_records.proofs.Common.{data_at_rank, Entries, tied, removed_here, removed_there, inserted_here, inserted_there, RANK_STEP, index_key_of, Trees}
+use Rattle.txn_records.proofs.Common.{HoldRecords, RecordsAreInRange, rank_in}
+use Rattle.std.proofs.Common.{zero}
+use Rattle.std.specs.FinMap.{find, empty_of_len, len-empty, get-empty}
 use Rattle.txn_records.proofs.Held.{id_below, range_removed, data_here, dropped, dropped_held}
+use Rattle.std.specs.FinMap as finite
 
 -- a map has one entry more than without one that it has
 pub one_less : {X : Type 0} (m : finite.FinMap nat_cmp X) (k : ℕ) (x : X) → finite.get m k ≡ Some x → finite.len m ≡ finite.len (finite.remove m k) + 1

@@ -1,3 +1,5 @@
+-- what several proofs import
+pub mod Common
 -- two trees over one arena: a change of one leaves the other
 pub mod Two
 -- the two trees of a record store, each beside the other

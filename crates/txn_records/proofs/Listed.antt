@@ -1,22 +1,16 @@
 -- Items listed one by one, down the keys of the index: identifiers from a rank on, and all records.
-use Rattle.std.proofs.Common.{◌≡◌, ℕ, suc, ◌+◌, ◌*◌, ◌<◌, ◌≤◌, Bool, true, false, cond, nat_le, List, [], ◌∷◌, ◌++◌, map, take, length}
-use Rattle.std.proofs.Common.{Option, Some, None, refl, sym, ap, ◌∙◌, arith, append_assoc, append-nil, unwrap_or}
-use Rattle.std.proofs.lemmas.Bool.Decides.{nat_tests}
+use Rattle.txn_records.proofs.Common.{◌≡◌, ℕ, suc, ◌+◌, ◌*◌, ◌<◌, ◌≤◌, Bool, true, false, cond, nat_le, List, [], ◌∷◌, map, length, Option, Some, None, refl}
+use Rattle.txn_records.proofs.Common.{sym, ap, ◌∙◌, arith, unwrap_or, nat_tests, AllByRecursion, len-entries, Records, ids_from, index_of, Printed, printed_of}
+use Rattle.txn_records.proofs.Common.{RecordShape, RANK_STEP, index_key_of, RecordsAreInRange, Stands, keys_of, entries_of}
+use Rattle.std.proofs.Common.{◌++◌, take, append_assoc, append-nil}
 use Rattle.std.proofs.lemmas.List.{take_all, length-map}
 use Rattle.std.specs.Prelude.{find as first}
-use Rattle.std.specs.List.{AllByRecursion, filter}
-use Rattle.std.specs.FinMap as finite
-use Rattle.std.specs.FinMap.{len-entries}
+use Rattle.std.specs.List.{filter}
 use Rattle.books_model.proofs.Maps.Entries.{AllByRecursion-weaker}
-use Rattle.record_text.specs.Records.{Records, ids_from, index_of}
-use Rattle.record_text.specs.Output.{Printed, printed_of}
-use Rattle.txn_records.specs.declared.shape.RecordShape.{RecordShape}
-use Rattle.txn_records.specs.declared.layout.TheConstants.{RANK_STEP}
-use Rattle.txn_records.specs.Layout.{index_key_of, id_in, rank_in_key}
-use Rattle.txn_records.specs.Standing.{RecordsAreInRange, Stands}
-use Rattle.txn_records.specs.Inner.Listing.{keys_of, entries_of}
+use Rattle.txn_records.specs.Layout.{id_in, rank_in_key}
 use Rattle.txn_records.proofs.Keys.{Entry, ArePlaces, AreRising, key_of, are_places, entries_keyed}
 use Rattle.txn_records.proofs.Sides.{trees_counted}
+use Rattle.std.specs.FinMap as finite
 
 -- items with keys
 module _ {X : Type 0} (at : X → ℕ) where
@@ -191,7 +185,7 @@ all_printed shape words records stand =
     length-map (finite.entries (index_of records)) (λ (e : Entry). (e.0.1, e.0.0, e.1))
     ∙ sym (length-map (finite.entries (index_of records)) (λ (e : Entry). (key_of e.0, e.1)))
     ∙ ap length (sym keyed) ∙ sym (len-entries stand.trees.index) in
-    take_all shape.blocks (printed_of records) (omega (arith, count, trees_counted shape words stand.trees stand.parts))
+    take_all shape.blocks (printed_of records) (omega (arith, count, trees_counted stand.parts))
 
 pub records_first : (shape : RecordShape) (words : List ℕ) (records : Records) → Stands shape words records
     → (list : List Printed) (left key : ℕ) → list ≡ [] → left ≡ shape.blocks → key ≡ 0

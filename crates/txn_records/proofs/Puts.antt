@@ -1,31 +1,16 @@
 -- A record that is put, from what was done to the trees.
-use Rattle.std.proofs.Common.{◌≡◌, ◌≢◌, ℕ, ◌+◌, ◌*◌, ◌<◌, ◌≤◌, Bool, true, false, ◌==◌, nat_lt}
-use Rattle.std.proofs.Common.{List, Option, Some, None, IsSome, refl, sym, ap, ◌∙◌, subst, arith, eqb-true, ne_eqb}
-use mathlib.Core.Logic.{dite}
-use native.Mathlib.Decide.{ℕ_discrete}
-use Rattle.std.proofs.lemmas.Bool.Decides.{nat_tests}
-use Rattle.std.specs.Cmp.{nat_cmp_total}
-use Rattle.std.specs.FinMap as finite
-use Rattle.books_model.proofs.Maps.Trees.{len_after_insert, len_after_change}
-use Rattle.record_text.specs.declared.limits.TheConstants.{GREATEST_DATA}
-use Rattle.record_text.specs.Records.{Records, is_store_full}
-use Rattle.record_text.specs.Ranges.{IsId, IsRank}
-use Rattle.record_text.specs.Laws.{data_at_rank}
-use Rattle.txn_words.specs.Access.{OfModel, TellsAndChanges}
-use Rattle.txn_alloc.specs.declared.put.Put.{Put}
-use Rattle.txn_alloc.specs.declared.put.Put.TheVariants.{New, Old, Full}
-use Rattle.txn_alloc.specs.EntryMaps.{Entries}
-use Rattle.txn_stores.proofs.Maps.{removed_here, removed_there, inserted_here, inserted_there}
-use Rattle.txn_stores.proofs.Turning.{Turns}
-use Rattle.txn_records.specs.declared.shape.RecordShape.{RecordShape}
-use Rattle.txn_records.specs.declared.layout.TheConstants.{RANK_STEP}
-use Rattle.txn_records.specs.Layout.{index_key_of}
-use Rattle.txn_records.specs.Standing.{Trees, HasTrees, HoldRecords, Stands, rank_in}
-use Rattle.txn_records.specs.Access.{is_used_up, put_answer, put_by, PutsRecord}
-use Rattle.txn_records.proofs.Held.{id_below, keys_differ, no_record, some_record, data_here, data_elsewhere}
-use Rattle.txn_records.proofs.Held.{range_inserted, put_held}
+use Rattle.txn_records.proofs.Common.{◌≡◌, ◌≢◌, ℕ, ◌+◌, ◌*◌, ◌<◌, ◌≤◌, Bool, true, false, ◌==◌, nat_lt, List, Option, Some, None, refl, sym, ap, ◌∙◌, subst}
+use Rattle.txn_records.proofs.Common.{arith, eqb-true, ne_eqb, dite, ℕ_discrete, nat_tests, nat_cmp_total, len_after_insert, GREATEST_DATA, Records}
+use Rattle.txn_records.proofs.Common.{is_store_full, IsId, IsRank, data_at_rank, TellsAndChanges, Put, New, Old, Full, Entries, removed_here, removed_there}
+use Rattle.txn_records.proofs.Common.{inserted_here, inserted_there, Turns, RecordShape, RANK_STEP, index_key_of, Trees, HasTrees, HoldRecords, Stands, rank_in}
+use Rattle.txn_records.proofs.Common.{is_used_up, put_answer, put_by, PutsRecord}
+use Rattle.std.proofs.Common.{IsSome}
+use Rattle.books_model.proofs.Maps.Trees.{len_after_change}
+use Rattle.txn_words.specs.Access.{OfModel}
+use Rattle.txn_records.proofs.Held.{id_below, keys_differ, no_record, some_record, data_here, data_elsewhere, range_inserted, put_held}
 use Rattle.txn_records.proofs.Lengths.{lengths, one_less}
 use Rattle.txn_records.proofs.Sides.{trees_counted}
+use Rattle.std.specs.FinMap as finite
 
 -- the answers to a new key
 new_answer : (put : Put) (b : Bool) → put ≢ Full → put ≡ put_answer None b → (put ≡ New) × (b ≡ false)
@@ -40,13 +25,13 @@ full_answer false e = absurd (cc)
 last_block : (a n blocks : ℕ) → a ≡ n + 1 + n → n + n < blocks → (a == blocks) ≡ nat_lt blocks (2 * n + 2)
 last_block a n blocks e lt = dite (ℕ_discrete a blocks) (λ same. grind (arith, nat_tests, same, e, lt)) (λ other. grind (arith, nat_tests, other, e, lt))
 
-module _ (shape : RecordShape) (words : List ℕ) (records : Records) (stand : Stands shape words records) where
+module _ {shape : RecordShape} {words : List ℕ} {records : Records} (stand : Stands shape words records) where
   -- each tree has as many entries as there are records, and no more than there are blocks
   as_many : (finite.len stand.trees.ranks ≡ finite.len records) × (finite.len stand.trees.index ≡ finite.len records)
-  as_many = lengths (finite.len records) records stand.trees refl stand.range stand.held
+  as_many = lengths (finite.len records) _ _ refl stand.range stand.held
 
   at_most : finite.len stand.trees.ranks + finite.len stand.trees.index ≤ shape.blocks
-  at_most = omega (arith, trees_counted shape words stand.trees stand.parts)
+  at_most = omega (arith, trees_counted stand.parts)
 
 -- the trees with a record in them
 placed : Entries → Entries → ℕ → ℕ → ℕ → Trees
@@ -77,7 +62,7 @@ module _ (shape : RecordShape) (id rank content : ℕ) (is : IsId id) (fits : co
         let told : Full ≡ put_answer None (is_used_up shape stand.trees) = t.told stand.trees stand.parts
         ∙ ap (λ o. put_answer o (is_used_up shape stand.trees)) (stand.held.ranks id ∙ absent records stand) in
         let all : finite.len stand.trees.ranks + finite.len stand.trees.index ≡ shape.blocks = eqb-true _ _ (full_answer _ told) in
-        let n = as_many shape x records stand in
+        let n = as_many stand in
         let full : is_store_full shape.blocks records ≡ true = grind (arith, nat_tests, all, n.0, n.1) in
         sym (ap (λ o. put_answer o (is_store_full shape.blocks records)) (absent records stand) ∙ ap (put_answer None) full);
     left = tt;
@@ -112,8 +97,8 @@ module _ (shape : RecordShape) (id rank content : ℕ) (is : IsId id) (fits : co
       second_answer : is_used_up shape stand.trees ≡ false → put_answer (finite.get with_rank.index key) (is_used_up shape with_rank)
           ≡ put_answer (rank_in (finite.get records id)) (is_store_full shape.blocks records)
       second_answer left =
-          let n = as_many shape x records stand in
-          let some : finite.len records + finite.len records < shape.blocks = grind (arith, nat_tests, left, n.0, n.1, at_most shape x records stand) in
+          let n = as_many stand in
+          let some : finite.len records + finite.len records < shape.blocks = grind (arith, nat_tests, left, n.0, n.1, at_most stand) in
           let longer : finite.len with_rank.ranks ≡ finite.len stand.trees.ranks + 1 =
           len_after_insert nat_cmp_total stand.trees.ranks id rank (stand.held.ranks id ∙ absent records stand) in
           ap (λ o. put_answer o (is_used_up shape with_rank)) (stand.held.index rank id lt ∙ ap (data_at_rank rank) nothing)
@@ -148,7 +133,7 @@ module _ (shape : RecordShape) (id rank content : ℕ) (is : IsId id) (fits : co
         record {
           trees = k.0;
           parts = k.1;
-          held = subst (λ z. HoldRecords z (finite.insert records id (rank, content))) (sym last) (new_held records stand);
+          held = rw last (new_held records stand);
           range = range_inserted records id rank content stand.range is ranked fits;
         }
 
@@ -212,21 +197,21 @@ module _ (shape : RecordShape) (id rank content : ℕ) (is : IsId id) (fits : co
       -- the new key is in the index no more than any other of the record
       base_gone : (r : ℕ) → finite.get base (index_key_of r id) ≡ None
       base_gone r = dite (ℕ_discrete r was)
-          (λ e. subst (λ z. finite.get base (index_key_of z id) ≡ None) (sym e) (removed_here stand.trees.index (index_key_of was id)))
+          (λ e. rw e (removed_here stand.trees.index (index_key_of was id)))
           (λ ne. removed_there stand.trees.index (index_key_of was id) (index_key_of r id) (λ e. ne (keys_differ r id was id below below e).0)
           ∙ stand.held.index r id below ∙ data_elsewhere (finite.get records id) was r (known records stand) ne)
 
       -- so the block that it had is left
       room : is_used_up shape middle ≡ false
       room =
-          let n = as_many shape x records stand in
+          let n = as_many stand in
           let some = some_record (finite.get records id) was (known records stand) in
           let had : finite.get stand.trees.index (index_key_of was id) ≡ Some some.0 =
           stand.held.index was id below ∙ ap (data_at_rank was) some.1 ∙ data_here was some.0 in
           let kept : finite.len middle.ranks ≡ finite.len stand.trees.ranks = len_after_change nat_cmp_total stand.trees.ranks id rank
           (subst IsSome (sym (stand.held.ranks id ∙ known records stand)) refl) in
           ne_eqb (finite.len middle.ranks + finite.len middle.index) shape.blocks
-          (λ e. absurd (omega (arith, e, kept, one_less stand.trees.index (index_key_of was id) some.0 had, at_most shape x records stand)))
+          (λ e. absurd (omega (arith, e, kept, one_less stand.trees.index (index_key_of was id) some.0 had, at_most stand)))
 
       moved_held : HoldRecords (record { ranks = finite.insert stand.trees.ranks id rank; index = finite.insert base key content })
           (finite.insert records id (rank, content))
@@ -255,7 +240,7 @@ module _ (shape : RecordShape) (id rank content : ℕ) (is : IsId id) (fits : co
           record {
             trees = k.0;
             parts = k.1;
-            held = subst (λ z. HoldRecords z (finite.insert records id (rank, content))) (sym last) (moved_held records stand);
+            held = rw last (moved_held records stand);
             range = range_inserted records id rank content stand.range is ranked fits;
           };
     }

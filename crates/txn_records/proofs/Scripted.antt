@@ -1,21 +1,16 @@
 -- The operations of a script one after another on words that stand for records, and what they come to together.
-use Rattle.std.proofs.Common.{◌≡◌, ℕ, Bool, true, false, not, ◌&&◌, if◌then◌else◌, List}
-use Rattle.std.proofs.Common.{Option, Some, None, is_some, refl, sym, ap, ◌∙◌, subst}
+use Rattle.txn_records.proofs.Common.{◌≡◌, ℕ, Bool, true, false, if◌then◌else◌, List, Option, Some, None, is_some, refl, sym, ap, ◌∙◌, Records, ids_from}
+use Rattle.txn_records.proofs.Common.{is_store_full, New, Old, Full, Tells, TellsAndChanges, remove_absent, RecordShape, Stands, rank_in, put_answer}
+use Rattle.txn_records.proofs.Common.{PutsRecord}
+use Rattle.record_text.proofs.Common.{record_step_of, with_record}
+use Rattle.books_report.proofs.Common.{Gives}
+use Rattle.std.proofs.Common.{not, ◌&&◌}
+use Rattle.books_report.specs.Stores.Interpreter.{Step as step}
+use Rattle.txn_records.specs.Operating.{MeetsStep}
 use Rattle.std.specs.FinMap as finite
 use Rattle.record_text.specs.declared.script.RecordOp.TheVariants as op
 use Rattle.record_text.specs.declared.reply.RecordValue.TheVariants as value
-use Rattle.record_text.specs.Records.{Records, ids_from, is_store_full}
-use Rattle.record_text.specs.Interpreter.{record_step_of, with_record}
-use Rattle.books_report.specs.Stores.Interpreter.{Step as step}
-use Rattle.books_report.specs.Stores.Interpreter.Step.{Gives}
-use Rattle.txn_alloc.specs.declared.put.Put.TheVariants.{New, Old, Full}
-use Rattle.txn_words.specs.Access.{Tells, TellsAndChanges}
-use Rattle.txn_stores.proofs.Maps.{remove_absent}
-use Rattle.txn_records.specs.declared.shape.RecordShape.{RecordShape}
 use Rattle.books_report.specs.declared.stores.outcome.Outcome.TheVariants as outcome
-use Rattle.txn_records.specs.Standing.{Stands, rank_in}
-use Rattle.txn_records.specs.Access.{put_answer, PutsRecord}
-use Rattle.txn_records.specs.Operating.{MeetsStep}
 
 -- what the step of a put comes to, by what was answered
 put_new_step : (blocks id rank content : ℕ) (records : Records) (o : Option (ℕ × ℕ)) → finite.get records id ≡ o
@@ -44,17 +39,6 @@ put_old_step blocks id rank content was records None is told = at (is_store_full
     at true e = let no : Old was ≡ Full = told ∙ ap (put_answer None) e in absurd (cc)
     at false e = let no : Old was ≡ New = told ∙ ap (put_answer None) e in absurd (cc)
 
-put_full_step : (blocks id rank content : ℕ) (records : Records) (o : Option (ℕ × ℕ)) → finite.get records id ≡ o
-    → Full ≡ put_answer (rank_in o) (is_store_full blocks records) → record_step_of blocks (op.Put id rank content) records ≡ step.Full
-put_full_step blocks id rank content records (Some stored) is told = absurd (cc)
-put_full_step blocks id rank content records None is told = at (is_store_full blocks records) refl
-  where
-    at : (full : Bool) → is_store_full blocks records ≡ full → record_step_of blocks (op.Put id rank content) records ≡ step.Full
-    at true e = ap (λ (found : Option (ℕ × ℕ)). if not (is_some found) && is_store_full blocks records then step.Full
-        else Gives (if is_some found then value.Old else value.New) (finite.insert records id (rank, content))) is
-        ∙ ap (λ full. if full then step.Full else Gives value.New (finite.insert records id (rank, content))) e
-    at false e = let no : Full ≡ New = told ∙ ap (put_answer None) e in absurd (cc)
-
 module _ (shape : RecordShape) (x y : List ℕ) where
   pub new_steps : (id rank content : ℕ) → PutsRecord shape id rank content New x y → MeetsStep shape (op.Put id rank content) (outcome.Gives value.New) x y
   new_steps id rank content p = record {
@@ -75,15 +59,6 @@ module _ (shape : RecordShape) (x y : List ℕ) where
     );
   }
 
-  pub full_steps : (id rank content : ℕ) → PutsRecord shape id rank content Full x y → MeetsStep shape (op.Put id rank content) outcome.Full x y
-  full_steps id rank content p = record {
-    comes = λ records stand. (
-      records,
-      put_full_step shape.blocks id rank content records (finite.get records id) refl (p.answer records stand),
-      tt,
-    );
-  }
-
   pub gone_steps : (id : ℕ) → TellsAndChanges (Stands shape) (λ records. finite.contains_key records id) (λ records. finite.remove records id) true x y
       → MeetsStep shape (op.Remove id) (outcome.Gives value.Gone) x y
   gone_steps id t = record {
@@ -101,7 +76,7 @@ module _ (shape : RecordShape) (x y : List ℕ) where
     comes = λ records stand. let none = absent (finite.get records id) (t.told records stand) in (
       records,
       ap (λ found. with_record found (λ stored. Gives value.Gone (finite.remove records id))) none,
-      subst (λ r. Stands shape y r) (remove_absent records id none) (t.left records stand),
+      rw (remove_absent records id none) at (t.left records stand),
     );
   }
     where
@@ -115,7 +90,7 @@ module _ (shape : RecordShape) (x y : List ℕ) where
     comes = λ records stand. (
       records,
       ap (λ found. with_record found (λ stored. Gives (value.Found stored.0 stored.1) records)) (sym (t.told records stand)),
-      subst (λ z. Stands shape z records) (sym t.same) stand,
+      rw t.same stand,
     );
   }
 
@@ -124,7 +99,7 @@ module _ (shape : RecordShape) (x y : List ℕ) where
     comes = λ records stand. (
       records,
       ap (λ found. with_record found (λ stored. Gives (value.Found stored.0 stored.1) records)) (sym (t.told records stand)),
-      subst (λ z. Stands shape z records) (sym t.same) stand,
+      rw t.same stand,
     );
   }
 
@@ -134,6 +109,6 @@ module _ (shape : RecordShape) (x y : List ℕ) where
     comes = λ records stand. (
       records,
       ap (λ l. Gives (value.Ids l) records) (sym (t.told records stand)),
-      subst (λ z. Stands shape z records) (sym t.same) stand,
+      rw t.same stand,
     );
   }

@@ -1,28 +1,23 @@
 -- Two trees over one arena: a change of one leaves the other.
-use Rattle.std.proofs.Common.{◌≡◌, ◌≢◌, ℕ, ◌+◌, ◌<◌, ◌⊎◌, inl, inr, true, false, ◌==◌, List, [], ◌∷◌, Option, Some, None}
-use Rattle.std.proofs.Common.{slice_get, refl, sym, ap, ◌∙◌, subst, arith, eq-eqb, ne_eqb}
+use Rattle.txn_records.proofs.Common.{◌≡◌, ◌≢◌, ℕ, ◌+◌, ◌<◌, inl, inr, true, false, ◌==◌, List, [], ◌∷◌, Option, Some, None, slice_get, refl, sym, ap, ◌∙◌}
+use Rattle.txn_records.proofs.Common.{subst, arith, eq-eqb, ne_eqb, nat_cmp, KeepsOthers, Put, New, Old, Full, IsHead, FreeListsHold, Entries, times_of}
+use Rattle.txn_records.proofs.Common.{TreeHolds, tree_part, remove_absent, three_among, put_answer, put_by}
+use Rattle.txn_alloc.proofs.Common.{IsInBlock, Blocks, HoldsApart, IsOwn, Inserts, LacksRoom}
+use Rattle.txn_tree_map.proofs.Common.{Removes, free_below}
+use Rattle.std.proofs.Common.{◌⊎◌}
 use Rattle.std.specs.List.{sum_by}
-use Rattle.std.specs.Ordering.{nat_cmp}
-use Rattle.std.specs.FinSet as set
-use Rattle.std.specs.FinMap as finite
-use Rattle.txn_words.specs.Frames.{KeepsOthers}
 use Rattle.txn_alloc.specs.declared.arena.Arena.{Arena}
-use Rattle.txn_alloc.specs.declared.put.Put.{Put}
-use Rattle.txn_alloc.specs.declared.put.Put.TheVariants.{New, Old, Full}
-use Rattle.txn_alloc.specs.FreeLists.{IsHead, IsInBlock, FreeListsHold}
-use Rattle.txn_alloc.specs.EntryMaps.{Entries, Blocks, HoldsApart, IsOwn, InsertsNew, InsertsOld, Inserts, LacksRoom, Removes, RemovesOne}
-use Rattle.txn_alloc.proofs.Maps.Counting.{times_of, lengths_sum, some_member}
+use Rattle.txn_alloc.specs.EntryMaps.{InsertsNew, InsertsOld, RemovesOne}
+use Rattle.txn_alloc.proofs.Maps.Counting.{lengths_sum, some_member}
 use Rattle.txn_alloc.proofs.Maps.Parts.{free_unused}
-use Rattle.txn_alloc.proofs.FreeLists.Lists.{free_below}
 use Rattle.txn_tree_map.specs.declared.map.TreeMap.{TreeMap}
-use Rattle.txn_tree_map.specs.Trees.{TreeHolds, tree_part}
 use Rattle.txn_tree_map.proofs.Maps.{tree_stands}
 use Rattle.txn_tree_map.proofs.Searches.Gets.{used_below}
 use Rattle.txn_tree_map.proofs.Inserts.InsertCalls.{is_one}
 use Rattle.txn_tree_map.proofs.Held.Numbers.{as_many_blocks}
-use Rattle.txn_stores.proofs.Maps.{remove_absent}
-use Rattle.txn_alloc.proofs.Apart.{three_among, out_other, out_above, not_own, other_out, moved_times}
-use Rattle.txn_records.specs.Access.{put_answer, put_by}
+use Rattle.txn_alloc.proofs.Apart.{out_other, out_above, not_own, other_out, moved_times}
+use Rattle.std.specs.FinSet as set
+use Rattle.std.specs.FinMap as finite
 
 -- a tree of the arena
 abbrev pub at_root : Arena → ℕ → TreeMap
@@ -38,7 +33,7 @@ pub record HasTwo (arena : Arena) (root other : ℕ) (words : List ℕ) (mine th
   pub free_lists : FreeListsHold arena words free
   pub parted : (b : ℕ) → b < arena.blocks → times_of used b + times_of beside b + times_of free b ≡ 1
 
-module _ (arena : Arena) (root other : ℕ) (old : List ℕ) (mine theirs : Entries) (two : HasTwo arena root other old mine theirs) where
+module _ {arena : Arena} {root other : ℕ} {old : List ℕ} {mine theirs : Entries} (two : HasTwo arena root other old mine theirs) where
   -- free blocks and those of both trees are all blocks
   pub counted : set.len two.free + (finite.len mine + finite.len theirs) ≡ arena.blocks
   counted =
@@ -46,17 +41,17 @@ module _ (arena : Arena) (root other : ℕ) (old : List ℕ) (mine theirs : Entr
       let all : sum_by (λ s. set.len s) three ≡ arena.blocks = lengths_sum arena.blocks three
       (λ b lt. three_among b two.used two.beside two.free ∙ two.parted b lt)
       (λ b le.
-      let first = out_above two.used arena.blocks b (λ d k. used_below (at_root arena root) old mine two.used d two.tree k) le in
-      let second = out_above two.beside arena.blocks b (λ d k. used_below (at_root arena other) old theirs two.beside d two.other_tree k) le in
-      let free = out_above two.free arena.blocks b (λ d k. free_below arena old two.free d two.free_lists k) le in
+      let first = out_above two.used arena.blocks b (λ d k. used_below _ _ _ _ d two.tree k) le in
+      let second = out_above two.beside arena.blocks b (λ d k. used_below _ _ _ _ d two.other_tree k) le in
+      let free = out_above two.free arena.blocks b (λ d k. free_below _ _ _ d two.free_lists k) le in
       omega (arith, first, second, free, three_among b two.used two.beside two.free)) in
       let each : sum_by (λ s. set.len s) three ≡ set.len two.used + set.len two.beside + set.len two.free = omega arith in
       omega (
         arith,
         all,
         each,
-        as_many_blocks (at_root arena root) old mine two.used two.tree,
-        as_many_blocks (at_root arena other) old theirs two.beside two.other_tree,
+        as_many_blocks _ _ _ _ two.tree,
+        as_many_blocks _ _ _ _ two.other_tree,
       )
 
   -- the tree uses no free block
@@ -64,15 +59,15 @@ module _ (arena : Arena) (root other : ℕ) (old : List ℕ) (mine theirs : Entr
   apart = record {
     map = two.tree;
     free_lists = two.free_lists;
-    apart = λ b k. let once = two.parted b (used_below (at_root arena root) old mine two.used b two.tree k) in
+    apart = λ b k. let once = two.parted b (used_below _ _ _ _ b two.tree k) in
         out_other two.used two.free b k (omega (arith, once));
   }
 
-module _ (arena : Arena) (root other : ℕ) (differ : root ≢ other) (old new : List ℕ) (mine theirs : Entries)
+module _ {arena : Arena} {root other : ℕ} (differ : root ≢ other) {old new : List ℕ} {mine theirs : Entries}
     (two : HasTwo arena root other old mine theirs) (key : ℕ)
     (kept : KeepsOthers (IsOwn (tree_part (at_root arena root)) key old new) old new) where
   beside_below : (d : ℕ) → set.contains two.beside d ≡ true → d < arena.blocks
-  beside_below d k = used_below (at_root arena other) old theirs two.beside d two.other_tree k
+  beside_below d k = used_below _ _ _ _ d two.other_tree k
 
   -- a change of the one tree
   module _ (now : Entries) (after free : Blocks) (tree : TreeHolds (at_root arena root) new now after) (lists : FreeListsHold arena new free)
@@ -85,8 +80,8 @@ module _ (arena : Arena) (root other : ℕ) (differ : root ≢ other) (old new :
         other_out arena two.beside two.used two.free after free d a e k (omega (arith, once)) (as_many d) here
 
     mine_below : (e : ℕ) → (set.contains two.used e ≡ true) ⊎ (set.contains after e ≡ true) → e < arena.blocks
-    mine_below e (inl k) = used_below (at_root arena root) old mine two.used e two.tree k
-    mine_below e (inr k) = used_below (at_root arena root) new now after e tree k
+    mine_below e (inl k) = used_below _ _ _ _ e two.tree k
+    mine_below e (inr k) = used_below _ _ _ _ e tree k
 
     stays : (a : ℕ) → a ≢ root → ¬ IsHead arena a
         → ((e : ℕ) → (set.contains two.used e ≡ true) ⊎ (set.contains after e ≡ true) → ¬ IsInBlock arena e a)
@@ -116,7 +111,7 @@ module _ (arena : Arena) (root other : ℕ) (differ : root ≢ other) (old new :
   put_new : (x : ℕ) → InsertsNew (tree_part (at_root arena root)) key x new mine two.used two.free
       → HasTwo arena root other new (finite.insert mine key x) theirs
   put_new x k =
-      let out = free_unused (tree_part (at_root arena root)) old mine two.used two.free k.block (apart arena root other old mine theirs two) k.was_free in
+      let out = free_unused (tree_part (at_root arena root)) old mine two.used two.free k.block (apart two) k.was_free in
       changed (finite.insert mine key x) (set.insert two.used k.block) (set.remove two.free k.block) k.left.map k.left.free_lists
       (moved_times two.used two.free k.block out k.was_free)
 
@@ -127,7 +122,7 @@ module _ (arena : Arena) (root other : ℕ) (differ : root ≢ other) (old new :
   cut_one : (was : ℕ) → RemovesOne (tree_part (at_root arena root)) key was new mine two.used two.free
       → HasTwo arena root other new (finite.remove mine key) theirs
   cut_one was k =
-      let out = (apart arena root other old mine theirs two).apart k.block k.was_used in
+      let out = (apart two).apart k.block k.was_used in
       changed (finite.remove mine key) (set.remove two.used k.block) (set.insert two.free k.block) k.left.map k.left.free_lists
       (λ b. let moved = moved_times two.free two.used k.block out k.was_used b in omega (arith, moved))
 
@@ -137,21 +132,21 @@ module _ (arena : Arena) (root other : ℕ) (differ : root ≢ other) (old new :
       → (put ≡ put_answer (finite.get mine key) (finite.len mine + finite.len theirs == arena.blocks))
       × HasTwo arena root other new (put_by put key x mine) theirs
   put_two x New inserts full =
-      let k = inserts mine two.used two.free (apart arena root other old mine theirs two) in
+      let k = inserts mine two.used two.free (apart two) in
       let some = some_member two.free k.block k.was_free in
       let left : (finite.len mine + finite.len theirs == arena.blocks) ≡ false = ne_eqb (finite.len mine + finite.len theirs) arena.blocks
-      (λ e. absurd (omega (arith, e, some, counted arena root other old mine theirs two))) in
-      (sym (ap (λ o. put_answer o (finite.len mine + finite.len theirs == arena.blocks)) k.absent ∙ ap (put_answer None) left), put_new x k)
+      (λ e. absurd (omega (arith, e, some, counted two))) in
+      (rw (k.absent, left) refl, put_new x k)
   put_two x (Old was) inserts full =
-      let k = inserts mine two.used two.free (apart arena root other old mine theirs two) in
-      (sym (ap (λ o. put_answer o (finite.len mine + finite.len theirs == arena.blocks)) k.present), put_old x was k)
+      let k = inserts mine two.used two.free (apart two) in
+      (rw k.present refl, put_old x was k)
   put_two x Full inserts full =
-      let k = full refl mine two.used two.free (apart arena root other old mine theirs two) in
+      let k = full refl mine two.used two.free (apart two) in
       let none : set.len two.free ≡ 0 = ap set.len k.1 ∙ set.len-empty nat_cmp in
       let left : (finite.len mine + finite.len theirs == arena.blocks) ≡ true = eq-eqb (finite.len mine + finite.len theirs) arena.blocks
-      (omega (arith, none, counted arena root other old mine theirs two)) in (
-        sym (ap (λ o. put_answer o (finite.len mine + finite.len theirs == arena.blocks)) k.0 ∙ ap (put_answer None) left),
-        subst (λ z. HasTwo arena root other z mine theirs) (sym inserts) two,
+      (omega (arith, none, counted two)) in (
+        rw (k.0, left) refl,
+        rw inserts two,
       )
 
   -- what a removal answers, and what it leaves
@@ -160,9 +155,8 @@ module _ (arena : Arena) (root other : ℕ) (differ : root ≢ other) (old new :
   cut_two None removes =
       let none : None ≡ finite.get mine key = removes.found mine two.used two.tree in (
         none,
-        subst (λ m. HasTwo arena root other new m theirs) (sym (remove_absent mine key (sym none)))
-            (subst (λ z. HasTwo arena root other z mine theirs) (sym removes.same) two),
+        rw (remove_absent mine key (sym none), removes.same) two,
       )
   cut_two (Some was) removes =
-      let k = removes mine two.used two.free (apart arena root other old mine theirs two) in
+      let k = removes mine two.used two.free (apart two) in
       (sym k.present, cut_one was k)

@@ -1,20 +1,15 @@
 -- The records that words stand for are one, and take the blocks that are not free.
-use Rattle.std.proofs.Common.{◌≡◌, ℕ, ◌+◌, ◌<◌, ◌↔◌, true, List, Option, Some, None, refl, sym, ap, ◌∙◌, arith}
-use Rattle.std.proofs.lemmas.Bool.Decides.{nat_tests}
-use Rattle.std.specs.Cmp.{nat_cmp_total}
-use Rattle.std.specs.FinSet as set
-use Rattle.std.specs.FinMap as finite
-use Rattle.std.specs.FinMap.{nat_cmp-IsAntisymmetric}
-use Rattle.record_text.specs.Records.{Records, blocks_of, is_store_full}
-use Rattle.record_text.specs.Laws.{data_at_rank}
-use Rattle.txn_tree_map.proofs.Maps as trees
-use Rattle.txn_records.specs.declared.shape.RecordShape.{RecordShape}
-use Rattle.txn_records.specs.declared.layout.Order.TheVariants.{ById, ByRank}
-use Rattle.txn_records.specs.Layout.{tree_of, index_key_of}
-use Rattle.txn_records.specs.Standing.{Trees, HoldRecords, RecordsAreInRange, Stands, rank_in}
+use Rattle.txn_records.proofs.Common.{◌≡◌, ℕ, ◌+◌, ◌<◌, true, List, Option, Some, None, refl, sym, ap, ◌∙◌, arith, nat_tests, nat_cmp_total}
+use Rattle.txn_records.proofs.Common.{nat_cmp-IsAntisymmetric, Records, is_store_full, data_at_rank, RecordShape, ById, ByRank, tree_of, index_key_of, Trees}
+use Rattle.txn_records.proofs.Common.{HoldRecords, RecordsAreInRange, Stands, rank_in}
+use Rattle.record_text.proofs.Common.{blocks_of}
+use Rattle.std.proofs.Common.{◌↔◌}
 use Rattle.txn_records.proofs.Held.{id_below, some_record, no_record, data_here}
 use Rattle.txn_records.proofs.Lengths.{lengths}
 use Rattle.txn_records.proofs.Sides.{trees_counted}
+use Rattle.std.specs.FinSet as set
+use Rattle.std.specs.FinMap as finite
+use Rattle.txn_tree_map.proofs.Maps as trees
 
 -- a rank with data
 abbrev with_rank : ℕ → Option ℕ → Option (ℕ × ℕ)
@@ -51,8 +46,8 @@ one_map shape words records others h k =
 pub free_counted : (shape : RecordShape) (words : List ℕ) (records : Records) (stand : Stands shape words records)
     → set.len stand.parts.free + blocks_of records ≡ shape.blocks
 free_counted shape words records stand =
-    let lens = lengths (finite.len records) records stand.trees refl stand.range stand.held in
-    omega (arith, lens.0, lens.1, trees_counted shape words stand.trees stand.parts)
+    let lens = lengths (finite.len records) _ _ refl stand.range stand.held in
+    omega (arith, lens.0, lens.1, trees_counted stand.parts)
 
 pub full_without_two : (shape : RecordShape) (words : List ℕ) (records : Records) (stand : Stands shape words records)
     → (set.len stand.parts.free < 2) ↔ (is_store_full shape.blocks records ≡ true)

@@ -1,11 +1,10 @@
 -- The queue after the words of a push and of a pop.
-use Rattle.std.proofs.Common.{◌≡◌, ◌≢◌, ℕ, zero, suc, ◌+◌, ◌*◌, ◌%◌, ◌<◌, ◌≤◌, ◌⊎◌, inl, inr, List, [], ◌∷◌, ◌++◌, length, slice_get, slice_set, Some, refl}
-use Rattle.std.proofs.Common.{sym, ap, ◌∙◌, subst, arith}
+use Rattle.txn_ring.proofs.Common.{◌≡◌, ◌≢◌, ℕ, ◌+◌, ◌*◌, ◌%◌, ◌<◌, ◌≤◌, ◌⊎◌, inl, inr, List, [], ◌∷◌, ◌++◌, length, slice_get, slice_set, Some, refl, sym, ap}
+use Rattle.txn_ring.proofs.Common.{◌∙◌, subst, arith, same_Some, Ring, place_at, IsOwn, HasItem, QueueHolds, TakesFront}
+use Rattle.std.proofs.Common.{zero, suc}
 use Rattle.std.proofs.lemmas.List.{length-set, length_push}
-use Rattle.std.proofs.lemmas.Option.{slice_get_within, same_Some}
+use Rattle.std.proofs.lemmas.Option.{slice_get_within}
 use Rattle.history_model.proofs.Traces.TraceLaws.{get_set_same, get_set_other}
-use Rattle.txn_ring.specs.declared.ring.Ring.{Ring}
-use Rattle.txn_ring.specs.Queues.{place_at, IsOwn, IsLaidOut, HasItem, QueueHolds, TakesFront}
 use Rattle.txn_ring.proofs.Places.{places_differ, place_below, next_place, front_place}
 
 -- an element of a list with one more is an old one, or that one
@@ -19,29 +18,29 @@ got_append (z ∷ xs) x y (suc i) e = elim (got_append xs x y i e) [ inl k ↦ i
 pub same_elements : {A : Type 0} (xs ys : List A) → length xs ≡ length ys
     → ((i : ℕ) (x y : A) → slice_get xs i ≡ Some x → slice_get ys i ≡ Some y → x ≡ y) → xs ≡ ys
 same_elements [] [] e same = refl
-same_elements [] (y ∷ ys) e same = absurd (omega (arith, e))
-same_elements (x ∷ xs) [] e same = absurd (omega (arith, e))
+same_elements [] (y ∷ ys) e same = absurd (omega arith)
+same_elements (x ∷ xs) [] e same = absurd (omega arith)
 same_elements (x ∷ xs) (y ∷ ys) e same =
-    ap (λ z. z ∷ xs) (same zero x y refl refl) ∙ ap (λ zs. y ∷ zs) (same_elements xs ys (omega (arith, e)) (λ i v w. same (suc i) v w))
+    ap (λ z. z ∷ xs) (same zero x y refl refl) ∙ ap (λ zs. y ∷ zs) (same_elements xs ys (omega arith) (λ i v w. same (suc i) v w))
 
 module _ (ring : Ring) where
   pub front_own : IsOwn ring ring.at
-  front_own = record { low = omega arith; high = omega arith }
+  front_own = omega arith
 
   pub count_own : 0 < ring.capacity → IsOwn ring (ring.at + 1)
-  count_own lt = record { low = omega arith; high = omega arith }
+  count_own lt = omega arith
 
   pub first_own : (p : ℕ) → p < ring.capacity → IsOwn ring (place_at ring p)
-  first_own p lt = record { low = omega arith; high = omega arith }
+  first_own p lt = omega arith
 
   pub second_own : (p : ℕ) → p < ring.capacity → IsOwn ring (place_at ring p + 1)
-  second_own p lt = record { low = omega arith; high = omega arith }
+  second_own p lt = omega arith
 
   -- the same items if the ring's words stay
   pub queue_stands : (s t : List ℕ) (items : List (ℕ × ℕ)) → QueueHolds ring s items → length t ≡ length s
       → ((a : ℕ) → IsOwn ring a → slice_get t a ≡ slice_get s a) → QueueHolds ring t items
   queue_stands s t items h long same = record {
-    laid_out = record { places = omega (arith, long, h.laid_out.places); whole = omega (arith, long, h.laid_out.whole) };
+    laid_out = record { places = omega (arith, h.laid_out.places); whole = omega (arith, h.laid_out.whole) };
     front = h.front;
     below = h.below;
     front_word = same ring.at front_own ∙ h.front_word;
@@ -98,28 +97,27 @@ module _ (ring : Ring) where
       ∙ get_set_other t1 (q + 1) a item.1 no_second ∙ get_set_other s q a item.0 no_first in
       let longer : length (items ++ item ∷ []) ≡ count + 1 = length_push items item ∙ ap (λ k. k + 1) counts in
       let first : slice_get t3 q ≡ Some item.0 =
-      get_set_other t2 (ring.at + 1) q (count + 1) (λ e. absurd (omega (arith, e))) ∙ get_set_other t1 (q + 1) q item.1 (λ e. absurd (omega (arith, e)))
-      ∙ get_set_same s q item.0 (omega (arith, whole, p_lt)) in
+      get_set_other t2 (ring.at + 1) q (count + 1) (λ e. absurd (omega arith)) ∙ get_set_other t1 (q + 1) q item.1 (λ e. absurd (omega arith))
+      ∙ get_set_same s q item.0 (omega arith) in
       let second : slice_get t3 (q + 1) ≡ Some item.1 =
-      get_set_other t2 (ring.at + 1) (q + 1) (count + 1) (λ e. absurd (omega (arith, e)))
-      ∙ get_set_same t1 (q + 1) item.1 (omega (arith, whole, p_lt, long1)) in
+      get_set_other t2 (ring.at + 1) (q + 1) (count + 1) (λ e. absurd (omega arith))
+      ∙ get_set_same t1 (q + 1) item.1 (omega arith) in
       record {
-        laid_out = record { places = omega (arith, long3, h.laid_out.places); whole = omega (arith, long3, whole) };
+        laid_out = record { places = omega (arith, h.laid_out.places); whole = omega arith };
         front = front;
         below = below;
-        front_word = kept ring.at (λ e. absurd (omega (arith, e))) (λ e. absurd (omega (arith, e))) (λ e. absurd (omega (arith, e))) ∙ ef;
-        room = omega (arith, longer, lt);
-        count_word = get_set_same t2 (ring.at + 1) (count + 1) (omega (arith, whole, p_lt, long2)) ∙ ap (λ k. Some k) (sym longer);
+        front_word = kept ring.at (λ e. absurd (omega arith)) (λ e. absurd (omega arith)) (λ e. absurd (omega arith)) ∙ ef;
+        room = omega arith;
+        count_word = get_set_same t2 (ring.at + 1) (count + 1) (omega arith) ∙ ap Some (sym longer);
         stands = λ i other e. elim (got_append items item other i e) [
           | inl k ↦
               let r : ℕ = (front + i) % c in
               let was : HasItem ring s r other = subst (λ (f : ℕ). HasItem ring s ((f + i) % c) other) fronts (h.stands i other k) in
-              let i_lt : i < length items = slice_get_within items i other k in
-              let differ : r ≢ p = places_differ c front i count below (omega (arith, i_lt, counts)) lt in
+              let differ : r ≢ p = places_differ c front i count below (omega (arith, slice_get_within items i other k)) lt in
               record {
-                first = kept (place_at ring r) (λ z. absurd (omega (arith, z))) (λ z. differ (omega (arith, z))) (λ z. absurd (omega (arith, z))) ∙ was.first;
-                second = kept (place_at ring r + 1) (λ z. absurd (omega (arith, z))) (λ z. absurd (omega (arith, z)))
-                    (λ z. differ (omega (arith, z))) ∙ was.second;
+                first = kept (place_at ring r) (λ z. absurd (omega arith)) (λ z. differ (omega arith)) (λ z. absurd (omega arith)) ∙ was.first;
+                second = kept (place_at ring r + 1) (λ z. absurd (omega arith)) (λ z. absurd (omega arith))
+                    (λ z. differ (omega arith)) ∙ was.second;
               }
           | inr k ↦
               let place : (front + i) % c ≡ p = ap (λ j. (front + j) % c) (k.0 ∙ counts) in
@@ -138,12 +136,12 @@ module _ (ring : Ring) where
   pub popped : (s : List ℕ) (items : List (ℕ × ℕ)) (item : ℕ × ℕ) (rest front : ℕ)
       → slice_get s (ring.at + 1) ≡ Some (rest + 1) → slice_get s ring.at ≡ Some front
       → HasItem ring s front item → QueueHolds ring s items → TakesFront ring item (popped_words s front rest) items
-  popped s [] item rest front ec ef here h = let z : 0 ≡ rest + 1 = same_Some 0 (rest + 1) (sym h.count_word ∙ ec) in absurd (omega (arith, z))
+  popped s [] item rest front ec ef here h = let z : 0 ≡ rest + 1 = same_Some 0 (rest + 1) (sym h.count_word ∙ ec) in absurd (omega arith)
   popped s (x ∷ items) item rest front ec ef here h =
       let c : ℕ = ring.capacity in
       let fronts : h.front ≡ front = same_Some h.front front (sym h.front_word ∙ ef) in
       let longer : length (x ∷ items) ≡ rest + 1 = same_Some (length (x ∷ items)) (rest + 1) (sym h.count_word ∙ ec) in
-      let counts : length items ≡ rest = omega (arith, longer) in
+      let counts : length items ≡ rest = omega arith in
       let below : front < c = subst (λ (k : ℕ). k < c) fronts h.below in
       let whole : ring.at + 2 + 2 * c ≤ length s = h.laid_out.whole in
       let next : ℕ = (front + 1) % c in
@@ -157,12 +155,12 @@ module _ (ring : Ring) where
         rest = items;
         is_first = ap (λ z. z ∷ items) (one_item s front x item at_first here);
         left = record {
-          laid_out = record { places = omega (arith, long2, h.laid_out.places); whole = omega (arith, long2, whole) };
+          laid_out = record { places = omega (arith, h.laid_out.places); whole = omega arith };
           front = next;
           below = place_below c front 1 below;
-          front_word = get_set_other t1 (ring.at + 1) ring.at rest (λ e. absurd (omega (arith, e))) ∙ get_set_same s ring.at next (omega (arith, whole));
-          room = let room : length (x ∷ items) ≤ c = h.room in omega (arith, room, longer, counts);
-          count_word = get_set_same t1 (ring.at + 1) rest (omega (arith, whole, below, long1)) ∙ ap (λ k. Some k) (sym counts);
+          front_word = get_set_other t1 (ring.at + 1) ring.at rest (λ e. absurd (omega arith)) ∙ get_set_same s ring.at next (omega arith);
+          room = omega (arith, h.room);
+          count_word = get_set_same t1 (ring.at + 1) rest (omega arith) ∙ ap Some (sym counts);
           stands = λ i other e.
               let r : ℕ = (next + i) % c in
               let place : (front + (suc i)) % c ≡ r = ap (λ k. (front + k) % c) (omega arith) ∙ sym (next_place c front i) in
@@ -172,21 +170,8 @@ module _ (ring : Ring) where
               let kept : (a : ℕ) → a ≢ ring.at + 1 → a ≢ ring.at → slice_get t2 a ≡ slice_get s a =
               λ a no_count no_front. get_set_other t1 (ring.at + 1) a rest no_count ∙ get_set_other s ring.at a next no_front in
               record {
-                first = kept (place_at ring r) (λ z. absurd (omega (arith, z))) (λ z. absurd (omega (arith, z))) ∙ there.first;
-                second = kept (place_at ring r + 1) (λ z. absurd (omega (arith, z))) (λ z. absurd (omega (arith, z))) ∙ there.second;
+                first = kept (place_at ring r) (λ z. absurd (omega arith)) (λ z. absurd (omega arith)) ∙ there.first;
+                second = kept (place_at ring r + 1) (λ z. absurd (omega arith)) (λ z. absurd (omega arith)) ∙ there.second;
               };
         };
       }
-
--- a ring whose first two words are 0 holds no item
-pub starts_empty : (ring : Ring) (s : List ℕ) → 0 < ring.capacity → IsLaidOut ring s → slice_get s ring.at ≡ Some 0
-    → slice_get s (ring.at + 1) ≡ Some 0 → QueueHolds ring s []
-starts_empty ring s some laid_out front count = record {
-  laid_out = laid_out;
-  front = 0;
-  below = some;
-  front_word = front;
-  room = omega arith;
-  count_word = count;
-  stands = λ i item e. cc;
-}

@@ -1,4 +1,4 @@
+pub mod Common
 pub mod Places
 pub mod Items
 pub mod Traces
-pub mod Zeros

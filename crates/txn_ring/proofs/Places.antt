@@ -1,5 +1,6 @@
 -- The places of a ring: after the last comes the first, and items with different numbers have different places.
-use Rattle.std.proofs.Common.{◌≡◌, ◌≢◌, ℕ, ◌+◌, ◌-◌, ◌%◌, ◌<◌, ◌⊎◌, inl, inr, sym, ap, ◌∙◌, arith, mod-eq_of_lt, mod-lt}
+use Rattle.txn_ring.proofs.Common.{◌≡◌, ◌≢◌, ℕ, ◌+◌, ◌-◌, ◌%◌, ◌<◌, ◌⊎◌, inl, inr, sym, ap, ◌∙◌, arith, mod-lt}
+use Rattle.std.proofs.Common.{mod-eq_of_lt}
 use Rattle.std.proofs.Math.Nat.{add-mod_right, mod-add-mod}
 use Rattle.std.proofs.lemmas.Bool.{cases_lt}
 
@@ -18,12 +19,12 @@ round c m lt = elim (cases_lt m c) [
 pub places_differ : (c f i j : ℕ) → f < c → i < j → j < c → (f + i) % c ≢ (f + j) % c
 places_differ c f i j front lt room e = elim (round c (f + i) (omega arith)) [
   | inl a ↦ elim (round c (f + j) (omega arith)) [
-    | inl b ↦ absurd (omega (arith, a.1, b.1, e))
-    | inr b ↦ absurd (omega (arith, a.1, b, e))
+    | inl b ↦ absurd (omega (arith, a.1, b.1))
+    | inr b ↦ absurd (omega (arith, a.1))
   ]
   | inr a ↦ elim (round c (f + j) (omega arith)) [
-    | inl b ↦ absurd (omega (arith, a, b.0, b.1, e))
-    | inr b ↦ absurd (omega (arith, a, b, e))
+    | inl b ↦ absurd (omega (arith, b.0, b.1))
+    | inr b ↦ absurd (omega arith)
   ]
 ]
 

@@ -1,17 +1,14 @@
 -- What holds in every fitting state at once, as items are pushed and popped.
-use Rattle.std.proofs.Common.{◌≡◌, ◌≢◌, ℕ, ◌+◌, ◌*◌, ◌%◌, ◌^◌, ◌<◌, ◌≤◌, Bool, false, true, List, [], ◌∷◌, ◌++◌, length, slice_get, slice_set, Option, Some}
-use Rattle.std.proofs.Common.{None, sym, ap, ◌∙◌, subst, arith}
-use Rattle.std.proofs.lemmas.Option.{same_Some}
+use Rattle.txn_ring.proofs.Common.{◌≡◌, ◌≢◌, ℕ, ◌+◌, ◌*◌, ◌%◌, ◌<◌, ◌≤◌, false, true, List, [], ◌∷◌, ◌++◌, length, slice_get, slice_set, Option, Some, None}
+use Rattle.txn_ring.proofs.Common.{sym, ap, ◌∙◌, subst, arith, same_Some, Begins, Ring, place_at, HasItem, QueueHolds, IsInOrder, IsFull, IsEmpty, HasCount}
+use Rattle.txn_ring.proofs.Common.{Pushes, Pops, TakesFront}
+use Rattle.history_model.proofs.Common.{Trace}
+use Rattle.txn_words.proofs.Common.{after, Fits, SomeFits, InEach, Leads, length-after, fits_begins, EndsWithWrite}
+use Rattle.std.proofs.Common.{◌^◌, Bool}
 use Rattle.history_model.specs.declared.event.Event.TheVariants.{Read}
-use Rattle.history_model.specs.Traces.{Trace, after, Begins}
-use Rattle.history_model.specs.Fitting.{Fits, SomeFits, InEach, Leads}
-use Rattle.history_model.proofs.Traces.TraceLaws.{length-after}
-use Rattle.history_model.proofs.Traces.FittingLaws.{Found, found, fits_begins}
-use Rattle.txn_words.specs.Steps.{EndsWithWrite}
+use Rattle.history_model.proofs.Traces.FittingLaws.{Found, found}
 use Rattle.txn_words.proofs.JobLaws.{WasRead, was_read, fits_read, was_put}
 use Rattle.txn_words.proofs.Steps.{fits_write_end}
-use Rattle.txn_ring.specs.declared.ring.Ring.{Ring}
-use Rattle.txn_ring.specs.Queues.{place_at, HasItem, QueueHolds, IsInOrder, IsFull, IsEmpty, HasCount, Pushes, Pops, TakesFront}
 use Rattle.txn_ring.proofs.Items.{pushed, popped, pushed_words, popped_words}
 
 -- where a ring lies among n words
@@ -26,7 +23,7 @@ module _ (ring : Ring) (n : ℕ) (G : List ℕ → Type 0) (t : Trace) where
       let s : List ℕ = after t some.0 in
       let h : QueueHolds ring s (order.at some.0 some.1).0 = (order.at some.0 some.1).1 in
       let long : length s ≡ n = length-after t some.0 ∙ some.1.count in
-      record { some = omega (arith, h.below); whole = omega (arith, long, h.laid_out.whole); small = omega (arith, long, h.laid_out.places) }
+      record { some = omega (arith, h.below); whole = omega (arith, h.laid_out.whole); small = omega (arith, h.laid_out.places) }
 
   module _ (u : Trace) (count : ℕ) (read : u ≡ t ++ Read (ring.at + 1) count ∷ []) where
     counted : (s : List ℕ) → Fits n G u s → Found n G t u (ring.at + 1) count s
@@ -104,7 +101,7 @@ module _ (ring : Ring) (n : ℕ) (G : List ℕ → Type 0) (t : Trace) where
             let fit1 : Fits n G w1 s = fits_write_end n G w1 w2 b item.1 s ends2 fit2 in
             let fit0 : Fits n G v s = fits_write_end n G v w1 a item.0 s ends1 fit1 in
             let f : Found n G t v ring.at front s = seen s fit0 in
-            let is_a' : a ≡ place_at ring ((front + count) % ring.capacity) = is_a ∙ ap (λ k. place_at ring k) is_p in
+            let is_a' : a ≡ place_at ring ((front + count) % ring.capacity) = is_a ∙ ap (place_at ring) is_p in
             let is_b' : b ≡ place_at ring ((front + count) % ring.capacity) + 1 = is_b ∙ ap (λ k. place_at ring k + 1) is_p in
             let place : ℕ = place_at ring ((front + count) % ring.capacity) in
             let first : after w1 s ≡ slice_set (after t s) place item.0 =
@@ -131,25 +128,25 @@ module _ (ring : Ring) (n : ℕ) (G : List ℕ → Type 0) (t : Trace) where
             let first : WasRead a item.0 (after t s) (after r1 s) = was_read n G v r1 a item.0 s (after t s) k.same read1 fit_r1 in
             let second : WasRead b item.1 (after t s) (after r2 s) = was_read n G r1 r2 b item.1 s (after t s) first.same read2 fit_r2 in
             let here : HasItem ring (after t s) front item = record {
-              first = ap (λ z. slice_get (after t s) z) (sym is_a) ∙ first.value;
-              second = ap (λ z. slice_get (after t s) z) (sym is_b) ∙ second.value;
+              first = ap (slice_get (after t s)) (sym is_a) ∙ first.value;
+              second = ap (slice_get (after t s)) (sym is_b) ∙ second.value;
             } in
             let moved : after w1 s ≡ slice_set (after t s) ring.at ((front + 1) % ring.capacity) =
-            was_put r2 w1 ring.at f s (after t s) second.same ends1 ∙ ap (λ z. slice_set (after t s) ring.at z) is_f in
+            was_put r2 w1 ring.at f s (after t s) second.same ends1 ∙ ap (slice_set (after t s) ring.at) is_f in
             let last : after w2 s ≡ popped_words ring (after t s) front x = was_put w1 w2 (ring.at + 1) x s _ moved ends2 in
             let is_count : slice_get (after t s) (ring.at + 1) ≡ Some (x + 1)
-            = seen_count s (fits_read n G v r1 a item.0 s read1 fit_r1) ∙ ap (λ z. Some z) is_x in
+            = seen_count s (fits_read n G v r1 a item.0 s read1 fit_r1) ∙ ap Some is_x in
             subst (λ z. TakesFront ring item z items) (sym last) (popped ring (after t s) items item x front is_count k.there here h);
       }
 
 -- what each call leaves
 pub order_pushed : (ring : Ring) (item : ℕ × ℕ) (answer : Bool) (x y : List ℕ) → IsInOrder ring x → Pushes ring item answer x y → IsInOrder ring y
 order_pushed ring item true x y i pushes = (i.0 ++ item ∷ [], pushes i.0 i.1)
-order_pushed ring item false x y i e = subst (λ z. IsInOrder ring z) (sym e) i
+order_pushed ring item false x y i e = subst (IsInOrder ring) (sym e) i
 
 pub order_popped : (ring : Ring) (answer : Option (ℕ × ℕ)) (x y : List ℕ) → IsInOrder ring x → Pops ring answer x y → IsInOrder ring y
-order_popped ring None x y i e = subst (λ z. IsInOrder ring z) (sym e) i
+order_popped ring None x y i e = subst (IsInOrder ring) (sym e) i
 order_popped ring (Some item) x y i pops = let k : TakesFront ring item y i.0 = pops i.0 i.1 in (k.rest, k.left)
 
 pub order_same : (ring : Ring) (x y : List ℕ) → IsInOrder ring x → y ≡ x → IsInOrder ring y
-order_same ring x y i e = subst (λ z. IsInOrder ring z) (sym e) i
+order_same ring x y i e = subst (IsInOrder ring) (sym e) i

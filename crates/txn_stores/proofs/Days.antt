@@ -1,29 +1,19 @@
 -- A day of a store, from jobs that were run in order, and what is printed of it.
-use Rattle.std.proofs.Common.{◌≡◌, ℕ, ◌<◌, ◌≤◌, Bool, List, [], ◌∷◌, All, map, length, take, refl, sym, ap, ◌∙◌, subst, arith}
+use Rattle.txn_stores.proofs.Common.{◌≡◌, ℕ, ◌<◌, ◌≤◌, Bool, List, [], ◌∷◌, All, map, length, take, refl, sym, ap, ◌∙◌, subst, arith, All-map, Done}
+use Rattle.txn_stores.proofs.Common.{AreOnceInOrder, Place, IsJournalOf, IsPlaceOf, StoreReply, Step, run_from, RanOf, state_left, text_of, IsDay, line_of_done}
+use Rattle.txn_stores.proofs.Common.{place_of_done, script_count, is_done, ScriptMeans}
+use Rattle.books_report.proofs.Common.{script_at, place_of_line, ran_of_line, scripts_of, places_run}
+use Rattle.txn_commit.proofs.Common.{replay, HaveRecords, IsRunInOrder}
+use Rattle.word_table.proofs.Common.{ClosedView}
 use Rattle.std.specs.List.{zip}
 use Rattle.std.proofs.Math.ListN.{get_or-map}
 use Rattle.std.proofs.lemmas.List.{length-map}
-use Rattle.std.proofs.lemmas.List.Elements.{All-map}
-use Rattle.script_reader.specs.Gathered.{script_at}
 use mathlib.Core.List.{map-map}
-use Rattle.history_model.specs.Histories.{replay}
-use Rattle.word_table.specs.Closing.{ClosedView}
-use Rattle.txn_commit.specs.declared.lists.Done.{Done}
-use Rattle.txn_commit.specs.Lists.{AreOnceInOrder, HaveRecords}
 use Rattle.txn_commit.proofs.Orders.Interpreters.{answers_down, state_down, IsInterpreterStep}
-use Rattle.txn_commit.specs.Ordered.{IsRunInOrder}
 use Rattle.txn_commit.proofs.Orders.Stores.{all_answers, at_the_end, runs_to}
-use Rattle.script_reader.specs.Journal.{Place, IsJournalOf, IsPlaceOf}
 use Rattle.books_report.specs.declared.line.Line.{Line}
-use Rattle.books_report.specs.declared.stores.reply.StoreReply.{StoreReply}
-use Rattle.books_report.specs.Lines.{place_of_line, ran_of_line, scripts_of}
-use Rattle.books_report.specs.Stores.Interpreter.{Step, run_from}
-use Rattle.books_report.specs.Journals.{places_run, RanOf}
-use Rattle.books_report.specs.Stores.Output.{outcome_at, replies_of, state_after, state_left, text_of}
-use Rattle.books_report.specs.Stores.Output.{AreRun, IsOutputOf, StoreOf}
-use Rattle.txn_stores.specs.Days.{IsDay}
-use Rattle.txn_stores.specs.Journals.{line_of_done, place_of_done, places_of_done, script_count, scripts_done}
-use Rattle.txn_stores.specs.Standing.{is_done, ScriptMeans}
+use Rattle.books_report.specs.Stores.Output.{outcome_at, replies_of, state_after, AreRun, IsOutputOf, StoreOf}
+use Rattle.txn_stores.specs.Journals.{places_of_done, scripts_done}
 use Rattle.txn_stores.proofs.Journals.{jobs_are_journal}
 use Rattle.txn_stores.proofs.Scripted.{run_stays}
 

@@ -1,19 +1,16 @@
 -- The words of an empty store: zeros, but for the lists of the free blocks.
-use Rattle.std.proofs.Common.{◌≡◌, ℕ, ◌<◌, inl, inr, List, ◌++◌, drop, length, slice_get, Some, replicate, take, sym, ap, ◌∙◌, subst, arith}
+use Rattle.txn_stores.proofs.Common.{◌≡◌, ℕ, ◌<◌, List, ◌++◌, length, Some, take, sym, ap, ◌∙◌, subst, arith, nat_cmp, KeepsOthers}
+use Rattle.txn_alloc.proofs.Common.{FreeListsHold, IsHead, IsWrittenByLaying}
+use Rattle.txn_tree_map.proofs.Common.{IsLaid, TreeHolds, Leaf}
+use Rattle.std.proofs.Common.{inl, inr, drop, slice_get, replicate}
 use Rattle.std.proofs.Math.Seq.{take-append_seam}
-use Rattle.std.specs.Ordering.{nat_cmp}
-use Rattle.std.specs.FinSet as set
-use Rattle.std.specs.FinMap as finite
 use Rattle.std.proofs.lemmas.List.{length-replicate}
 use Rattle.history_model.proofs.ListPlaces.{zero_there}
-use Rattle.txn_words.specs.Frames.{KeepsOthers}
 use Rattle.txn_alloc.specs.declared.arena.Arena.{Arena}
-use Rattle.txn_alloc.specs.FreeLists.{FreeListsHold, IsHead}
-use Rattle.txn_alloc.specs.Laying.{IsWrittenByLaying}
 use Rattle.txn_alloc.proofs.Sets.{out_empty}
 use Rattle.txn_tree_map.specs.declared.map.TreeMap.{TreeMap}
-use Rattle.txn_tree_map.specs.Trees.{IsLaid, TreeHolds}
-use Rattle.txn_tree_map.specs.Trees.Tree.{Leaf}
+use Rattle.std.specs.FinSet as set
+use Rattle.std.specs.FinMap as finite
 
 module _ (arena : Arena) (blocks : List ℕ) (n : ℕ) (first words : List ℕ) (zeros : first ≡ replicate n 0)
     (kept : KeepsOthers (IsWrittenByLaying arena blocks) first words) where

@@ -1,20 +1,15 @@
 -- Jobs that were run once and in their order are a journal, and as many as the scripts.
-use Rattle.std.proofs.Common.{◌≡◌, ℕ, ◌+◌, ◌<◌, ◌==◌, ◌&&◌, Bool, true, false, cond, List, [], ◌∷◌, ◌++◌, map, length, get_or}
-use Rattle.std.proofs.Common.{refl, sym, ap, ◌∙◌, subst, arith, zero-add, eq-eqb, append_assoc, length-append}
-use Rattle.std.specs.Prelude.{count_by, sum_by}
-use Rattle.std.specs.List.{filter, range_with_len}
-use Rattle.std.proofs.lemmas.List.Sums.{sum_by-cons}
-use Rattle.std.proofs.lemmas.List.Elements.{All-map}
-use Rattle.std.proofs.lemmas.Option.{slice_get-get_or}
-use Rattle.history_model.specs.Legal.{IsIn}
-use Rattle.history_model.proofs.ListPlaces.{at_map}
-use Rattle.txn_commit.specs.declared.lists.Done.{Done}
-use Rattle.txn_commit.specs.Lists.{indexes_of, AreOnceInOrder}
+use Rattle.txn_stores.proofs.Common.{◌≡◌, ℕ, ◌+◌, ◌<◌, ◌==◌, Bool, true, false, cond, List, [], ◌∷◌, ◌++◌, map, length, refl, sym, ap, ◌∙◌, subst, arith}
+use Rattle.txn_stores.proofs.Common.{zero-add, count_by, range_with_len, sum_by-cons, All-map, slice_get-get_or, IsIn, Done, AreOnceInOrder, Place, IsJournalOf}
+use Rattle.txn_stores.proofs.Common.{IsPlaceOf, place_of_done, script_count}
+use Rattle.order_rebuild.proofs.Common.{at_map}
+use Rattle.txn_commit.proofs.Common.{indexes_of}
+use Rattle.script_reader.proofs.Common.{count_scripts, CallerOf}
+use Rattle.std.proofs.Common.{◌&&◌, get_or, eq-eqb, append_assoc, length-append}
+use Rattle.std.specs.Prelude.{sum_by}
+use Rattle.std.specs.List.{filter}
 use Rattle.txn_commit.proofs.Orders.Once.{later_index, pairs_map}
 use Rattle.word_table.proofs.Joined.Counting.{in_filter}
-use Rattle.script_reader.specs.Gathered.{count_scripts, CallerOf}
-use Rattle.script_reader.specs.Journal.{Place, IsJournalOf, IsPlaceOf}
-use Rattle.txn_stores.specs.Journals.{place_of_done, script_count}
 use Rattle.txn_stores.specs.Statements.{JobsAreJournal, JobsCounted}
 use Rattle.txn_stores.proofs.Ranges.{in_range, range_once}
 

@@ -1,3 +1,5 @@
+-- what several proofs import
+pub mod Common
 -- a finite map after a change at a key
 pub mod Maps
 -- calls one after another on words that stand for a model, first looks and then changes

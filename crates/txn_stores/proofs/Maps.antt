@@ -1,11 +1,8 @@
 -- A finite map after a change at a key, there and elsewhere.
-use Rattle.std.proofs.Common.{◌≡◌, ◌≢◌, ℕ, Some, None, sym, ◌∙◌, subst, rules}
-use mathlib.Core.Logic.{dite}
-use native.Mathlib.Decide.{ℕ_discrete}
+use Rattle.txn_stores.proofs.Common.{◌≡◌, ◌≢◌, ℕ, Some, None, sym, ◌∙◌, subst, rules, dite, ℕ_discrete, nat_cmp}
 use Rattle.std.specs.Cmp.{nat_cmp_total}
-use Rattle.std.specs.Ordering.{nat_cmp}
-use Rattle.std.specs.FinMap as finite
 use Rattle.std.specs.FinMap.{gets, nat_cmp-IsAntisymmetric}
+use Rattle.std.specs.FinMap as finite
 
 module _ {X : Type 0} (m : finite.FinMap nat_cmp X) (k : ℕ) where
   pub removed_here : finite.get (finite.remove m k) k ≡ None

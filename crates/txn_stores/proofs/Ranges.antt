@@ -1,16 +1,13 @@
 -- The numbers of a range, each once.
-use Rattle.std.proofs.Common.{◌≡◌, ◌≢◌, ℕ, zero, suc, ◌+◌, ◌<◌, ◌≤◌, ◌==◌, Bool, true, false, cond, nat_eq, refl, sym, ap, ◌∙◌, arith, rules, zero-add}
-use mathlib.Core.Logic.{dite}
-use native.Mathlib.Decide.{ℕ_discrete}
-use Rattle.std.specs.Prelude.{count_by}
-use Rattle.std.specs.List.{All, AllByRecursion, IsDistinct, list_any, range_with_len}
+use Rattle.txn_stores.proofs.Common.{◌≡◌, ◌≢◌, ℕ, ◌+◌, ◌<◌, ◌≤◌, ◌==◌, Bool, true, false, cond, refl, sym, ap, ◌∙◌, arith, rules, zero-add, dite, ℕ_discrete}
+use Rattle.txn_stores.proofs.Common.{count_by, range_with_len, sum_by-cons, IsIn}
+use Rattle.std.proofs.Common.{zero, suc, nat_eq}
+use Rattle.std.specs.List.{All, AllByRecursion, IsDistinct, list_any}
 use Rattle.std.specs.FinSet.{contains-from_list_nat}
 use Rattle.std.proofs.lemmas.Bool.Decides.{nat_tests}
 use Rattle.std.proofs.lemmas.List.FromFn.{get_or-range_with_len, length-range_with_len}
-use Rattle.std.proofs.lemmas.List.Sums.{sum_by-cons}
 use Rattle.std.proofs.lemmas.Map.Keys.{IsDistinct-cons}
 use Rattle.std.proofs.lemmas.Option.{get_or_from_slice_get, slice_get_within}
-use Rattle.history_model.specs.Legal.{IsIn}
 use Rattle.txn_alloc.specs.Laying.{IsAmong}
 
 -- each is below the end

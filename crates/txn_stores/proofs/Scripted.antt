@@ -1,24 +1,19 @@
 -- The operations of a script one after another on words that stand for the state of a store, and what they come to together.
-use Rattle.std.proofs.Common.{◌≡◌, ℕ, ◌+◌, Bool, true, false, List, [], ◌∷◌, ◌++◌, refl, sym, ap, ◌∙◌, subst}
+use Rattle.txn_stores.proofs.Common.{◌≡◌, ℕ, ◌+◌, Bool, true, false, List, [], ◌∷◌, ◌++◌, refl, sym, ap, ◌∙◌, subst, after, Begins, Fits, begins_refl}
+use Rattle.txn_stores.proofs.Common.{begins_trans, InEachState, LeadsTo, leads_from_start, leads_then, StoreReply, Step, outcome_of, run_from, is_done}
+use Rattle.txn_stores.proofs.Common.{ScriptMeans, StandsForSome}
+use Rattle.books_report.proofs.Common.{Run, outcome_from, Ends, Stops, run_with}
 use Rattle.history_model.specs.declared.shape.Shape.{Ghosts as Shapes}
-use Rattle.history_model.specs.Traces.{after, Begins}
-use Rattle.history_model.specs.Fitting.{Fits}
-use Rattle.history_model.proofs.Traces.TraceLaws.{begins_refl, begins_trans}
 use Rattle.history_model.proofs.Traces.FittingLaws.{each_fresh}
 use Rattle.txn_words.specs.declared.words.Words.{Ghosts as AnyWords}
-use Rattle.txn_words.specs.Calls.{InEachState, LeadsTo}
-use Rattle.txn_words.proofs.CallLaws.{leads_from_start, leads_then}
 use Rattle.books_report.specs.declared.stores.outcome.Outcome.{Outcome}
-use Rattle.books_report.specs.declared.stores.outcome.Outcome.TheVariants as outcome
-use Rattle.books_report.specs.declared.stores.reply.StoreReply.{StoreReply}
-use Rattle.books_report.specs.declared.stores.reply.StoreReply.TheVariants as reply
-use Rattle.books_report.specs.Stores.Interpreter.{Run, Step, outcome_from, outcome_of, run_from}
-use Rattle.books_report.specs.Stores.Interpreter.Run.{Ends, Stops}
-use Rattle.books_report.specs.Stores.Steps.{run_with, step_with}
+use Rattle.books_report.specs.Stores.Steps.{step_with}
 use Rattle.books_report.proofs.AnyStore.Runs.{after_values, after_values-none, ends, goes_on, is_absent, is_full}
-use Rattle.txn_stores.specs.Standing.{is_done, IsLeft, ScriptMeans, StandsForSome, MeetsStep}
+use Rattle.txn_stores.specs.Standing.{IsLeft, MeetsStep}
 use Rattle.txn_stores.specs.Inner.Scripts.{IfDone, Runs}
 use Rattle.txn_stores.proofs.Turning.{Leads, Turns, leads_less}
+use Rattle.books_report.specs.declared.stores.outcome.Outcome.TheVariants as outcome
+use Rattle.books_report.specs.declared.stores.reply.StoreReply.TheVariants as reply
 
 module _ {O V X : Type 0} (stands : List ℕ → X → Type 0) (step : O → X → Step V X) where
   -- the values so far, and the run of what is left on the state as it is now, are the whole run

@@ -1,20 +1,17 @@
 -- Calls one after another on words that stand for a model, first looks and then changes.
-use Rattle.std.proofs.Common.{◌≡◌, ℕ, List, [], Option, Result, Ok, Err, IfOk, refl, sym, ◌∙◌, subst}
+use Rattle.txn_stores.proofs.Common.{◌≡◌, ℕ, List, [], refl, sym, ◌∙◌, subst, after, Begins, Fits, begins_refl, begins_trans, InEachState, LeadsTo, KeepsOthers}
+use Rattle.txn_stores.proofs.Common.{leads_from_start, leads_then, StandsForSome}
+use Rattle.txn_words.proofs.Common.{SomeFits, fits_begins}
+use Rattle.txn_alloc.proofs.Common.{WritesWithin, state_after, Part, IsOwn, Inserts, LacksRoom}
+use Rattle.txn_tree_map.proofs.Common.{Removes}
+use Rattle.std.proofs.Common.{Option, Result, Ok, Err, IfOk}
 use Rattle.history_model.specs.declared.shape.Shape.{Ghosts as Shapes}
-use Rattle.history_model.specs.Traces.{after, Begins}
-use Rattle.history_model.specs.Fitting.{Fits, SomeFits}
-use Rattle.history_model.proofs.Traces.FittingLaws.{fits_begins}
-use Rattle.history_model.proofs.Traces.TraceLaws.{begins_refl, begins_trans}
 use Rattle.txn_words.specs.declared.words.Words.{Ghosts as AnyWords}
 use Rattle.txn_words.specs.Access.{OfModel, Tells, TellsAndChanges}
-use Rattle.txn_words.specs.Calls.{InEachState, LeadsTo, WritesWithin}
-use Rattle.txn_words.specs.Frames.{KeepsOthers}
 use Rattle.txn_words.proofs.FrameLaws.{only_keeps}
-use Rattle.txn_words.proofs.CallLaws.{leads_from_start, leads_then, state_after, state_at}
-use Rattle.txn_stores.specs.Standing.{StandsForSome}
+use Rattle.txn_words.proofs.CallLaws.{state_at}
 use Rattle.txn_alloc.specs.declared.put.Put.{Put}
 use Rattle.txn_alloc.specs.declared.put.Put.TheVariants.{Full}
-use Rattle.txn_alloc.specs.EntryMaps.{Part, IsOwn, Inserts, LacksRoom, Removes}
 
 -- from state to state: what an insert did, why it found no room if it did not, and that other words stay
 pub record IsPut (part : Part) (key x : ℕ) (put : Put) (old new : List ℕ) : Type 0 where
@@ -226,13 +223,3 @@ module _ {W S O Model : Type 0} {words : AnyWords W S O} {shapes : Shapes S} {st
         at = λ s fit model stand. let k = h.leads.at s fit in
             means _ model stand (k.saw model (subst (λ z. stands z model) k.same stand));
       })
-
-  -- what holds of each model for which the words stand after changes, if they stand for one at most
-  pub each_turned : {u w : W} {R : Model → Model → Type 0} {Q : Model → Type 0}
-      → ((y : List ℕ) (a b : Model) → stands y a → stands y b → a ≡ b) → Leads words shapes u w (Turns stands R)
-      → InEachState words shapes u (StandsForSome stands) → ((model last : Model) → R model last → Q last) → InEachState words shapes w (OfModel stands Q)
-  each_turned {u = u} {w = w} {R = R} {Q = Q} one h stand means =
-      state_after words shapes u w (StandsForSome stands) (OfModel stands Q) (Turns stands R) h.kept h.begins stand h.leads
-      (λ x y some k model there.
-      let last = k.at some.0 some.1 in
-      subst Q (one y last.0 model last.1 there) (means some.0 last.0 last.2))

@@ -1,13 +1,10 @@
 -- Clients whose threads have ended, each with the pass that it was lent.
-use Rattle.std.proofs.Common.{◌≡◌, ℕ, ◌<◌, List, map, length, get_or, Some, false, slice_get, ⊎_elim, refl, sym, ap, ◌∙◌, subst, arith}
-use Rattle.std.proofs.lemmas.List.{length-map, get_or-map}
-use Rattle.std.proofs.lemmas.Option.{get_or_from_slice_get, slice_get_cases}
-use Rattle.word_table.specs.Copies.{fresh_pass, PassView}
-use Rattle.word_table.specs.Desks.{DeskView}
-use Rattle.txn_threads.specs.declared.seat.Seat.{Seat}
-use Rattle.txn_threads.specs.Clients.{HasWorked, HaveWorkedAt}
-use Rattle.txn_threads.specs.Passes.{AreNew, IsFresh, IsPass}
-use Rattle.txn_threads.specs.Inner.Seats.{AreParts, HasEnded}
+use Rattle.txn_threads.proofs.Common.{◌≡◌, ℕ, ◌<◌, List, map, length, get_or, Some, false, slice_get, ⊎_elim, refl, sym, ap, ◌∙◌, subst, arith, length-map}
+use Rattle.txn_threads.proofs.Common.{get_or_from_slice_get, slice_get_cases, PassView, DeskView, Seat, HaveWorkedAt, AreNew, IsFresh, IsPass, AreParts}
+use Rattle.txn_threads.proofs.Common.{HasEnded}
+use Rattle.word_table.proofs.Common.{fresh_pass}
+use Rattle.std.proofs.lemmas.List.{get_or-map}
+use Rattle.txn_threads.specs.Clients.{HasWorked}
 use Rattle.txn_threads.proofs.Seating.{client_of, pass_of, client_at, pass_at}
 
 module _ {S C : Type 0} (does : DeskView S → C → C → PassView → PassView → Type 0) (desk : DeskView S)

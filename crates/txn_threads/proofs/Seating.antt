@@ -1,14 +1,8 @@
 -- Clients that are seated: what is read of a seat is read of the lists that the seats were made of.
-use Rattle.std.proofs.Common.{◌≡◌, ℕ, ◌<◌, All, List, map, length, get_or, refl, sym, ap, ◌∙◌, subst, arith}
-use Rattle.std.proofs.lemmas.List.{length-map}
+use Rattle.txn_threads.proofs.Common.{◌≡◌, ℕ, ◌<◌, All, List, map, length, get_or, refl, sym, ap, ◌∙◌, subst, arith, length-map, get_or_from_slice_get}
+use Rattle.txn_threads.proofs.Common.{PassView, DeskView, Seat, AreNew, IsFresh, IsReady}
 use Rattle.std.proofs.Math.ListN.{get_or-map}
-use Rattle.std.proofs.lemmas.Option.{get_or_from_slice_get}
-use Rattle.word_table.specs.Copies.{PassView}
-use Rattle.word_table.specs.Desks.{DeskView}
-use Rattle.txn_threads.specs.declared.seat.Seat.{Seat}
 use Rattle.txn_threads.specs.Clients.{IsReadyFor}
-use Rattle.txn_threads.specs.Passes.{AreNew, IsFresh}
-use Rattle.txn_threads.specs.Inner.Seats.{IsReady}
 
 module _ {S C : Type 0} where
   -- the client of a seat, and its pass

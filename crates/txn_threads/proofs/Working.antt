@@ -1,16 +1,14 @@
 -- Clients whose threads have ended: all passes of the desk, and what they leave.
-use Rattle.std.proofs.Common.{◌≡◌, ℕ, ◌+◌, ◌<◌, List, [], ◌∷◌, length, get_or, Some, slice_get, ⊎_elim, sym, ap, ◌∙◌, subst, arith}
+use Rattle.txn_threads.proofs.Common.{◌≡◌, ℕ, ◌<◌, List, [], ◌∷◌, length, get_or, Some, slice_get, ⊎_elim, sym, ap, ◌∙◌, subst, arith, get_or_from_slice_get}
+use Rattle.txn_threads.proofs.Common.{slice_get_cases, IsCoherent, IsLegalInEachOrder, PassView, DeskView, IsPass}
+use Rattle.values_rule.proofs.Common.{replay_items}
+use Rattle.word_table.proofs.Common.{IsIn, AreAllPasses, ClosedView}
+use Rattle.std.proofs.Common.{◌+◌}
 use Rattle.std.proofs.lemmas.List.{take_all}
-use Rattle.std.proofs.lemmas.Option.{get_or_from_slice_get, slice_get_cases, slice_get_within}
+use Rattle.std.proofs.lemmas.Option.{slice_get_within}
 use Rattle.history_model.specs.declared.item.Item.{Item}
 use Rattle.history_model.specs.Histories.{replay_effects}
-use Rattle.history_model.specs.Items.{replay_items}
-use Rattle.history_model.specs.Legal.{IsIn}
 use Rattle.values_rule.specs.Closing.{IsPlaced}
-use Rattle.word_table.specs.Closing.{AreAllPasses, ClosedView, IsCoherent, IsLegalInEachOrder}
-use Rattle.word_table.specs.Copies.{PassView}
-use Rattle.word_table.specs.Desks.{DeskView}
-use Rattle.txn_threads.specs.Passes.{IsPass}
 
 module _ {S : Type 0} (desk : DeskView S) (passes : List PassView)
     (each : (k : ℕ) (d : PassView) → k < length passes → IsPass desk k (get_or passes k d)) where

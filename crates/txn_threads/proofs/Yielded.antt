@@ -1,5 +1,6 @@
 -- What a loop over a list's items has given, and what is left.
-use Rattle.std.proofs.Common.{◌≡◌, ℕ, List, [], ◌∷◌, ◌++◌, length, map, sym, ap, ◌∙◌, append_assoc, take}
+use Rattle.txn_threads.proofs.Common.{◌≡◌, ℕ, List, [], ◌∷◌, ◌++◌, length, map, sym, ap, ◌∙◌}
+use Rattle.std.proofs.Common.{append_assoc, take}
 use Rattle.std.proofs.lemmas.List.{map_push}
 use Rattle.std.proofs.Math.Seq.{take-append_seam}
 

@@ -1,5 +1,7 @@
 -- the place where a new node hangs, in one word list
 pub mod Seats
+-- a node hung at the end of a path, which goes on to one side below it
+pub mod Descents
 -- the steps by which a tree is parted around a key, in one word list
 pub mod SplitSteps
 -- what the calls that part a tree lead to, in every fitting state at once

@@ -1,3 +1,5 @@
+-- what several proofs import
+pub mod Common
 -- how far a search for the first node from a key on, and a sum over keys, have come
 pub mod Summed
 -- the whole tree, around one that hangs at the end of a path

@@ -1,8 +1,6 @@
 -- The whole tree, around one that hangs at the end of a path.
+use Rattle.txn_tree_map.proofs.Common.{Tree, Node, Step, Path}
 use Rattle.std.specs.Prelude.{[], ◌∷◌, if◌then◌else◌}
-use Rattle.txn_tree_map.specs.Trees.{Tree}
-use Rattle.txn_tree_map.specs.Trees.Tree.{Node}
-use Rattle.txn_tree_map.specs.Paths.{Step, Path}
 
 -- the node of a step, with this tree on the side where the step goes
 abbrev pub whole_of : Step → Tree → Tree

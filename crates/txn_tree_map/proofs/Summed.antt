@@ -1,11 +1,7 @@
 -- The first node from a key on, and how far a sum over keys has come.
+use Rattle.txn_tree_map.proofs.Common.{Cell, TreeMap, Named, Tree, cells_of, Path, place_at_end, before_of, after_of, HangsAt, IsBelow, IsFrom, counted}
 use Rattle.std.specs.Prelude.{◌≡◌, ℕ, ◌+◌, ◌≤◌, List, [], ◌∷◌, ◌++◌, Option, length}
-use Rattle.txn_alloc.specs.EntryMaps.{Cell}
-use Rattle.txn_tree_map.specs.declared.map.TreeMap.{TreeMap}
-use Rattle.txn_tree_map.specs.declared.find.Named.{Named}
-use Rattle.txn_tree_map.specs.Trees.{Tree, cells_of}
-use Rattle.txn_tree_map.specs.Paths.{Path, place_at_end, before_of, after_of, HangsAt, IsBelow}
-use Rattle.txn_tree_map.specs.Sums.{IsFrom, IsFirst, counted}
+use Rattle.txn_tree_map.specs.Sums.{IsFirst}
 
 -- the search for the first node from a key on has come to the place: right of it all keys are from there on, and the best is the first of them
 pub record IsNear (map : TreeMap) (least : ℕ) (best : Option Named) (place passed : ℕ) (words : List ℕ) : Type 0 where

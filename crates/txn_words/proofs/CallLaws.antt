@@ -1,14 +1,12 @@
 -- From what a call on words did to what holds after it.
-use Rattle.std.proofs.Common.{◌≡◌, ℕ, List, [], Option, Some, None, Result, Ok, Err, refl, sym, ◌∙◌, subst}
-use Rattle.std.proofs.lemmas.List.{append-nil}
+use Rattle.txn_words.proofs.Common.{◌≡◌, ℕ, List, [], Option, Some, Result, Ok, Err, refl, sym, ◌∙◌, subst, Begins, Fits, InEach, Leads, begins_trans}
+use Rattle.txn_words.proofs.Common.{fits_begins, leads_at, each_at, Stop, InEachState, LeadsTo}
+use Rattle.std.proofs.Common.{None}
 use Rattle.history_model.specs.declared.shape.Shape.{Ghosts as Shapes}
-use Rattle.history_model.specs.Traces.{after, Begins}
-use Rattle.history_model.specs.Fitting.{Fits, InEach, Leads}
-use Rattle.history_model.proofs.Traces.TraceLaws.{begins_trans}
-use Rattle.history_model.proofs.Traces.FittingLaws.{fits_begins, after_call, leads_at, each_at}
-use Rattle.txn_words.specs.declared.words.Stop.{Stop}
+use Rattle.history_model.specs.Traces.{after}
+use Rattle.history_model.proofs.Traces.FittingLaws.{after_call}
 use Rattle.txn_words.specs.declared.words.Words.{Ghosts as AnyWords}
-use Rattle.txn_words.specs.Calls.{GoesOn, InEachState, LeadsTo}
+use Rattle.txn_words.specs.Calls.{GoesOn}
 use Rattle.txn_words.specs.Steps.{stop_after}
 
 module _ {W S O : Type 0} (words : AnyWords W S O) (shapes : Shapes S) where
@@ -108,15 +106,3 @@ module _ {W S O : Type 0} (words : AnyWords W S O) (shapes : Shapes S) where
         ((leads_at shapes.word_count shapes.good (words.trace v) (words.trace w) R (words.shape v) (words.shape u) shape
         (leads_plain words shapes v w R h)).at s fit);
   }
-
--- taking a mark goes on
-pub goes_marked : {W S O : Type 0} {words : AnyWords W S O} {v w : W} → words.trace w ≡ words.trace v
-    → words.stop w ≡ None → words.shape w ≡ words.shape v → words.origin w ≡ words.origin v → words.is_sound w
-    → GoesOn words v w (answer_with None)
-goes_marked same going shape origin sound = record {
-  shape = shape;
-  origin = origin;
-  begins = ([], same ∙ sym (append-nil _));
-  stops = going;
-  sound = sound;
-}

@@ -1,9 +1,5 @@
 -- What a job has of the words that it reads first: of one, or of two, and of a write to each of them then.
-use Rattle.std.proofs.Common.{◌≡◌, ℕ, List, [], ◌∷◌, ◌++◌, length, slice_set}
-use Rattle.history_model.specs.declared.event.Event.TheVariants.{Read}
-use Rattle.history_model.specs.Traces.{Trace, after}
-use Rattle.history_model.specs.Fitting.{Fits}
-use Rattle.txn_words.specs.Steps.{EndsWithWrite}
+use Rattle.txn_words.proofs.Common.{◌≡◌, ℕ, List, [], ◌∷◌, ◌++◌, length, slice_set, Read, Trace, after, Fits, EndsWithWrite}
 use Rattle.txn_words.proofs.JobLaws.{WasRead, nothing_yet, was_read, fits_read, was_put}
 use Rattle.txn_words.proofs.Steps.{fits_write_end}
 

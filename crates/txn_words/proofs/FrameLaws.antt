@@ -1,17 +1,11 @@
 -- The frame of a call: step by step, and what it says of the words that the call may not write.
-use Rattle.std.proofs.Common.{◌≡◌, ℕ, zero, suc, List, [], ◌∷◌, ◌++◌, length, ◌⊎◌, inl, inr, slice_get, Some, refl, sym, ap, ◌∙◌, subst}
-use Rattle.std.proofs.lemmas.List.{append_assoc, append-nil}
-use Rattle.std.proofs.lemmas.Option.{same_Some}
+use Rattle.txn_words.proofs.Common.{◌≡◌, ℕ, zero, suc, List, [], ◌∷◌, ◌++◌, length, ◌⊎◌, inl, inr, slice_get, Some, refl, sym, ap, ◌∙◌, subst, append_assoc}
+use Rattle.txn_words.proofs.Common.{append-nil, same_Some, Event, Read, Write, Trace, after, Writes, after-append, length-after, EndsWithWrite, AppendsOnly}
+use Rattle.txn_words.proofs.Common.{WritesOnly, LeadsTo}
 use Rattle.history_model.specs.declared.shape.Shape.{Ghosts as Shapes}
-use Rattle.history_model.specs.declared.event.Event.{Event}
-use Rattle.history_model.specs.declared.event.Event.TheVariants.{Read, Write}
-use Rattle.history_model.specs.Traces.{Trace, after, Writes}
-use Rattle.history_model.proofs.Traces.TraceLaws.{after-append, length-after}
 use Rattle.history_model.proofs.Traces.LastEvents.{unwritten_stays}
 use Rattle.txn_words.specs.declared.words.Words.{Ghosts as AnyWords}
-use Rattle.txn_words.specs.Steps.{EndsWithWrite}
-use Rattle.txn_words.specs.Frames.{AppendsOnly, KeepsOthers}
-use Rattle.txn_words.specs.Calls.{WritesOnly, LeadsTo}
+use Rattle.txn_words.specs.Frames.{KeepsOthers}
 
 -- a write of an appended trace is one of its first part or of its second
 writes_append_at : (t u : Trace) (i a v : ℕ) → slice_get (t ++ u) i ≡ Some (Write a v) → Writes t a ⊎ Writes u a

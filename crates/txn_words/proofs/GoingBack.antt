@@ -1,22 +1,19 @@
 -- Going back to a mark, one write after another.
-use Rattle.std.proofs.Common.{◌≡◌, ℕ, zero, suc, ◌+◌, ◌<◌, ◌≤◌, List, [], ◌∷◌, ◌++◌, inl, inr, length, drop, slice_get, slice_set, Some, refl, sym, ap, ◌∙◌}
-use Rattle.std.proofs.Common.{subst, arith}
-use Rattle.std.proofs.lemmas.List.{append_assoc}
-use Rattle.history_model.specs.declared.event.Event.TheVariants.{Read, Write}
+use Rattle.txn_words.proofs.Common.{◌≡◌, ℕ, zero, suc, ◌+◌, ◌<◌, ◌≤◌, List, [], ◌∷◌, ◌++◌, inl, inr, length, slice_get, slice_set, Some, refl, sym, ap, ◌∙◌}
+use Rattle.txn_words.proofs.Common.{subst, arith, append_assoc, Read, Write, Trace, after, Begins, Writes, Fits, SomeFits, Notes, begins_refl, begins_trans}
+use Rattle.txn_words.proofs.Common.{fits_begins, notes_counted, EndsWithWrite, PutsBack}
+use Rattle.std.proofs.Common.{drop}
 use Rattle.history_model.specs.declared.shape.Shape.{Ghosts as Shapes}
-use Rattle.history_model.specs.Traces.{Trace, after, IsLegalTrace, Begins, Writes}
-use Rattle.history_model.specs.Fitting.{Fits, SomeFits}
-use Rattle.history_model.specs.Undoing.{Notes, written_back, notes_of}
+use Rattle.history_model.specs.Traces.{IsLegalTrace}
+use Rattle.history_model.specs.Undoing.{written_back, notes_of}
 use Rattle.history_model.specs.Marks.{count_writes}
-use Rattle.history_model.proofs.Traces.TraceLaws.{legal_parts, legal_write, begins_refl, begins_trans}
-use Rattle.history_model.proofs.Traces.FittingLaws.{fits_begins}
+use Rattle.history_model.proofs.Traces.TraceLaws.{legal_parts, legal_write}
 use Rattle.history_model.proofs.ListPlaces.{get_first}
-use Rattle.history_model.proofs.Traces.MarkLaws.{notes_by_parts, notes_counted, rest_undone, written_reads_the_same, noted_was_written}
+use Rattle.history_model.proofs.Traces.MarkLaws.{notes_by_parts, rest_undone, written_reads_the_same, noted_was_written}
 use Rattle.txn_words.specs.declared.words.Words.{Ghosts as AnyWords}
 use Rattle.txn_words.specs.Calls.{SameAsAtMark}
-use Rattle.txn_words.specs.Steps.{EndsWithWrite}
 use Rattle.txn_words.proofs.Steps.{after_write_end}
-use Rattle.txn_words.specs.Marks.{TakesBack, PutsBack}
+use Rattle.txn_words.specs.Marks.{TakesBack}
 
 -- the writes of the first trace are taken back down to this place
 pub record GoneBack (n : ℕ) (G : List ℕ → Type 0) (place : ℕ) (first now : Trace) : Type 0 where

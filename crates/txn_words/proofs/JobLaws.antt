@@ -1,12 +1,10 @@
 -- What the reads and writes of a job tell, one after another, of a list that its trace fits.
 -- `was` is what was left of the list before the read or write: the list itself as long as nothing was written.
-use Rattle.std.proofs.Common.{◌≡◌, ℕ, ◌<◌, List, [], ◌∷◌, ◌++◌, length, slice_get, slice_index, slice_set, Some, sym, ap, ◌∙◌}
-use Rattle.std.proofs.lemmas.Option.{get_or_from_slice_get, slice_get_within}
-use Rattle.history_model.specs.declared.event.Event.TheVariants.{Read}
-use Rattle.history_model.specs.Traces.{Trace, after}
-use Rattle.history_model.specs.Fitting.{Fits}
+use Rattle.txn_words.proofs.Common.{◌≡◌, ℕ, ◌<◌, List, [], ◌∷◌, ◌++◌, length, slice_get, slice_set, Some, sym, ap, ◌∙◌, get_or_from_slice_get, slice_get_within}
+use Rattle.txn_words.proofs.Common.{Read, Trace, Fits, EndsWithWrite}
+use Rattle.std.proofs.Common.{slice_index}
+use Rattle.history_model.specs.Traces.{after}
 use Rattle.history_model.proofs.Traces.FittingLaws.{Found, found}
-use Rattle.txn_words.specs.Steps.{EndsWithWrite}
 use Rattle.txn_words.proofs.Steps.{after_write_end}
 
 -- nothing was done yet

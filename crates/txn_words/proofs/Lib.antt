@@ -1,3 +1,5 @@
+-- what several proofs import
+pub mod Common
 -- what a write at the end of a trace leaves
 pub mod Steps
 -- what the reads and writes of a job tell, one after another: what every job cites

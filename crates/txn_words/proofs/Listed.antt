@@ -1,18 +1,15 @@
 -- Words in a plain list, after one event more.
-use Rattle.std.proofs.Common.{◌≡◌, ℕ, zero, suc, ◌<◌, get_or, refl, List, [], ◌∷◌, ◌++◌, length, All, slice_get, slice_set, slice_index, Option, Some, Bool}
-use Rattle.std.proofs.Common.{true, false, if◌then◌else◌, Result, Ok, Err, OnOk, sym, ap, ◌∙◌, subst, arith}
+use Rattle.txn_words.proofs.Common.{◌≡◌, ℕ, zero, suc, ◌<◌, List, [], ◌∷◌, ◌++◌, length, slice_get, slice_set, Option, Some, true, Result, Ok, Err, sym, ap}
+use Rattle.txn_words.proofs.Common.{◌∙◌, subst, arith, slice_get_within, get_or_from_slice_get, Stop, Read, Write, Trace, Fits, Notes, written_back}
+use Rattle.txn_words.proofs.Common.{count_writes, after_read, after-append, length-after, fits_front, notes_counted}
+use Rattle.std.proofs.Common.{All, Bool, false, if◌then◌else◌, OnOk}
 use Rattle.std.proofs.lemmas.List.Elements.{All-append}
-use Rattle.std.proofs.lemmas.Option.{slice_get_read, slice_get_within, get_or_from_slice_get}
-use Rattle.txn_words.specs.declared.words.Stop.{Stop}
-use Rattle.history_model.specs.declared.event.Event.TheVariants.{Read, Write}
-use Rattle.history_model.specs.Traces.{Trace, after, IsLegalTrace}
-use Rattle.history_model.specs.Fitting.{IsGood, Fits}
-use Rattle.history_model.specs.Undoing.{Notes, notes_of, written_back}
-use Rattle.history_model.specs.Marks.{count_writes}
-use Rattle.history_model.proofs.Traces.TraceLaws.{legal_read, legal_whole, after_read, after-append, length-after}
-use Rattle.history_model.proofs.Traces.FittingLaws.{fits_front}
+use Rattle.history_model.specs.Traces.{after, IsLegalTrace}
+use Rattle.history_model.specs.Fitting.{IsGood}
+use Rattle.history_model.specs.Undoing.{notes_of}
+use Rattle.history_model.proofs.Traces.TraceLaws.{legal_read, legal_whole}
 use Rattle.history_model.proofs.Traces.UndoLaws.{writes_undone}
-use Rattle.history_model.proofs.Traces.MarkLaws.{notes_counted, one_note_more, read_unnoted}
+use Rattle.history_model.proofs.Traces.MarkLaws.{one_note_more, read_unnoted}
 use Rattle.txn_words.specs.Plainly.{PlainView, Follows}
 
 one_within : (a was n : ℕ) → a < n → All (λ (note : ℕ × ℕ). note.0 < n) ((a, was) ∷ [])
@@ -75,10 +72,6 @@ module _ (n : ℕ) (G : List ℕ → Type 0) (origin : List ℕ) (t : Trace) (no
         (f.noted s (fits_front n G t (Read a was ∷ Write a v ∷ []) s fit)) ∙ sym (one_note_more t s a was v fit.legal);
     within = All-append (λ note. note.0 < n) notes ((a, was) ∷ []) f.within (one_within a was n lt);
   }
-
--- what an index gave is the number there
-pub index_gave : (words : List ℕ) (a x : ℕ) → a < length words → x ≡ get_or words a x → x ≡ slice_index words a
-index_gave words a x within e = sym (get_or_from_slice_get words a x 0 (slice_get_read words (length words) a x refl within e))
 
 -- parts of a view, for `ap`
 abbrev pub shape_of : {S : Type 0} → PlainView S → S

@@ -1,14 +1,12 @@
 -- How what was seen grows read by read, and what a later call's relation says from an earlier state on.
-use Rattle.std.proofs.Common.{◌≡◌, ℕ, List, [], ◌∷◌, ◌++◌, slice_get, Some, refl, sym, ap, ◌∙◌, subst}
+use Rattle.txn_words.proofs.Common.{◌≡◌, ℕ, List, [], ◌∷◌, ◌++◌, slice_get, Some, refl, sym, ap, ◌∙◌, subst, Read, Trace, after, Begins, Fits, SomeFits, InEach}
+use Rattle.txn_words.proofs.Common.{Leads, after_read, begins_refl, begins_trans, fits_begins, each_at, leads_at, InEachState, LeadsTo, WritesOnly, AppendsOnly}
+use Rattle.txn_words.proofs.Common.{AppendsReads}
 use Rattle.history_model.specs.declared.shape.Shape.{Ghosts as Shapes}
-use Rattle.history_model.specs.declared.event.Event.TheVariants.{Read}
-use Rattle.history_model.specs.Traces.{Trace, after, Begins}
-use Rattle.history_model.specs.Fitting.{Fits, SomeFits, InEach, Leads}
-use Rattle.history_model.proofs.Traces.TraceLaws.{read_there, after_read, begins_refl, begins_trans}
-use Rattle.history_model.proofs.Traces.FittingLaws.{fits_begins, some_at, each_at, leads_at}
+use Rattle.history_model.proofs.Traces.TraceLaws.{read_there}
+use Rattle.history_model.proofs.Traces.FittingLaws.{some_at}
 use Rattle.txn_words.specs.declared.words.Words.{Ghosts as AnyWords}
-use Rattle.txn_words.specs.Calls.{InEachState, LeadsTo, WritesOnly, WritesWithin, ReadsWithin}
-use Rattle.txn_words.specs.Frames.{AppendsOnly, AppendsReads}
+use Rattle.txn_words.specs.Calls.{WritesWithin, ReadsWithin}
 use Rattle.txn_words.proofs.CallLaws.{leads_plain}
 use Rattle.txn_words.proofs.FrameLaws.{only_same, only_read, only_then}
 use Rattle.txn_words.proofs.ReadLaws.{sees_same, sees_read, sees_then, sees_more}
@@ -70,12 +68,6 @@ pub looks_read : (n : ℕ) (G : List ℕ → Type 0) (t : Trace) (IsSeen : List 
 looks_read n G t IsSeen u v a x P l e seen =
     looks_grow n G t IsSeen u v (λ s b. b ≡ a) P (λ s. slice_get s a ≡ Some x) (λ s p q b k. subst (IsSeen s) (sym k) (seen s p)) l (looks_at n G u v a x e)
 
--- a look at one word that what holds lets see
-pub looks_one : (n : ℕ) (G : List ℕ → Type 0) (t : Trace) (IsSeen : List ℕ → ℕ → Type 0) (v : Trace) (a x : ℕ)
-    (P : List ℕ → Type 0) → InEach n G t P → v ≡ t ++ Read a x ∷ []
-    → ((s : List ℕ) → P s → IsSeen s a) → Looks n G t v IsSeen (λ s. P s × (slice_get s a ≡ Some x))
-looks_one n G t IsSeen v a x P each e seen = looks_read n G t IsSeen t v a x P (looks_none n G t IsSeen P each) e seen
-
 -- what may see more
 pub looks_wider : (n : ℕ) (G : List ℕ → Type 0) (t u : Trace) (IsSeen IsWider : List ℕ → ℕ → Type 0) (P : List ℕ
     → Type 0) → ((s : List ℕ) → P s → (a : ℕ) → IsSeen s a → IsWider s a) → Looks n G t u IsSeen P → Looks n G t u IsWider P
@@ -104,9 +96,6 @@ module _ {W S O : Type 0} (words : AnyWords W S O) (shapes : Shapes S) (v w : W)
     (l : Looks (shapes.word_count (words.shape v)) (shapes.good (words.shape v)) (words.trace v) (words.trace w) IsSeen P) where
   pub looks_each : words.shape w ≡ words.shape v → InEachState words shapes w P
   looks_each e = record { at = (each_at shapes.word_count shapes.good (words.trace w) P (words.shape v) (words.shape w) (sym e) (record { at = l.holds })).at }
-
-  pub looks_same : LeadsTo words shapes v w (λ x y. y ≡ x)
-  looks_same = record { at = l.same }
 
   pub looks_only : WritesOnly words v w (λ a. ⊥)
   looks_only = record { appended = l.writes }

@@ -1,12 +1,7 @@
 -- What a call reads, step by step.
-use Rattle.std.proofs.Common.{◌≡◌, ℕ, zero, suc, [], ◌∷◌, ◌++◌, ◌⊎◌, inl, inr, slice_get, Some, refl, sym, ap, ◌∙◌, subst}
-use Rattle.std.proofs.lemmas.List.{append_assoc, append-nil}
-use Rattle.std.proofs.lemmas.Option.{same_Some}
-use Rattle.history_model.specs.declared.event.Event.{Event}
-use Rattle.history_model.specs.declared.event.Event.TheVariants.{Read, Write}
-use Rattle.history_model.specs.Traces.{Trace}
-use Rattle.txn_words.specs.Steps.{EndsWithWrite}
-use Rattle.txn_words.specs.Frames.{Reads, AppendsReads}
+use Rattle.txn_words.proofs.Common.{◌≡◌, ℕ, zero, suc, [], ◌∷◌, ◌++◌, ◌⊎◌, inl, inr, slice_get, Some, refl, sym, ap, ◌∙◌, subst, append_assoc, append-nil}
+use Rattle.txn_words.proofs.Common.{same_Some, Event, Read, Write, Trace, EndsWithWrite, AppendsReads}
+use Rattle.txn_words.specs.Frames.{Reads}
 
 -- a read of an appended trace is one of its first part or of its second
 reads_append_at : (t u : Trace) (i a v : ℕ) → slice_get (t ++ u) i ≡ Some (Read a v) → Reads t a ⊎ Reads u a

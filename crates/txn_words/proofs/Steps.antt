@@ -1,11 +1,7 @@
 -- What a write at the end of a trace leaves.
-use Rattle.std.proofs.Common.{◌≡◌, ℕ, List, [], ◌∷◌, inl, inr, slice_set, ap, ◌∙◌, subst}
-use Rattle.history_model.specs.declared.event.Event.TheVariants.{Read, Write}
-use Rattle.history_model.specs.Traces.{Trace, after}
-use Rattle.history_model.specs.Fitting.{Fits}
-use Rattle.history_model.proofs.Traces.TraceLaws.{after-append}
-use Rattle.history_model.proofs.Traces.FittingLaws.{fits_front}
-use Rattle.txn_words.specs.Steps.{EndsWithWrite}
+use Rattle.txn_words.proofs.Common.{◌≡◌, ℕ, List, [], ◌∷◌, inl, inr, slice_set, ap, ◌∙◌, subst, Read, Write, Trace, Fits, after-append, fits_front}
+use Rattle.txn_words.proofs.Common.{EndsWithWrite}
+use Rattle.history_model.specs.Traces.{after}
 
 pub after_write_end : (t u : Trace) (a v : ℕ) (s : List ℕ) → EndsWithWrite t u a v → after u s ≡ slice_set (after t s) a v
 unfolding after

@@ -1,10 +1,7 @@
 -- How many calls are open after one view was put in the place of another.
-use Rattle.std.proofs.Common.{◌≡◌, ℕ, zero, suc, ◌+◌, List, [], ◌∷◌, slice_set, sym, ap, arith}
-use mathlib.Core.Option.{some-injective, some-ne-none}
-use Rattle.history_model.specs.declared.view.View.{View}
-use Rattle.history_model.specs.Counts.{is_open, open_count}
-use Rattle.history_model.specs.Sets.{flag}
-use Rattle.history_model.specs.Table.{Knows}
+use Rattle.values_rule.proofs.Common.{◌≡◌, ℕ, zero, suc, ◌+◌, List, [], ◌∷◌, slice_set, sym, ap, arith, some-injective, some-ne-none, View, is_open, flag}
+use Rattle.values_rule.proofs.Common.{Knows}
+use Rattle.history_model.specs.Counts.{open_count}
 
 pub open_count-set : (vs : List View) (id : ℕ) (v w : View) → Knows vs id v
     → open_count (slice_set vs id w) + flag (is_open v.phase) ≡ open_count vs + flag (is_open w.phase)

@@ -1,3 +1,5 @@
+-- what several proofs import
+pub mod Common
 -- what stands in a list with more at its end
 pub mod Members
 -- the oldest note of a word, as notes come and go

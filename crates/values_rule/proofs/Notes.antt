@@ -1,12 +1,9 @@
 -- The oldest note of a word, as notes come and go.
-use Rattle.std.proofs.Common.{◌≡◌, ◌≢◌, ℕ, ◌+◌, ◌-◌, ◌⊎◌, inl, inr, ⊎_elim, [], ◌∷◌, ◌++◌, length, take, Option, Some, None, IsSome, refl, sym, ap, ◌∙◌, arith}
-use Rattle.std.proofs.Common.{eq-eqb, ne_eqb, length-append}
+use Rattle.values_rule.proofs.Common.{◌≡◌, ◌≢◌, ℕ, ◌+◌, ◌-◌, ◌⊎◌, inl, inr, ⊎_elim, [], ◌∷◌, ◌++◌, length, take, Option, Some, None, IsSome, refl, sym, ap, ◌∙◌}
+use Rattle.values_rule.proofs.Common.{arith, eq-eqb, ne_eqb, dite, ℕ_discrete, Notes, differ}
+use Rattle.std.proofs.Common.{length-append}
 use Rattle.std.proofs.lemmas.List.{take-append-le, take_all}
-use mathlib.Core.Logic.{dite}
-use native.Mathlib.Decide.{ℕ_discrete}
 use Rattle.std.specs.Option.{is_some}
-use Rattle.history_model.specs.Undoing.{Notes}
-use Rattle.history_model.proofs.SetLemmas.{differ}
 use Rattle.values_rule.specs.Values.{oldest}
 
 pub oldest-nil : (a : ℕ) → oldest a [] ≡ None

@@ -1,10 +1,6 @@
 -- What phases say of a call.
-use Rattle.std.proofs.Common.{◌≡◌, ◌≢◌, true, false, ◌⊎◌, inl, inr, refl, sym, ap, ◌∙◌}
-use Rattle.history_model.specs.declared.view.View.{View}
-use Rattle.history_model.specs.declared.view.Phase.{Phase}
-use Rattle.history_model.specs.declared.view.Phase.TheVariants.{Idle, Running, Yielding, Withdrawing, Releasing}
-use Rattle.history_model.specs.Counts.{is_attempt, is_open}
-use Rattle.values_rule.specs.Steps.{undoing_phase}
+use Rattle.values_rule.proofs.Common.{◌≡◌, ◌≢◌, true, false, ◌⊎◌, inl, inr, refl, sym, ap, ◌∙◌, View, Phase, Idle, Running, Yielding, Withdrawing, Releasing}
+use Rattle.values_rule.proofs.Common.{is_attempt, is_open, undoing_phase}
 
 -- a running attempt is one
 pub attempt_runs : (u : View) → u.phase ≡ Running → is_attempt u.phase ≡ true

@@ -1,14 +1,7 @@
 -- Locks that shut others out, and what a store to a word does to the others.
-use Rattle.std.proofs.Common.{◌≡◌, ◌≢◌, ℕ, ◌+◌, ◌<◌, false, inl, inr, List, length, Option, Some, None, slice_index, slice_set, sym, ap, ◌∙◌}
-use Rattle.std.proofs.Common.{subst, arith, get_or-set_other, get_or-set_same}
-use Rattle.history_model.specs.declared.view.View.{View}
-use Rattle.history_model.specs.Sets.{has}
-use Rattle.history_model.specs.Table.{Knows, value_word}
-use Rattle.history_model.specs.Views.{HasWriteGrant, IsGranted}
-use Rattle.history_model.proofs.SetLemmas.{differ, not_true}
-use Rattle.locks_rule.specs.Locks.{LocksHold, IsSeat}
-use Rattle.locks_rule.proofs.Own.{Own}
-use Rattle.values_rule.specs.Values.{table_value}
+use Rattle.values_rule.proofs.Common.{◌≡◌, ◌≢◌, ℕ, ◌+◌, ◌<◌, false, inl, inr, List, length, Option, Some, None, slice_index, slice_set, sym, ap, ◌∙◌, subst}
+use Rattle.values_rule.proofs.Common.{arith, get_or-set_other, get_or-set_same, View, has, Knows, value_word, HasWriteGrant, IsGranted, differ, not_true}
+use Rattle.values_rule.proofs.Common.{LocksHold, IsSeat, Own, table_value}
 
 -- a lock that one seat holds for writing no other seat holds
 pub shut_out : (n : ℕ) (base ws : List ℕ) (vs : List View) (id other j k : ℕ) (v u : View) → LocksHold n base ws vs

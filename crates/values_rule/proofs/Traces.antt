@@ -1,13 +1,8 @@
 -- What a step owes of notes and of the attempt's trace. One seat goes from the view v to w while the words go from ws to
 -- ws'; now has the newest values.
-use Rattle.std.proofs.Common.{◌≡◌, ℕ, ◌<◌, true, ◌⊎◌, ⊎_elim, List, [], length, Some, None, IsSome, slice_get, sym, ap, ◌∙◌}
-use Rattle.history_model.specs.declared.view.View.{View}
-use Rattle.history_model.specs.declared.view.Phase.TheVariants.{Idle, Running, Releasing}
-use Rattle.history_model.specs.Counts.{is_attempt}
-use Rattle.history_model.specs.Locks.{lock_of_word}
-use Rattle.history_model.specs.Traces.{IsLegalTrace, Writes, Touches, value_after}
-use Rattle.history_model.specs.Views.{HasWriteGrant, IsGranted}
-use Rattle.values_rule.specs.Values.{table_value, oldest}
+use Rattle.values_rule.proofs.Common.{◌≡◌, ℕ, ◌<◌, true, ◌⊎◌, ⊎_elim, List, [], length, Some, None, IsSome, slice_get, sym, ap, ◌∙◌, View, Idle, Running}
+use Rattle.values_rule.proofs.Common.{Releasing, is_attempt, lock_of_word, Writes, Touches, HasWriteGrant, IsGranted, table_value, oldest}
+use Rattle.history_model.specs.Traces.{IsLegalTrace, value_after}
 use Rattle.values_rule.proofs.Notes.{oldest-nil}
 
 -- notes and values

@@ -1,18 +1,14 @@
 -- What unfinished writes leave that are taken back: a word that is noted gets its oldest value, and every other word stays.
-use Rattle.std.proofs.Common.{◌≡◌, ℕ, zero, suc, ◌+◌, ◌<◌, ⊎_elim, List, [], ◌∷◌, length, Some, None, slice_get, slice_set, get_or, refl, sym, ap, ◌∙◌, subst}
-use Rattle.std.proofs.Common.{arith, eq-eqb, ne_eqb, get_or-drop}
+use Rattle.values_rule.proofs.Common.{◌≡◌, ℕ, zero, suc, ◌+◌, ◌<◌, ⊎_elim, List, [], ◌∷◌, length, Some, None, slice_get, slice_set, refl, sym, ap, ◌∙◌, subst}
+use Rattle.values_rule.proofs.Common.{arith, eq-eqb, ne_eqb, slice_get_within, same_Some, some-injective, dite, ℕ_discrete, View, Knows, value_word, Notes}
+use Rattle.values_rule.proofs.Common.{same_list, memory_of, table_value}
+use Rattle.std.proofs.Common.{get_or, get_or-drop}
 use Rattle.std.proofs.lemmas.List.{length-set}
-use Rattle.std.proofs.lemmas.Option.{slice_get_within, slice_get-get_or, same_Some}
-use mathlib.Core.Option.{some-injective}
-use mathlib.Core.Logic.{dite}
-use native.Mathlib.Decide.{ℕ_discrete}
-use Rattle.history_model.specs.declared.view.View.{View}
-use Rattle.history_model.specs.Table.{Knows, value_word}
-use Rattle.history_model.specs.Undoing.{Notes, written_back}
-use Rattle.history_model.proofs.ListPlaces.{same_list}
+use Rattle.std.proofs.lemmas.Option.{slice_get-get_or}
+use Rattle.history_model.specs.Undoing.{written_back}
 use Rattle.history_model.proofs.Traces.TraceLaws.{get_set_same, get_set_other}
-use Rattle.values_rule.specs.Undone.{memory_of, undone_by}
-use Rattle.values_rule.specs.Values.{table_value, oldest}
+use Rattle.values_rule.specs.Undone.{undone_by}
+use Rattle.values_rule.specs.Values.{oldest}
 use Rattle.values_rule.proofs.Notes.{option_cases}
 
 length-written_back : (notes : Notes) (s : List ℕ) → length (written_back notes s) ≡ length s

@@ -1,3 +1,5 @@
+-- what several proofs import
+pub mod Common
 -- what a pass keeps of its view: its bits, what the copy says, and what it is after a step
 pub mod Copied
 -- every kind of step, every cut and every join keeps what holds of a table, in its four parts

@@ -1,43 +1,17 @@
 -- Deques are made, callers are dealt to them in turn, and passes are handed out.
-use Rattle.std.proofs.Common.{◌≡◌, ◌≢◌, ℕ, ◌+◌, ◌-◌, ◌%◌, ◌<◌, ◌≤◌, ◌==◌, if◌then◌else◌, All, List, [], ◌∷◌, ◌++◌, set, length, get_or, refl, sym, ap, ◌∙◌}
-use Rattle.std.proofs.Common.{subst, arith, length-append}
-use Rattle.std.proofs.lemmas.Bool.Decides.{nat_tests}
-use mathlib.Core.Logic.{dite}
-use native.Mathlib.Decide.{ℕ_discrete}
-use Rattle.crossbeam_deque.specs.declared.handles.Stealer.{Stealer}
+use Rattle.worker_pool.proofs.Common.{◌≡◌, ℕ, ◌+◌, ◌-◌, ◌%◌, ◌<◌, ◌≤◌, ◌==◌, if◌then◌else◌, All, List, [], ◌∷◌, ◌++◌, set, length, get_or, refl, sym, ap, ◌∙◌}
+use Rattle.worker_pool.proofs.Common.{subst, arith, length-append, dite, ℕ_discrete, Stealer, Pass, view, IsPassOf, SameWorker, worker_deque, worker_view, Deal}
+use Rattle.worker_pool.proofs.Common.{ALL_PARTS, times, deal, AreShown, AreStill, HaveLess, IsNewRow, length-set, get_or-set_other, get_or-set_same}
+use Rattle.worker_pool.proofs.Common.{get_or_append_left, get_or_default, get_or_push}
 use Rattle.crossbeam_deque.specs.declared.handles.Worker.{Worker}
-use Rattle.crossbeam_deque.specs.Handles.{Pass, view, IsPassOf, SameWorker, worker_deque, worker_view}
-use Rattle.worker_pool.specs.declared.rule.Deal.{Deal}
-use Rattle.worker_pool.specs.declared.rule.TheConstants.{ALL_PARTS}
-use Rattle.worker_pool.specs.Counting.{times, once_below}
-use Rattle.worker_pool.specs.Deques.{deal}
-use Rattle.worker_pool.specs.Inner.Dealing.{at_turn, AreDealtInTurn, AreShown, AreStill, DealsOne, HasLess, HaveLess, IsFree, IsNew, IsNewRow, IsShown, IsStill}
+use Rattle.worker_pool.specs.Inner.Dealing.{HasLess, IsNew, IsShown}
 use Rattle.worker_pool.specs.Inner.Ends.{HasOver}
-use Rattle.worker_pool.proofs.Places.{related_push, related_set}
-use Rattle.std.proofs.lemmas.List.{length-set, get_or-set_other, get_or-set_same, get_or_append_left, get_or_default, get_or_push}
+use Rattle.worker_pool.proofs.Places.{related_push}
 use Rattle.worker_pool.proofs.Steps.{times_append}
 
 -- 1 if the two are the same, and else 0
 abbrev pub one_at : ℕ → ℕ → ℕ
 one_at c x = if c == x then 1 else 0
-
-its_turn : (m k c x : ℕ) → (c ≡ x → m ≡ k) → (if m == k then one_at c x else 0) ≡ one_at c x
-its_turn m k c x h = grind (arith, nat_tests, h)
-
-not_its_turn : (m k c x : ℕ) → (c ≡ x → m ≢ k) → (if m == k then one_at c x else 0) ≡ 0
-not_its_turn m k c x h = grind (arith, nat_tests, h)
-
-turn_add : (many k x a b : ℕ) → at_turn many k x (a + b) ≡ at_turn many k x a + at_turn many k x b
-turn_add many k x a b = grind arith
-
-next_below : (x c : ℕ) → once_below x (c + 1) ≡ once_below x c + one_at c x
-next_below x c = grind (arith, nat_tests)
-
-none_below : (many k x : ℕ) → at_turn many k x (once_below x 0) ≡ 0
-none_below many k x = grind (arith, nat_tests)
-
-none_left : (many k x : ℕ) → at_turn many k x 0 ≡ 0
-none_left many k x = grind arith
 
 pub times_push : (x c : ℕ) (xs : List ℕ) → times x (xs ++ c ∷ []) ≡ times x xs + one_at c x
 times_push x c xs = let one : times x (c ∷ []) ≡ one_at c x = grind arith in omega (arith, times_append x xs (c ∷ []), one)
@@ -56,110 +30,11 @@ module _ {A P : Type 0} where
   shown_more ts more ws others t w more_is others_are h one =
       subst (λ l. AreShown l others) (sym more_is) (subst (λ l. AreShown (ts ++ t ∷ []) l) (sym others_are) (shown_push ts ws t w h one))
 
-  still_set : (ws : List (Worker ℕ A Deal P)) (k : ℕ) (o o' : Worker ℕ A Deal P) → o ≡ get_or ws k o → k < length ws → IsStill o o' → AreStill ws (set ws k o')
-  still_set ws k o o' here within one =
-      let all = related_set IsStill ws ws k o' refl (λ j d e lt.
-      subst (λ (w : Worker ℕ A Deal P). IsStill (get_or ws j d) w) (get_or_default ws j d e lt)
-      (record { deque = refl; fifo = refl; parts = refl; taken = refl }))
-      (λ d. subst (λ (w : Worker ℕ A Deal P). IsStill w o') (here ∙ get_or_default ws k o d within) one) in
-      record { count = length-set ws k o'; each = λ j w lt. all j w w lt }
-
   -- a caller is dealt to the deque whose turn it is
   module _ (ws : List (Worker ℕ A Deal P)) (turn caller : ℕ) (o o' : Worker ℕ A Deal P) (here : o ≡ get_or ws turn o)
       (is : turn ≡ caller % length ws) (within : turn < length ws) (same : SameWorker o o') where
-    pub put_still : worker_view o' ≡ deal (worker_view o).parts ((worker_view o).dealt ++ caller ∷ []) (worker_view o).taken → AreStill ws (set ws turn o')
-    put_still e = still_set ws turn o o' here within (record {
-      deque = same.0;
-      fifo = same.1;
-      parts =
-          ap (λ (v : Deal). v.parts) e;
-      taken = ap (λ (v : Deal). v.taken) e;
-    })
-
-    pub refused_still : worker_view o' ≡ worker_view o → AreStill ws (set ws turn o')
-    refused_still e = still_set ws turn o o' here within (record {
-      deque = same.0;
-      fifo = same.1;
-      parts =
-          ap (λ (v : Deal). v.parts) e;
-      taken = ap (λ (v : Deal). v.taken) e;
-    })
-
-    dealt_there : (k : ℕ) (w : Worker ℕ A Deal P) → k ≡ turn → (worker_view (get_or (set ws turn o') k w)).dealt ≡ (worker_view o').dealt
-    dealt_there k w at = ap (λ (v : Worker ℕ A Deal P). (worker_view v).dealt) (ap (λ j. get_or (set ws turn o') j w) at ∙ get_or-set_same ws turn o' w within)
-
     was_there : (k : ℕ) (w : Worker ℕ A Deal P) → k ≡ turn → (worker_view (get_or ws k w)).dealt ≡ (worker_view o).dealt
     was_there k w at = ap (λ (v : Worker ℕ A Deal P). (worker_view v).dealt) (ap (λ j. get_or ws j w) at ∙ get_or_default ws turn w o within ∙ sym here)
-
-    pub put_dealt : (left : List ℕ) (k : ℕ) (w : Worker ℕ A Deal P) (x : ℕ)
-        → worker_view o' ≡ deal (worker_view o).parts ((worker_view o).dealt ++ caller ∷ []) (worker_view o).taken → k < length ws
-        → times x (worker_view (get_or (set ws turn o') k w)).dealt + at_turn (length ws) k x (times x left)
-        ≡ times x (worker_view (get_or ws k w)).dealt + at_turn (length ws) k x (times x left) + at_turn (length ws) k x (one_at caller x)
-    put_dealt left k w x e lt = dite (ℕ_discrete k turn)
-        (λ at.
-        let more : times x (worker_view o').dealt ≡ times x (worker_view o).dealt + one_at caller x =
-        ap (λ (v : Deal). times x v.dealt) e ∙ times_push x caller (worker_view o).dealt in
-        let mine : at_turn (length ws) k x (one_at caller x) ≡ one_at caller x =
-        its_turn (x % length ws) k caller x (λ alike. ap (λ y. y % length ws) (sym alike) ∙ sym is ∙ sym at) in
-        omega (arith, ap (times x) (dealt_there k w at), ap (times x) (was_there k w at), more, mine))
-        (λ off.
-        let others : at_turn (length ws) k x (one_at caller x) ≡ 0 =
-        not_its_turn (x % length ws) k caller x (λ alike rest. off (sym rest ∙ ap (λ y. y % length ws) (sym alike) ∙ sym is)) in
-        omega (arith, ap (λ (v : Worker ℕ A Deal P). times x (worker_view v).dealt) (get_or-set_other ws turn k o' w off), others))
-
-    pub refused_dealt : (left more : List ℕ) (k : ℕ) (w : Worker ℕ A Deal P) (x : ℕ) → worker_view o' ≡ worker_view o → more ≡ left ++ caller ∷ []
-        → times x (worker_view (get_or (set ws turn o') k w)).dealt + at_turn (length ws) k x (times x more)
-        ≡ times x (worker_view (get_or ws k w)).dealt + at_turn (length ws) k x (times x left) + at_turn (length ws) k x (one_at caller x)
-    refused_dealt left more k w x e is_more =
-        let turns : at_turn (length ws) k x (times x more) ≡ at_turn (length ws) k x (times x left) + at_turn (length ws) k x (one_at caller x) =
-        ap (at_turn (length ws) k x) (ap (times x) is_more ∙ times_push x caller left) ∙ turn_add (length ws) k x (times x left) (one_at caller x) in
-        dite (ℕ_discrete k turn)
-        (λ at. omega (arith, ap (times x) (dealt_there k w at), ap (times x) (was_there k w at), ap (λ (v : Deal). times x v.dealt) e, turns))
-        (λ off. omega (arith, ap (λ (v : Worker ℕ A Deal P). times x (worker_view v).dealt) (get_or-set_other ws turn k o' w off), turns))
-
-  pub still_more : (olds mids news : List (Worker ℕ A Deal P)) → AreStill olds mids → AreStill mids news → AreStill olds news
-  still_more olds mids news f s = record {
-    count = s.count ∙ f.count;
-    each = λ k w lt. let a = f.each k w lt in let b = s.each k w (omega (arith, lt, f.count)) in record {
-      deque = b.deque ∙ a.deque;
-      fifo = b.fifo ∙ a.fifo;
-      parts = b.parts ∙ a.parts;
-      taken = b.taken ∙ a.taken;
-    };
-  }
-
-  pub still_same : (ws : List (Worker ℕ A Deal P)) → AreStill ws ws
-  still_same ws = record { count = refl; each = λ k w lt. record { deque = refl; fifo = refl; parts = refl; taken = refl } }
-
-  pub nothing_dealt : (ws : List (Worker ℕ A Deal P)) (left : List ℕ)
-      → All (λ (w : Worker ℕ A Deal P). worker_view w ≡ deal ALL_PARTS [] []) ws → left ≡ [] → AreDealtInTurn 0 ws left
-  nothing_dealt ws left new none = record {
-    each = λ k w x lt.
-        let dealt : times x (worker_view (get_or ws k w)).dealt ≡ 0 = ap (λ (v : Deal). times x v.dealt) (new k w lt) in
-        let left_none : at_turn (length ws) k x (times x left) ≡ 0 = ap (λ l. at_turn (length ws) k x (times x l)) none ∙ none_left (length ws) k x in
-        omega (arith, dealt, left_none, none_below (length ws) k x);
-  }
-
-  pub dealt_more : (caller : ℕ) (ws new : List (Worker ℕ A Deal P)) (left more : List ℕ) → AreStill ws new
-      → DealsOne caller ws new left more
-      → AreDealtInTurn caller ws left → AreDealtInTurn (caller + 1) new more
-  dealt_more caller ws new left more still one before = record {
-    each = λ k w x lt.
-        let within : k < length ws = omega (arith, lt, still.count) in
-        let turns : at_turn (length ws) k x (once_below x (caller + 1)) ≡ at_turn (length ws) k x (once_below x caller)
-        + at_turn (length ws) k x (one_at caller x) =
-        ap (at_turn (length ws) k x) (next_below x caller) ∙ turn_add (length ws) k x (once_below x caller) (one_at caller x) in
-        let sum : times x (worker_view (get_or new k w)).dealt + at_turn (length ws) k x (times x more)
-        ≡ at_turn (length ws) k x (once_below x (caller + 1)) = omega (arith, one k w x within, before.each k w x within, turns) in
-        subst (λ (n : ℕ). times x (worker_view (get_or new k w)).dealt + at_turn n k x (times x more)
-        ≡ at_turn n k x (once_below x (caller + 1))) (sym still.count) sum;
-  }
-
-  -- parts that all owners have
-  pub still_parts : (ws new : List (Worker ℕ A Deal P))
-      → All (λ (w : Worker ℕ A Deal P). worker_view w ≡ deal ALL_PARTS [] []) ws → AreStill ws new → (n : ℕ) → n < ALL_PARTS → All (HasOver n) new
-  still_parts ws new views still n few k w lt = let within : k < length ws = omega (arith, lt, still.count) in
-      omega (arith, few, (still.each k w within).parts, ap (λ (v : Deal). v.parts) (views k w within))
 
   -- passes are cut off, from the first deque on
   pub record Cutting (ws0 ws : List (Worker ℕ A Deal P)) (row : List (Pass ℕ Deal A)) : Type 0 where
@@ -167,14 +42,6 @@ module _ {A P : Type 0} where
     pub rest : (k : ℕ) (w : Worker ℕ A Deal P) → length row ≤ k → get_or ws k w ≡ get_or ws0 k w
     pub less : (k : ℕ) (w : Worker ℕ A Deal P) → k < length row → HasLess 1 (get_or ws0 k w) (get_or ws k w)
     pub new : (k : ℕ) (w : Worker ℕ A Deal P) (p : Pass ℕ Deal A) → k < length row → IsNew (get_or ws0 k w) (get_or row k p)
-
-  pub cutting_starts : (ws : List (Worker ℕ A Deal P)) (row : List (Pass ℕ Deal A)) → row ≡ [] → Cutting ws ws row
-  cutting_starts ws row none = let nothing : length row ≡ 0 = ap (λ l. length l) none in record {
-    count = refl;
-    rest = λ k w le. refl;
-    less = λ k w lt. absurd (omega (arith, nothing, lt));
-    new = λ k w p lt. absurd (omega (arith, nothing, lt));
-  }
 
   pub cutting_more : (ws0 ws : List (Worker ℕ A Deal P)) (row more : List (Pass ℕ Deal A)) (k : ℕ)
       (o o' : Worker ℕ A Deal P) (p : Pass ℕ Deal A) → more ≡ row ++ p ∷ [] → k ≡ length row → k < length ws0 → o ≡ get_or ws k o
@@ -218,16 +85,6 @@ module _ {A P : Type 0} where
       → k ≡ length row → k < length ws0 → o ≡ get_or ws k o → All (HasOver 1) ws0 → Cutting ws0 ws row → HasOver 1 o
   still_over ws0 ws row k o at within here enough h = subst (HasOver 1) (sym (here ∙ h.rest k o (omega (arith, at)))) (enough k o within)
 
-  pub cutting_ends : (ws0 ws : List (Worker ℕ A Deal P)) (row : List (Pass ℕ Deal A)) → length row ≡ length ws0
-      → Cutting ws0 ws row → HaveLess 1 ws0 ws × IsNewRow ws0 row
-  cutting_ends ws0 ws row whole h = (
-    record { count = h.count; each = λ k w lt. h.less k w (omega (arith, whole, lt)) },
-    record { count = whole; each = λ k w p lt. h.new k w p (omega (arith, whole, lt)) },
-  )
-
-  pub less_none : (ws : List (Worker ℕ A Deal P)) → HaveLess 0 ws ws
-  less_none ws = record { count = refl; each = λ k w lt. record { deque = refl; fifo = refl; parts = omega arith; dealt = refl; taken = refl } }
-
   pub less_more : (n : ℕ) (olds mids news : List (Worker ℕ A Deal P)) → HaveLess n olds mids → HaveLess 1 mids news → HaveLess (n + 1) olds news
   less_more n olds mids news f s = record {
     count = s.count ∙ f.count;
@@ -257,10 +114,6 @@ module _ {A P : Type 0} where
         record { deque = pass_moved (get_or row k p) (get_or olds k w) (get_or mids k w) (sym (l.each k w less).deque) it.deque; view_is = it.view_is };
   }
 
-  pub parts_left : (n count : ℕ) (olds mids : List (Worker ℕ A Deal P)) → n < count → All (HasOver count) olds → HaveLess n olds mids → All (HasOver 1) mids
-  parts_left n count olds mids less enough l k w lt = let within : k < length olds = omega (arith, lt, l.count) in
-      omega (arith, less, enough k w within, (l.each k w within).parts)
-
   -- all together: new deques, to which callers were dealt, and of which so many parts were handed out
   module _ (n : ℕ) (ts : List (Stealer ℕ A Deal P)) (olds mids news : List (Worker ℕ A Deal P))
       (views : All (λ (w : Worker ℕ A Deal P). worker_view w ≡ deal ALL_PARTS [] []) olds) (still : AreStill olds mids) (less : HaveLess n mids news) where
@@ -276,19 +129,4 @@ module _ {A P : Type 0} where
             own_fifo = b.fifo ∙ a.fifo ∙ it.own_fifo;
             fifo = it.fifo;
           };
-    }
-
-    pub free_out : All (IsFree n) news
-    free_out k w lt =
-        let a = still.each k w (before k lt) in
-        let b = less.each k w (omega (arith, before k lt, still.count)) in
-        let v = views k w (before k lt) in
-        record { parts = omega (arith, a.parts, b.parts, ap (λ (y : Deal). y.parts) v); taken = b.taken ∙ a.taken ∙ ap (λ (y : Deal). y.taken) v }
-
-    pub dealt_out : (callers : ℕ) (left : List ℕ) → AreDealtInTurn callers mids left → AreDealtInTurn callers news left
-    dealt_out callers left h = record {
-      each = λ k w x lt.
-          let within : k < length mids = omega (arith, before k lt, still.count) in
-          subst (λ (y : ℕ × List ℕ). times x y.1 + at_turn y.0 k x (times x left)
-          ≡ at_turn y.0 k x (once_below x callers)) (λ i. (sym less.count i, sym (less.each k w within).dealt i)) (h.each k w x within);
     }

@@ -1,13 +1,8 @@
 -- All rows are given back, and all deques are emptied.
-use Rattle.std.proofs.Common.{◌≡◌, ℕ, suc, ◌+◌, ◌<◌, All, List, [], ◌∷◌, ◌++◌, length, get_or, refl, sym, ap, ◌∙◌, subst, arith, Vec, Global}
-use Rattle.std.specs.Prelude.{sum_by}
-use Rattle.std.proofs.lemmas.List.Sums.{sum_by-cons, sum_by_push}
+use Rattle.worker_pool.proofs.Common.{◌≡◌, ℕ, suc, ◌+◌, ◌<◌, All, List, [], ◌∷◌, ◌++◌, length, get_or, refl, sym, ap, ◌∙◌, subst, arith, Vec, Global, sum_by}
+use Rattle.worker_pool.proofs.Common.{sum_by-cons, sum_by_push, Pass, IsPassOf, worker_view, worker_flavor, Deal, times, AreGuests, HasAll, HaveMore}
+use Rattle.worker_pool.proofs.Common.{owners_dealt, owners_took, stolen, IsReturning, IsWholeRow, rows_stole}
 use Rattle.crossbeam_deque.specs.declared.handles.Worker.{Worker}
-use Rattle.crossbeam_deque.specs.Handles.{Pass, IsPassOf, worker_view, worker_flavor}
-use Rattle.worker_pool.specs.declared.rule.Deal.{Deal}
-use Rattle.worker_pool.specs.Counting.{times}
-use Rattle.worker_pool.specs.Inner.Ends.{AreGuests, HasAll, HaveMore, owners_dealt, owners_took, stolen}
-use Rattle.worker_pool.specs.Inner.Finishing.{IsReturning, IsWholeRow, rows_stole}
 
 get_middle : {X : Type 0} (given after : List X) (x d : X) → get_or (given ++ x ∷ after) (length given) d ≡ x
 get_middle [] after x d = refl
@@ -18,10 +13,10 @@ length_middle [] after x = omega arith
 length_middle (y ∷ ys) after x = omega (arith, length_middle ys after x)
 
 -- what holds of all items holds of the next one
-pub next_has : {X : Type 0} (P : X → Type 0) (given left after all : List X) (x : X) → left ≡ x ∷ after → given ++ left ≡ all → All P all → P x
-next_has P given left after all x steps is has =
+pub next_has : {X : Type 0} (P : X → Type 0) (given : List X) {left after all : List X} {x : X} → left ≡ x ∷ after → given ++ left ≡ all → All P all → P x
+next_has P given {left} {after} {all} {x} steps is has =
     let whole : given ++ x ∷ after ≡ all = ap (λ l. given ++ l) (sym steps) ∙ is in
-    subst P (get_middle given after x x) (subst (λ (l : List _). All P l) (sym whole) has (length given) x (length_middle given after x))
+    subst P (get_middle given after x x) (subst (All P) (sym whole) has (length given) x (length_middle given after x))
 
 -- a sum over items that count olds much, each if the other is
 pub sum_same : {X : Type 0} (f : X → ℕ) (xs ys : List X) → length ys ≡ length xs

@@ -1,44 +1,28 @@
 -- All shares of a day, put together.
-use Rattle.std.proofs.Common.{◌≡◌, ◌≢◌, ◌↔◌, ℕ, ◌+◌, ◌<◌, ◌≤◌, ◌&&◌, ◌==◌, List, ◌∷◌, [], All, AllPairs, flat_map, map, take, length, get_or, slice_get}
-use Rattle.std.proofs.Common.{Some, cond, sym, ap, ◌∙◌, subst, arith}
-use Rattle.std.proofs.Common.{zero-add}
-use Rattle.std.specs.List.{range_with_len}
-use Rattle.std.proofs.lemmas.List.{get_or-map, length-map}
+use Rattle.worker_pool.proofs.Common.{◌≡◌, ◌≢◌, ◌↔◌, ℕ, ◌+◌, ◌<◌, ◌≤◌, ◌&&◌, ◌==◌, List, ◌∷◌, [], All, AllPairs, flat_map, map, take, length, get_or, slice_get}
+use Rattle.worker_pool.proofs.Common.{Some, Bool, true, cond, sym, ap, ◌∙◌, subst, arith, zero-add, range_with_len, nat_tests, get_or-map, length-map, map-map}
+use Rattle.worker_pool.proofs.Common.{get_or_from_slice_get, slice_get-get_or, slice_get_within, Entry, IsGood, replay, IsIn, RefusedChangesNothing}
+use Rattle.worker_pool.proofs.Common.{ClearingInput, Place, IsPlace, books_after, BooksShape, words_of, IsGoodFor, Stands, spot_of, AreAt, IsRunInOrder}
+use Rattle.worker_pool.proofs.Common.{ClosedView, PassView, DeskView, Done, Share, once_below, place_of_item, places_of_items, AreCallersWhole, AreMadeBy}
+use Rattle.worker_pool.proofs.Common.{IsScriptEntry, seat_of, share_of, counted_number, AreAllDone, IsDone, CountedShare, AreAllPlaces}
+use Rattle.order_rebuild.proofs.Common.{IsOrder, Orderable}
+use Rattle.word_table.proofs.Common.{AreAllPasses}
+use Rattle.txn_commit.proofs.Common.{AreRecords}
+use Rattle.txn_threads.proofs.Common.{IsCoherent, IsLegalInEachOrder}
 use Rattle.std.proofs.lemmas.List.Elements.{All-map}
 use Rattle.std.proofs.lemmas.List.FromFn.{get_or-range_with_len, length-range_with_len}
 use Rattle.std.proofs.lemmas.List.Folds.{flat_map-map}
-use mathlib.Core.List.{map-map}
-use Rattle.std.proofs.lemmas.Option.{get_or_from_slice_get, slice_get-get_or, slice_get_within}
-use Rattle.history_model.specs.declared.entry.Entry.{Entry}
-use Rattle.history_model.specs.Fitting.{IsGood}
-use Rattle.history_model.specs.Histories.{replay}
-use Rattle.history_model.specs.Legal.{IsIn}
-use Rattle.books_model.specs.Laws.{RefusedChangesNothing}
-use Rattle.script_reader.specs.Input.{ClearingInput}
-use Rattle.script_reader.specs.Journal.{Place, IsPlace, IsJournal}
-use Rattle.books_report.specs.Output.{books_after}
-use Rattle.order_rebuild.specs.Order.{IsOrder, Orderable}
-use Rattle.txn_books.specs.declared.shape.BooksShape.{BooksShape}
-use Rattle.txn_books.specs.Layout.{words_of}
-use Rattle.txn_books.specs.Standing.{IsGoodFor, Stands}
-use Rattle.txn_commit.specs.Ordered.{spot_of, AreAt, IsRunInOrder}
-use Rattle.word_table.specs.Closing.{AreAllPasses, AreRecords, AreSeenBy, ClosedView, IsCoherent, IsLegalInEachOrder}
-use Rattle.word_table.specs.Copies.{PassView}
-use Rattle.word_table.specs.Desks.{DeskView}
-use Rattle.worker_pool.specs.Days.{Done}
-use Rattle.worker_pool.specs.declared.worker.Share.{Share}
-use Rattle.worker_pool.specs.Counting.{once_below}
-use Rattle.worker_pool.specs.Days.{place_of_item, places_of_items, AreCallersWhole, IsDay}
-use Rattle.worker_pool.specs.Inner.Makers.{AreMadeBy, IsScriptEntry}
-use Rattle.worker_pool.specs.Inner.Workers.{seat_of, share_of, counted_number, AreAllDone, IsDone, CountedShare}
-use Rattle.txn_commit.proofs.Orders.Arranged.{all_arranged, AreAllPlaces}
+use Rattle.script_reader.specs.Journal.{IsJournal}
+use Rattle.word_table.specs.Closing.{AreSeenBy}
+use Rattle.worker_pool.specs.Days.{IsDay}
+use Rattle.txn_commit.proofs.Orders.Arranged.{all_arranged}
 use Rattle.txn_commit.proofs.Orders.Once.{pairs_map}
 use Rattle.txn_commit.proofs.Recorded.{have_records}
-use Rattle.txn_commit.proofs.Orders.Rebuilt.{all_places, apart_there, as_many_there, can_be_ordered, entries, legal_there, made_there, rebuilt}
-use Rattle.txn_commit.proofs.Orders.Rebuilt.{records_there, rising_there, words_there, AreRunOver}
-use Rattle.worker_pool.proofs.Arranged.{sum_arranged}
-use Rattle.worker_pool.proofs.Gathered.{all_entries, below_all, items_of, keeps_all, made_all, no_two_calls, once_all, only_all, pass_of, read}
-use Rattle.worker_pool.proofs.Gathered.{seen_flat, sum_over, total_had}
+use Rattle.txn_commit.proofs.Orders.Rebuilt.{all_places, apart_there, as_many_there, can_be_ordered, entries, legal_there, made_there, rebuilt, records_there}
+use Rattle.txn_commit.proofs.Orders.Rebuilt.{rising_there, words_there, AreRunOver}
+use Rattle.worker_pool.proofs.Arranged.{once_arranged}
+use Rattle.worker_pool.proofs.Gathered.{all_entries, below_all, items_of, keeps_all, made_all, no_two_calls, once_all, only_all, pass_of, read, seen_flat}
+use Rattle.worker_pool.proofs.Gathered.{sum_over, total_had}
 use Rattle.worker_pool.proofs.Replayed.{replies_are, stands_after, stands_closed, Means}
 use Rattle.worker_pool.proofs.Wholes.{callers_whole}
 
@@ -51,7 +35,12 @@ share_items share = share.done.items
 pub once_at_most : (x n : ℕ) → once_below x n ≤ 1
 once_at_most x n = grind arith
 
-module _ (desk : DeskView BooksShape) (input : ClearingInput) (shares : List Share) (all : AreAllDone desk input shares) where
+-- of two scripts of a caller of which one comes before the other, not both stand at one place
+apart_twice : (p : Place) (x y : Done) → (x.caller ≡ y.caller → x.index < y.index) → (x.caller == p.caller && x.index == p.index) ≡ true
+    → (y.caller == p.caller && y.index == p.index) ≡ true → ⊥
+apart_twice p x y rising first second = grind (arith, nat_tests, rising, first, second)
+
+module _ {desk : DeskView BooksShape} {input : ClearingInput} {shares : List Share} (all : AreAllDone desk input shares) where
   abbrev ws : List CountedShare
   ws = all.counted_shares
 
@@ -73,8 +62,8 @@ module _ (desk : DeskView BooksShape) (input : ClearingInput) (shares : List Sha
   its_passes : (passes : List PassView) → passes ≡ map share_pass shares → passes ≡ map pass_of ws
   its_passes passes is = is ∙ ap (map share_pass) (sym all.are) ∙ map-map share_pass share_of ws
 
-  pub passes_all : (passes : List PassView) → passes ≡ map share_pass shares → AreAllPasses desk.table desk.seats passes
-  passes_all passes are = let is = its_passes passes are in subst (λ l. AreAllPasses desk.table desk.seats l) (sym is) (record {
+  pub passes_all : {passes : List PassView} → passes ≡ map share_pass shares → AreAllPasses desk.table desk.seats passes
+  passes_all {passes} are = let is = its_passes passes are in subst (λ l. AreAllPasses desk.table desk.seats l) (sym is) (record {
     of_table = λ pass at.
         let d = some_worker pass at in
         let w = its_worker pass at d in
@@ -111,8 +100,8 @@ module _ (desk : DeskView BooksShape) (input : ClearingInput) (shares : List Sha
   once_had : (x : ℕ) → total_had ws x ≤ 1
   once_had x = omega (arith, all.once x, once_at_most x (length input.callers))
 
-  module _ (passes : List PassView) (closed : ClosedView BooksShape) (passes_are : passes ≡ map share_pass shares)
-      (base : closed.base ≡ desk.base) (seats : closed.seats ≡ desk.seats) (shape : closed.shape ≡ desk.shape)
+  module _ {passes : List PassView} {closed : ClosedView BooksShape} (passes_are : passes ≡ map share_pass shares)
+      (of_desk : (closed.base ≡ desk.base) × (closed.seats ≡ desk.seats) × (closed.shape ≡ desk.shape))
       (coherent : IsCoherent (IsGood (words_of desk.shape) (IsGoodFor desk.shape)) closed)
       (legal : IsLegalInEachOrder (IsGood (words_of desk.shape) (IsGoodFor desk.shape)) closed)
       (records : AreRecords closed) (seen : AreSeenBy passes closed.records) where
@@ -177,9 +166,12 @@ module _ (desk : DeskView BooksShape) (input : ClearingInput) (shares : List Sha
         only = All-map (IsPlace input) place_of_item done
             (all_arranged given done places at all_at (λ (item : Done). IsPlace input (place_of_item item)) (only_all desk input ws all_worked));
         once = λ p there.
-            let test : Place → ℕ = λ q. cond (q.caller == p.caller && q.index == p.index) 1 0 in
-            sum_over test place_of_item done ∙ (sum_arranged given done places at all_at (λ item. test (place_of_item item))
-            ∙ (sym (sum_over test place_of_item given) ∙ once_all desk input ws all_worked all.once p there));
+            let test : Done → Bool = λ item. item.caller == p.caller && item.index == p.index in
+            let counted : Place → ℕ = λ q. cond (q.caller == p.caller && q.index == p.index) 1 0 in
+            sum_over counted place_of_item done ∙ once_arranged given done places at all_at test
+            (sym (sum_over counted place_of_item given) ∙ once_all desk input ws all_worked all.once p there)
+            (λ i j d lt short first second. apart_twice p (get_or done i d) (get_or done j d)
+            (rising_there over places order done at i j d lt short) first second);
         rising = pairs_map (λ (p q : Place). p.caller ≡ q.caller → p.index < q.index) place_of_item done
             (rising_there over places order done at);
       }
@@ -195,7 +187,7 @@ module _ (desk : DeskView BooksShape) (input : ClearingInput) (shares : List Sha
       pub day_of_all : IsDay input closed done
       unfolding its_run
       day_of_all =
-          let begun : Stands desk.shape closed.base input.books = subst (λ (b : List ℕ). Stands desk.shape b input.books) (sym base) opening in
+          let begun : Stands desk.shape closed.base input.books = subst (λ (b : List ℕ). Stands desk.shape b input.books) (sym of_desk.0) opening in
           record {
             rebuilt = rebuilt over places order done at;
             entries = entries over places order;
@@ -209,35 +201,31 @@ module _ (desk : DeskView BooksShape) (input : ClearingInput) (shares : List Sha
             legal = (legal_there over places order).trace_legal;
             words = words_there over places order;
             journal = its_journal;
-            below = subst (λ (m : ℕ). All (λ (item : Done). item.restarts < m) done) (sym seats)
+            below = subst (λ (m : ℕ). All (λ (item : Done). item.restarts < m) done) (sym of_desk.1)
                 (all_arranged given done places at all_at (λ (item : Done). item.restarts < desk.seats) (below_all desk input ws all_worked));
             replies = replies_are input desk.shape refused closed done its_run begun;
             stands = λ k le. subst (λ (s : BooksShape). Stands s (replay closed.base (take k (entries over places order)))
                 (books_after input input.books (places_of_items (take k done))))
-                (sym shape) (stands_after input desk.shape refused closed done its_run begun k le);
-            left = subst (λ (s : BooksShape). Stands s closed.words (books_after input input.books (places_of_items done))) (sym shape)
+                (sym of_desk.2) (stands_after input desk.shape refused closed done its_run begun k le);
+            left = subst (λ (s : BooksShape). Stands s closed.words (books_after input input.books (places_of_items done))) (sym of_desk.2)
                 (stands_closed input desk.shape refused closed done its_run begun);
           }
 
-    -- the same of the items as they were gathered, of which a slice was put in order
-    module _ (gathered slice : List Done) (gathered_are : gathered ≡ flat_map share_items shares) (slice_is : slice ≡ gathered) (places : List ℕ)
-        (told : Orderable (map spot_of slice) → IsOrder (map spot_of slice) places) where
+    -- the same of the items as they were gathered, of which a slice was put in order at places, told as a slice again
+    module _ {gathered slice : List Done} (gathered_are : gathered ≡ flat_map share_items shares) (slice_is : slice ≡ gathered) {places told : List ℕ}
+        (in_order : Orderable (map spot_of slice) → IsOrder (map spot_of slice) places) (told_is : told ≡ places) where
       its_given : given ≡ gathered
       its_given = sym (gathered_are ∙ (ap (flat_map share_items) (sym all.are) ∙ flat_map-map share_items share_of ws))
 
-      order_given : IsOrder (map spot_of given) places
-      order_given = subst (λ (l : List Done). Orderable (map spot_of l) → IsOrder (map spot_of l) places) (slice_is ∙ sym its_given) told (can_be_ordered over)
+      order_given : IsOrder (map spot_of given) told
+      order_given = subst (IsOrder (map spot_of given)) (sym told_is)
+          (subst (λ (l : List Done). Orderable (map spot_of l) → IsOrder (map spot_of l) places) (slice_is ∙ sym its_given) in_order (can_be_ordered over))
 
-      pub gathered_places : AreAllPlaces (length gathered) places
-      gathered_places = subst (λ (l : List Done). AreAllPlaces (length l) places) its_given (all_places over places order_given)
+      pub gathered_places : AreAllPlaces (length gathered) told
+      gathered_places = subst (λ (l : List Done). AreAllPlaces (length l) told) its_given (all_places over told order_given)
 
-      module _ (done : List Done) (at : AreAt gathered places done) (refused : RefusedChangesNothing)
-          (opening : Stands desk.shape desk.base input.books) where
-        at_given : AreAt given places done
-        at_given = subst (λ (l : List Done). AreAt l places done) (sym its_given) at
-
-        pub gathered_day : IsDay input closed done
-        gathered_day = day_of_all places done order_given at_given refused opening
-
-        pub gathered_whole : AreCallersWhole done
-        gathered_whole = whole_of_all places done order_given at_given refused opening
+      pub gathered_day : {done : List Done} → AreAt gathered told done → RefusedChangesNothing → Stands desk.shape desk.base input.books
+          → IsDay input closed done × AreCallersWhole done
+      gathered_day {done} at refused opening =
+          let at_given : AreAt given told done = subst (λ (l : List Done). AreAt l told done) (sym its_given) at in
+          (day_of_all told done order_given at_given refused opening, whole_of_all told done order_given at_given refused opening)

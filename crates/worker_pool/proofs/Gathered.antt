@@ -1,28 +1,12 @@
 -- What all workers did, put together, share by share.
-use Rattle.std.proofs.Common.{◌≡◌, ℕ, zero, suc, ◌+◌, ◌<◌, ◌≤◌, ◌&&◌, ◌==◌, ◌↔◌, List, [], ◌∷◌, ◌++◌, All, AllPairs, map}
-use Rattle.std.proofs.Common.{flat_map, length}
-use Rattle.std.proofs.Common.{get_or, count_by, nat_lt, refl, sym, ap, ◌∙◌, subst, arith, cond}
-use Rattle.std.specs.Prelude.{sum_by}
-use Rattle.std.proofs.lemmas.List.Concat.{flat_map-cons}
-use Rattle.std.proofs.lemmas.List.Elements.{All-nil, All-append, All-head, All-tail, All-weaker}
+use Rattle.worker_pool.proofs.Common.{◌≡◌, ℕ, zero, suc, ◌+◌, ◌<◌, ◌≤◌, ◌&&◌, ◌==◌, ◌↔◌, List, [], ◌∷◌, ◌++◌, All, AllPairs, map, flat_map, length, get_or}
+use Rattle.worker_pool.proofs.Common.{count_by, nat_lt, refl, sym, ap, ◌∙◌, subst, arith, cond, sum_by, flat_map-cons, All-nil, All-append, All-head, All-tail}
+use Rattle.worker_pool.proofs.Common.{All-weaker, sum_by-append, sum_by-cons, same_Some, slice_get-get_or, nat_tests, Entry, IsIn, ClearingInput, Place}
+use Rattle.worker_pool.proofs.Common.{IsPlace, BooksShape, PassView, DeskView, Done, once_below, place_of_item, places_of_items, spot_of, AreMadeBy}
+use Rattle.worker_pool.proofs.Common.{IsScriptEntry, counted_number, IsDone, CountedShare}
+use Rattle.order_rebuild.proofs.Common.{at_map}
+use Rattle.txn_commit.proofs.Common.{map_at}
 use Rattle.std.proofs.lemmas.List.Kept.{AllPairs-cons}
-use Rattle.std.proofs.lemmas.List.Sums.{sum_by-append, sum_by-cons}
-use Rattle.std.proofs.lemmas.Option.{same_Some, slice_get-get_or}
-use Rattle.std.proofs.lemmas.Bool.Decides.{nat_tests}
-use Rattle.history_model.specs.declared.entry.Entry.{Entry}
-use Rattle.history_model.specs.Legal.{IsIn}
-use Rattle.history_model.proofs.ListPlaces.{at_map, map_at}
-use Rattle.script_reader.specs.Input.{ClearingInput}
-use Rattle.script_reader.specs.Journal.{Place, IsPlace}
-use Rattle.txn_books.specs.declared.shape.BooksShape.{BooksShape}
-use Rattle.word_table.specs.Copies.{PassView}
-use Rattle.word_table.specs.Desks.{DeskView}
-use Rattle.worker_pool.specs.Days.{Done}
-use Rattle.worker_pool.specs.Counting.{once_below}
-use Rattle.worker_pool.specs.Days.{place_of_item, places_of_items}
-use Rattle.txn_commit.specs.Ordered.{spot_of}
-use Rattle.worker_pool.specs.Inner.Makers.{AreMadeBy, IsScriptEntry}
-use Rattle.worker_pool.specs.Inner.Workers.{counted_number, IsDone, CountedShare}
 use Rattle.txn_commit.proofs.Flattened.{beside_flat, in_flat, into_flat, of_in, AreBeside}
 use Rattle.txn_commit.proofs.Orders.Rebuilt.{apart_places, AreApart, Readings}
 use Rattle.worker_pool.proofs.Running.{among_had, one_if}

@@ -1,3 +1,5 @@
+-- what several proofs import
+pub mod Common
 -- sums over all views of a table, if one view changes, and if one view has all
 pub mod Sums
 -- each kind of step keeps the rule of a deque
@@ -20,9 +22,7 @@ pub mod Opening
 pub mod Rooms
 -- what a loop over a list's items has given, and what is left
 pub mod Yielded
--- workers that stand apart: what is so of their list, and of the list of the workers
-pub mod Apart
--- new passes, one after another, and the workers that get them
+-- the owners, one after another, and the workers that get them
 pub mod Seating
 -- a sum over what stands at places, each of which stands there once
 pub mod Arranged
@@ -40,3 +40,5 @@ pub mod Wholes
 pub mod Ended
 -- what the workers leave, and the last round
 pub mod Ending
+-- workers that were lent their passes, and what all of them did
+pub mod Lent

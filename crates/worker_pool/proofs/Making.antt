@@ -1,28 +1,14 @@
 -- A call of a pass, and its item.
-use Rattle.std.proofs.Common.{◌≡◌, ℕ, ◌+◌, ◌<◌, List, [], ◌∷◌, ◌++◌, All, length, slice_get, Some, ◌⊎◌, inl, inr, ⊎_elim, sym, ap, ◌∙◌, subst, arith}
-use Rattle.std.proofs.Common.{length-append}
-use Rattle.std.proofs.lemmas.List.Elements.{All-nil, All-push}
-use Rattle.std.proofs.lemmas.Option.{slice_get_within}
-use Rattle.script_reader.specs.Gathered.{script_at}
-use Rattle.history_model.specs.declared.entry.Entry.{Entry}
+use Rattle.worker_pool.proofs.Common.{◌≡◌, ℕ, ◌+◌, ◌<◌, List, [], ◌∷◌, ◌++◌, All, length, slice_get, Some, refl, sym, ap, ◌∙◌, subst, arith, length-append}
+use Rattle.worker_pool.proofs.Common.{slice_index, All-nil, All-push, slice_get_within, script_at, Entry, IsGood, ClearingInput, BooksShape, words_of}
+use Rattle.worker_pool.proofs.Common.{ScriptMeans, IsGoodFor, GetsEntry, Reply, PassView, DeskView, Done, AreMadeBy, HasMade, IsScriptEntry, IsNext}
+use Rattle.txn_words.proofs.Common.{after}
+use Rattle.order_rebuild.proofs.Common.{get_cases}
+use Rattle.txn_commit.proofs.Common.{ListsUses}
+use Rattle.std.proofs.Common.{◌⊎◌, inl, inr, ⊎_elim}
 use Rattle.history_model.specs.declared.item.LockUse.{LockUse}
 use Rattle.history_model.specs.declared.view.Phase.TheVariants.{Idle}
-use Rattle.history_model.specs.Fitting.{IsGood}
-use Rattle.history_model.specs.Traces.{after}
-use Rattle.history_model.proofs.ListPlaces.{get_cases}
-use Rattle.script_reader.specs.Input.{ClearingInput}
-use Rattle.txn_books.specs.declared.shape.BooksShape.{BooksShape}
-use Rattle.txn_books.specs.Layout.{words_of}
-use Rattle.txn_books.specs.Meaning.{ScriptMeans}
-use Rattle.txn_books.specs.Standing.{IsGoodFor}
 use Rattle.txn_commit.specs.declared.transaction.Receipt.{Receipt}
-use Rattle.txn_commit.specs.Transactions.{GetsEntry}
-use Rattle.txn_commit.specs.Uses.{ListsUses}
-use Rattle.books_model.specs.declared.reply.Reply.{Reply}
-use Rattle.word_table.specs.Copies.{PassView}
-use Rattle.word_table.specs.Desks.{DeskView}
-use Rattle.worker_pool.specs.Days.{Done}
-use Rattle.worker_pool.specs.Inner.Makers.{AreMadeBy, HasMade, IsScriptEntry}
 
 -- what stands at a place of two lists of one length, each with one more: what stood there, or what came last
 pub one_more : {X Y : Type 0} (xs : List X) (ys : List Y) (x u : X) (y v : Y) → length xs ≡ length ys → (k : ℕ)
@@ -106,3 +92,20 @@ module _ (desk : DeskView BooksShape) (input : ClearingInput) where
     };
     below = subst (λ (l : List Done). All (λ x. x.restarts < desk.seats) l) (sym is) (All-nil (λ (x : Done). x.restarts < desk.seats));
   }
+
+-- what is made by a pass of one number is made by it under another name of the number
+pub made_as : {desk : DeskView BooksShape} {input : ClearingInput} {who same : List ℕ} {pass : PassView} {done : List Done} → who ≡ same
+    → HasMade desk input (slice_index who 0) pass done → HasMade desk input (slice_index same 0) pass done
+made_as {desk} {input} {pass = pass} {done} is = subst (λ (w : List ℕ). HasMade desk input (slice_index w 0) pass done) is
+
+-- a pass that made no call
+pub same_next : {pass : PassView} → pass.view.phase ≡ Idle → IsNext pass pass
+same_next idle = record { table_stays = refl; idle = idle; who_stays = refl }
+
+-- one call after another
+pub next_then : {old mid new : PassView} → IsNext old mid → IsNext mid new → IsNext old new
+next_then first second = record {
+  table_stays = second.table_stays ∙ first.table_stays;
+  idle = second.idle;
+  who_stays = second.who_stays ∙ first.who_stays;
+}

@@ -1,22 +1,10 @@
 -- The queues of all workers before they start, and what was dealt to all deques together.
-use Rattle.std.proofs.Common.{◌≡◌, ℕ, zero, suc, ◌+◌, ◌%◌, ◌<◌, ◌≤◌, ◌==◌, if◌then◌else◌, All, List, [], ◌∷◌, length, get_or, refl, sym, ap, ◌∙◌, subst, arith}
-use Rattle.std.proofs.Common.{Global, lt_of_not-le, zero-add}
-use Rattle.std.specs.Prelude.{sum_by}
-use Rattle.std.proofs.lemmas.Bool.Decides.{nat_tests}
-use Rattle.std.proofs.lemmas.List.Sums.{sum_by-cons}
-use mathlib.Core.Logic.{dite}
-use native.Mathlib.Decide.{dec_le}
-use Rattle.crossbeam_deque.specs.declared.handles.Stealer.{Stealer}
+use Rattle.worker_pool.proofs.Common.{◌≡◌, ℕ, zero, suc, ◌+◌, ◌%◌, ◌<◌, ◌≤◌, ◌==◌, if◌then◌else◌, All, List, [], ◌∷◌, length, get_or, refl, sym, ap, ◌∙◌, subst}
+use Rattle.worker_pool.proofs.Common.{arith, Global, lt_of_not-le, zero-add, sum_by, nat_tests, sum_by-cons, dite, dec_le, Stealer, Pass, view, IsPassOf}
+use Rattle.worker_pool.proofs.Common.{worker_deque, worker_flavor, worker_view, Deal, DealRule, ALL_PARTS, Queue, times, once_below, AreDealtInTurn, AreShown}
+use Rattle.worker_pool.proofs.Common.{IsFree, IsNewRow, AreAtEach, owners_dealt, stolen, IsQueueOf, Stealers}
 use Rattle.crossbeam_deque.specs.declared.handles.Worker.{Worker}
-use Rattle.crossbeam_deque.specs.Handles.{Pass, view, IsPassOf, worker_deque, worker_flavor, worker_view}
-use Rattle.worker_pool.specs.declared.rule.Deal.{Deal}
-use Rattle.worker_pool.specs.declared.rule.DealRule.{DealRule}
-use Rattle.worker_pool.specs.declared.rule.TheConstants.{ALL_PARTS}
-use Rattle.worker_pool.specs.declared.queue.Queue.{Queue}
-use Rattle.worker_pool.specs.Counting.{times, once_below}
-use Rattle.worker_pool.specs.Inner.Dealing.{AreDealtInTurn, AreShown, IsFree, IsNewRow}
-use Rattle.worker_pool.specs.Inner.Ends.{AreAtEach, owners_dealt, stolen}
-use Rattle.worker_pool.specs.Inner.Queues.{IsQueueOf, HadNone, Stealers}
+use Rattle.worker_pool.specs.Inner.Queues.{HadNone}
 use Rattle.std.proofs.Math.Nat.{mod-lt}
 
 abbrev pub OwnerOf : Type 0

@@ -1,18 +1,12 @@
 -- A deque in each state to which its steps lead.
-use Rattle.std.proofs.Common.{◌≡◌, ℕ, zero, suc, ◌+◌, ◌<◌, List, [], ◌∷◌, Some, slice_get, slice_set, refl, sym, ap, ◌∙◌, subst, arith}
-use Rattle.std.specs.Prelude.{sum_by}
-use Rattle.std.proofs.lemmas.List.Sums.{sum_by-append, sum_by-cons, sum_by-set}
-use Rattle.std.proofs.lemmas.Option.{get_or_from_slice_get, same_Some, slice_get_within}
+use Rattle.worker_pool.proofs.Common.{◌≡◌, ℕ, zero, suc, ◌+◌, ◌<◌, List, [], ◌∷◌, Some, slice_get, refl, sym, ap, ◌∙◌, subst, arith, sum_by, sum_by-append}
+use Rattle.worker_pool.proofs.Common.{sum_by-cons, sum_by-set, get_or_from_slice_get, same_Some, slice_get_within, Deal, ALL_PARTS, times, deal, took, put}
+use Rattle.worker_pool.proofs.Common.{IsDealt, some, get_elem?}
+use Rattle.std.proofs.Common.{slice_set}
 use Rattle.order_rebuild.proofs.Marks.{set_other}
-use Rattle.worker_pool.specs.declared.rule.Deal.{Deal}
-use Rattle.worker_pool.specs.declared.rule.TheConstants.{ALL_PARTS}
-use Rattle.worker_pool.specs.Counting.{times}
-use Rattle.worker_pool.specs.Deques.{IsDequeReached, Begins, Deals, Takes, Gives, Joins, deal, has_dealt, has_taken, joined, with_part_less}
-use Rattle.worker_pool.specs.Inner.Deals.{took, put, IsDealt}
+use Rattle.worker_pool.specs.Deques.{IsDequeReached, Begins, Deals, Takes, Gives, Joins, has_dealt, has_taken, joined, with_part_less}
 use Rattle.worker_pool.proofs.Steps.{begins, pushes, takes, forks, merges, took_of, put_of, no_took, no_put}
 use Rattle.worker_pool.proofs.Sums.{alone}
-use mathlib.Core.Option.{some}
-use lib.ListN.{get_elem?}
 
 -- what stands at a place, as the deque's definitions say it
 stands_at : {X : Type 0} (xs : List X) (i : ℕ) (v : X) → slice_get xs i ≡ Some v → get_elem? xs i ≡ some v

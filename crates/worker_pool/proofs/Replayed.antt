@@ -1,27 +1,17 @@
 -- The interpreter, run down the items of a day: by the lemma for every store it replies what they reply, and the words before
 -- and after each stand for its books.
-use Rattle.std.proofs.Common.{◌≡◌, ◌≢◌, ℕ, ◌≤◌, Bool, true, false, List, [], ◌∷◌, map, length, take, refl, sym, ap, ◌∙◌, subst, true≢false}
-use Rattle.script_reader.specs.Gathered.{script_at}
-use Rattle.history_model.specs.Fitting.{IsGood}
-use Rattle.history_model.specs.Histories.{replay}
-use Rattle.books_model.specs.declared.reply.Reply.{Reply}
+use Rattle.worker_pool.proofs.Common.{◌≡◌, ◌≢◌, ℕ, ◌≤◌, Bool, true, false, List, [], ◌∷◌, map, length, take, refl, sym, ap, ◌∙◌, subst, script_at, IsGood}
+use Rattle.worker_pool.proofs.Common.{replay, Reply, RefusedChangesNothing, ClearingInput, books_after, BooksShape, words_of, IsGoodFor, Stands, ScriptMeans}
+use Rattle.worker_pool.proofs.Common.{IsRunInOrder, ClosedView, Done, places_of_items}
+use Rattle.books_model.proofs.Common.{ClearingBooks}
+use Rattle.books_report.proofs.Common.{outcome_of}
+use Rattle.std.proofs.Common.{true≢false}
 use Rattle.books_model.specs.declared.reply.Value.{Value}
-use Rattle.books_model.specs.declared.reply.Reply.TheVariants as reply
-use Rattle.books_model.specs.Books.{ClearingBooks}
-use Rattle.books_model.specs.Interpreter.{outcome_of}
-use Rattle.books_model.specs.Laws.{RefusedChangesNothing}
-use Rattle.script_reader.specs.Input.{ClearingInput}
-use Rattle.books_report.specs.Output.{replies_of, books_after}
-use Rattle.txn_books.specs.declared.shape.BooksShape.{BooksShape}
-use Rattle.txn_books.specs.Layout.{words_of}
-use Rattle.txn_books.specs.Standing.{IsGoodFor, Stands}
-use Rattle.txn_books.specs.Meaning.{is_done, ScriptMeans}
+use Rattle.books_report.specs.Output.{replies_of}
+use Rattle.txn_books.specs.Meaning.{is_done}
 use Rattle.txn_commit.proofs.Orders.Interpreters.{answers_down, state_down, IsInterpreterStep}
-use Rattle.txn_commit.specs.Ordered.{IsRunInOrder}
 use Rattle.txn_commit.proofs.Orders.Stores.{all_answers, at_the_end, runs_to}
-use Rattle.word_table.specs.Closing.{ClosedView}
-use Rattle.worker_pool.specs.Days.{Done}
-use Rattle.worker_pool.specs.Days.{places_of_items}
+use Rattle.books_model.specs.declared.reply.Reply.TheVariants as reply
 
 not_done : (answer : Reply) → is_done answer ≡ false → (r : Reply) → answer ≡ r → (values : List Value) → r ≢ reply.Done values
 not_done answer refusal r same values e = let done : is_done answer ≡ true = ap is_done (same ∙ e) in absurd (true≢false (sym done ∙ refusal))

@@ -1,16 +1,11 @@
 -- One worker's passes are given back, from the last deque on.
-use Rattle.std.proofs.Common.{◌≡◌, ◌≢◌, ℕ, ◌+◌, ◌<◌, ◌≤◌, List, [], ◌∷◌, ◌++◌, set, length, get_or, sym, refl, ap, ◌∙◌, subst, arith, length-append, append-nil}
-use Rattle.std.proofs.lemmas.List.Sums.{sum_by-set, sum_by_push}
-use mathlib.Core.Logic.{dite}
-use native.Mathlib.Decide.{ℕ_discrete}
+use Rattle.worker_pool.proofs.Common.{◌≡◌, ◌≢◌, ℕ, ◌+◌, ◌<◌, ◌≤◌, List, [], ◌∷◌, ◌++◌, set, length, get_or, sym, refl, ap, ◌∙◌, subst, arith, length-append}
+use Rattle.worker_pool.proofs.Common.{append-nil, sum_by-set, sum_by_push, dite, ℕ_discrete, Pass, view, SameWorker, worker_view, Deal, times, deal, IsGuest}
+use Rattle.worker_pool.proofs.Common.{AreGuests, owners_took, stolen, length-set, get_or-set_other, get_or-set_same, get_or_append_left, get_or_default}
+use Rattle.worker_pool.proofs.Common.{get_or_push}
 use Rattle.crossbeam_deque.specs.declared.handles.Worker.{Worker}
-use Rattle.crossbeam_deque.specs.Handles.{Pass, view, SameWorker, worker_view}
-use Rattle.worker_pool.specs.declared.rule.Deal.{Deal}
-use Rattle.worker_pool.specs.Counting.{times}
-use Rattle.worker_pool.specs.Deques.{deal}
-use Rattle.worker_pool.specs.Inner.Ends.{IsGuest, AreGuests, HasMore, HaveMore, owners_took, stolen}
+use Rattle.worker_pool.specs.Inner.Ends.{HasMore}
 use Rattle.worker_pool.proofs.Steps.{times_append}
-use Rattle.std.proofs.lemmas.List.{length-set, get_or-set_other, get_or-set_same, get_or_append_left, get_or_default, get_or_push}
 
 module _ {A P : Type 0} where
   pub record Taking (ws0 ws : List (Worker ℕ A Deal P)) (ps0 ps : List (Pass ℕ Deal A)) : Type 0 where
@@ -82,6 +77,3 @@ module _ {A P : Type 0} where
     where
       e'' : worker_view o' ≡ deal ((worker_view o).parts + (view p).parts) ((worker_view o).dealt ++ (view p).dealt) ((worker_view o).taken ++ (view p).taken)
       e'' = e
-
-  pub taking_ends : (ws0 ws : List (Worker ℕ A Deal P)) (ps0 ps : List (Pass ℕ Deal A)) → length ps ≡ 0 → Taking ws0 ws ps0 ps → HaveMore 1 ws0 ws
-  taking_ends ws0 ws ps0 ps none t = record { count = t.count; each = λ k w lt. t.done k w (omega (arith, none)) lt }

@@ -1,12 +1,8 @@
 -- How many scripts one caller has.
-use Rattle.std.proofs.Common.{ℕ, ◌≤◌, [], length, ap, arith, lt_of_not-le}
+use Rattle.worker_pool.proofs.Common.{ℕ, ◌≤◌, [], length, ap, arith, lt_of_not-le, get_or-le-sum_by, caller_at, dite, dec_le, ClearingInput, IsInput}
+use Rattle.worker_pool.proofs.Common.{MOST_SCRIPTS}
+use Rattle.script_reader.proofs.Common.{Caller}
 use Rattle.std.proofs.lemmas.List.{get_or_past}
-use Rattle.std.proofs.lemmas.List.Sums.{get_or-le-sum_by}
-use Rattle.script_reader.specs.Gathered.{caller_at}
-use mathlib.Core.Logic.{dite}
-use native.Mathlib.Decide.{dec_le}
-use Rattle.script_reader.specs.Input.{Caller, ClearingInput, IsInput}
-use Rattle.script_reader.specs.declared.limits.TheConstants.{MOST_SCRIPTS}
 
 -- no caller has more scripts than an input may have
 pub few_scripts : (input : ClearingInput) → IsInput input → (c : ℕ) → length (caller_at input.callers c).scripts ≤ MOST_SCRIPTS

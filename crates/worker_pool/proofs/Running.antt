@@ -1,18 +1,9 @@
 -- One script more of a caller, and one caller more.
-use Rattle.std.proofs.Common.{◌≡◌, ℕ, zero, suc, ◌+◌, ◌<◌, ◌≤◌, ◌&&◌, ◌==◌, Bool, cond, List, [], ◌∷◌, ◌++◌, All, length, get_or, count_by, nat_lt, refl, sym}
-use Rattle.std.proofs.Common.{ap, ◌∙◌, subst, arith, if◌then◌else◌}
-use Rattle.std.proofs.lemmas.Bool.Decides.{nat_tests}
-use Rattle.std.proofs.lemmas.List.{map_push}
-use Rattle.std.proofs.lemmas.List.Elements.{All-nil, All-push, All-weaker}
+use Rattle.worker_pool.proofs.Common.{◌≡◌, ℕ, zero, suc, ◌+◌, ◌<◌, ◌≤◌, ◌&&◌, ◌==◌, Bool, cond, List, [], ◌∷◌, ◌++◌, All, length, get_or, count_by, nat_lt}
+use Rattle.worker_pool.proofs.Common.{refl, sym, ap, ◌∙◌, subst, arith, if◌then◌else◌, nat_tests, map_push, All-nil, All-push, All-weaker, sum_by_push}
+use Rattle.worker_pool.proofs.Common.{caller_at, ClearingInput, Place, IsPlace, Done, place_of_item, places_of_items, RanScripts, RunsEach}
 use Rattle.std.proofs.lemmas.List.Quantifiers.{all_pairs_push}
-use Rattle.std.proofs.lemmas.List.Sums.{sum_by_push}
-use Rattle.script_reader.specs.Gathered.{caller_at}
-use Rattle.script_reader.specs.Input.{ClearingInput}
-use Rattle.script_reader.specs.Journal.{Place, IsPlace}
 use Rattle.worker_pool.specs.Counting.{HadOneMore}
-use Rattle.worker_pool.specs.Days.{Done}
-use Rattle.worker_pool.specs.Days.{place_of_item, places_of_items}
-use Rattle.worker_pool.specs.Inner.Makers.{RanScripts, RunsEach}
 
 -- 1 if the test says so, and else 0
 abbrev pub one_if : Bool → ℕ
@@ -113,9 +104,6 @@ among_had input h c done r k d lt = some (h (get_or done k d).caller) refl
 few_before : (h more : ℕ → ℕ) (c : ℕ) → HadOneMore h more c → ((x : ℕ) → more x ≤ 1) → ((x : ℕ) → h x ≤ 1) × (h c ≡ 0)
 few_before h more c one few = (λ x. omega (arith, one x, few x), omega (arith, one c, few c, counts_itself c))
 
-other_caller : (n c : ℕ) (p : Place) → n ≤ c → p.caller < n → one_if (c == p.caller) ≡ 0
-other_caller n c p past there = grind (arith, nat_tests, past, there)
-
 module _ (input : ClearingInput) (h more : ℕ → ℕ) (c : ℕ) (one : HadOneMore h more c) where
   -- all scripts of one caller more
   pub runs_caller : (old new : List Done)
@@ -124,17 +112,6 @@ module _ (input : ClearingInput) (h more : ℕ → ℕ) (c : ℕ) (one : HadOneM
   runs_caller old new ran before few =
       let less = few_before h more c one few in
       next_caller input more 0 c new (ran_caller input h c more new one (ran less.1 (next_caller input h c 0 old (before less.0))))
-
-  -- a number that is no caller's is passed over
-  pub passes_over : (done : List Done) → length input.callers ≤ c → RunsEach input h done → RunsEach input more done
-  passes_over done past before few =
-      let r = before (few_before h more c one few).0 in
-      record {
-        only = r.only;
-        each = λ p there. omega (arith, r.each p there, one p.caller, other_caller (length input.callers) c p past there.0);
-        rising = r.rising;
-        among = λ k d lt none. r.among k d lt (omega (arith, one (get_or done k d).caller, none));
-      }
 
 -- the same items, if the same callers were had
 pub same_had : (input : ClearingInput) (h same : ℕ → ℕ) (done : List Done) → ((x : ℕ) → same x ≡ h x) → RunsEach input h done → RunsEach input same done

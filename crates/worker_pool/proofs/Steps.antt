@@ -1,22 +1,13 @@
 -- Each kind of step keeps the rule of a deque.
-use Rattle.std.proofs.Common.{◌≡◌, ◌≢◌, ℕ, ◌+◌, ◌-◌, ◌<◌, Bool, true, false, List, [], ◌∷◌, ◌++◌, set, length, sym, refl, ◌∙◌, subst}
-use Rattle.std.proofs.Common.{arith, ◌==◌, if◌then◌else◌, ne_eqb}
-use Rattle.std.specs.Prelude.{sum_by}
-use Rattle.std.proofs.lemmas.List.Sums.{sum_by-append}
+use Rattle.worker_pool.proofs.Common.{◌≡◌, ◌≢◌, ℕ, ◌+◌, ◌-◌, ◌<◌, Bool, true, false, List, [], ◌∷◌, ◌++◌, set, length, sym, refl, ◌∙◌, subst, arith, ◌==◌}
+use Rattle.worker_pool.proofs.Common.{if◌then◌else◌, sum_by, some, get_elem?, sum_by-append, Deal, ALL_PARTS, times, took, put, IsDealt, deal}
+use Rattle.std.proofs.Common.{ne_eqb}
 use Rattle.crossbeam_deque.specs.Tasks.{Pushes, Takes, Finds, FindsFew, Forks, Merges}
-use Rattle.worker_pool.specs.declared.rule.Deal.{Deal}
-use Rattle.worker_pool.specs.declared.rule.TheConstants.{ALL_PARTS}
-use Rattle.worker_pool.specs.Counting.{times}
-use Rattle.worker_pool.specs.Inner.Deals.{took, put, IsAllTaken, IsDealt}
-use Rattle.worker_pool.specs.Deques.{deal}
+use Rattle.worker_pool.specs.Inner.Deals.{IsAllTaken}
 use Rattle.worker_pool.proofs.Sums.{sum_at_set, alone}
 
 pub times_append : (x : ℕ) (xs ys : List ℕ) → times x (xs ++ ys) ≡ times x xs + times x ys
 times_append x xs ys = sum_by-append (λ (y : ℕ). if y == x then 1 else 0) xs ys
-
-if_none : (b : Bool) (n : ℕ) → b ≡ true → (if b then 0 else n) ≡ (if true then 0 else 0)
-if_none true n e = refl
-if_none false n e = absurd (Rattle.std.proofs.Common.true≢false (sym e))
 
 if_some : (b : Bool) (n : ℕ) → b ≡ false → (if b then 0 else n) ≡ n
 if_some true n e = absurd (Rattle.std.proofs.Common.true≢false e)
@@ -40,23 +31,21 @@ pub begins : IsDealt [] (deal ALL_PARTS [] [] ∷ [])
 begins = record { parts = refl; once = λ x. refl }
 
 module _ (port : ℕ) (v : Deal) where
+  -- what is counted over all views, if a pass with a part becomes another with a part
+  counted : (w : Deal) → 0 < v.parts → 0 < w.parts → (views : List Deal) → get_elem? views port ≡ some v → (x : ℕ)
+      → (sum_by (took x) (set views port w) + times x v.taken ≡ sum_by (took x) views + times x w.taken)
+      × (sum_by (put x) (set views port w) + times x v.dealt ≡ sum_by (put x) views + times x w.dealt)
+  counted w part left views at x = (
+    omega (arith, sum_at_set (took x) views port v w at, took_of x v part, took_of x w left),
+    omega (arith, sum_at_set (put x) views port v w at, put_of x v part, put_of x w left),
+  )
+
   pub pushes : (xs : List ℕ) → 0 < v.parts → Pushes IsDealt port v xs (λ w. w ≡ deal v.parts (v.dealt ++ xs) v.taken)
   pushes xs part items views h at = let w : Deal = deal v.parts (v.dealt ++ xs) v.taken in (
     w,
     record {
       parts = omega (arith, h.parts, sum_at_set (λ (u : Deal). u.parts) views port v w at);
-      once = λ x. omega (
-        arith,
-        h.once x,
-        sum_at_set (took x) views port v w at,
-        sum_at_set (put x) views port v w at,
-        took_of x v part,
-        put_of x v part,
-        took_of x w part,
-        put_of x w part,
-        times_append x v.dealt xs,
-        times_append x items xs,
-      );
+      once = λ x. let now = counted w part part views at x in omega (arith, h.once x, now.0, now.1, times_append x v.dealt xs, times_append x items xs);
     },
     refl,
   )
@@ -66,18 +55,7 @@ module _ (port : ℕ) (v : Deal) where
     w,
     record {
       parts = omega (arith, h.parts, sum_at_set (λ (u : Deal). u.parts) views port v w at);
-      once = λ x. omega (
-        arith,
-        h.once x,
-        sum_at_set (took x) views port v w at,
-        sum_at_set (put x) views port v w at,
-        took_of x v part,
-        put_of x v part,
-        took_of x w part,
-        put_of x w part,
-        times_append x v.taken xs,
-        times_append x xs items,
-      );
+      once = λ x. let now = counted w part part views at x in omega (arith, h.once x, now.0, now.1, times_append x v.taken xs, times_append x xs items);
     },
     refl,
   )
@@ -110,18 +88,9 @@ module _ (port : ℕ) (v : Deal) where
       let r : List Deal = deal 1 [] [] ∷ [] in
       record {
         parts = let P : Deal → ℕ = λ u. u.parts in omega (arith, h.parts, sum_at_set P views port v l at, sum_by-append P (set views port l) r);
-        once = λ x. omega (
-          arith,
-          h.once x,
-          sum_at_set (took x) views port v l at,
-          sum_at_set (put x) views port v l at,
-          sum_by-append (took x) (set views port l) r,
-          sum_by-append (put x) (set views port l) r,
-          took_of x v (omega arith),
-          put_of x v (omega arith),
-          took_of x l (omega arith),
-          put_of x l (omega arith),
-        );
+        once = λ x.
+            let now = counted l (omega arith) (omega arith) views at x in
+            omega (arith, h.once x, now.0, now.1, sum_by-append (took x) (set views port l) r, sum_by-append (put x) (set views port l) r);
       }
 
   pub merges : (other : ℕ) (u : Deal) → 0 < v.parts → 0 < u.parts
@@ -132,19 +101,15 @@ module _ (port : ℕ) (v : Deal) where
       let vs : List Deal = set views port b in
       record {
         parts = let P : Deal → ℕ = λ y. y.parts in omega (arith, h.parts, sum_at_set P views port v b at, sum_at_set P vs other u z at');
-        once = λ x. omega (
+        once = λ x. let now = counted b part (omega arith) views at x in omega (
           arith,
           h.once x,
-          sum_at_set (took x) views port v b at,
-          sum_at_set (put x) views port v b at,
+          now.0,
+          now.1,
           sum_at_set (took x) vs other u z at',
           sum_at_set (put x) vs other u z at',
-          took_of x v part,
-          put_of x v part,
           took_of x u part',
           put_of x u part',
-          took_of x b (omega arith),
-          put_of x b (omega arith),
           times_append x v.dealt u.dealt,
           times_append x v.taken u.taken,
         );

@@ -1,10 +1,7 @@
 -- Sums over all views of a table, if one view changes, and if one view has all; and a count as such a sum.
-use Rattle.std.proofs.Common.{◌≡◌, ℕ, zero, suc, ◌+◌, ◌<◌, ◌≤◌, ◌==◌, if◌then◌else◌, List, [], ◌∷◌, set, length, get_or, sym, refl, ap, subst, arith}
-use Rattle.std.specs.Prelude.{sum_by}
-use Rattle.std.proofs.lemmas.List.Sums.{sum_by-cons, sum_by-set}
-use Rattle.worker_pool.specs.Counting.{times}
-use mathlib.Core.Option.{some, some-injective, some-ne-none}
-use lib.ListN.{get_elem?}
+use Rattle.worker_pool.proofs.Common.{◌≡◌, ℕ, zero, suc, ◌+◌, ◌<◌, ◌≤◌, ◌==◌, if◌then◌else◌, List, [], ◌∷◌, set, length, get_or, sym, refl, ap, subst, arith}
+use Rattle.worker_pool.proofs.Common.{sum_by, sum_by-cons, sum_by-set, times, some, get_elem?}
+use mathlib.Core.Option.{some-injective, some-ne-none}
 
 module _ {X : Type 0} where
   stands : (xs : List X) (i : ℕ) (v : X) → get_elem? xs i ≡ some v → (i < length xs) × (get_or xs i v ≡ v)

@@ -1,17 +1,7 @@
 -- Of each caller all items are of one seat.
-use Rattle.std.proofs.Common.{◌≡◌, ℕ, ◌+◌, ◌<◌, ◌≤◌, List, [], ◌∷◌, All, flat_map, get_or, slice_get, Some, nat_lt, if◌then◌else◌, sym, ap, ◌∙◌}
-use Rattle.std.proofs.Common.{subst, arith}
-use Rattle.std.proofs.lemmas.Bool.Decides.{nat_tests}
-use Rattle.std.proofs.lemmas.List.Concat.{flat_map-cons}
-use Rattle.std.proofs.lemmas.List.Elements.{All-append, All-head, All-nil, All-tail}
-use Rattle.std.proofs.lemmas.List.Sums.{sum_by-cons}
-use Rattle.std.proofs.lemmas.Option.{get_or_from_slice_get, slice_get_within}
-use Rattle.script_reader.specs.Input.{ClearingInput}
-use Rattle.txn_books.specs.declared.shape.BooksShape.{BooksShape}
-use Rattle.word_table.specs.Desks.{DeskView}
-use Rattle.worker_pool.specs.Days.{Done}
-use Rattle.worker_pool.specs.Days.{AreCallersWhole}
-use Rattle.worker_pool.specs.Inner.Workers.{counted_number, IsDone, CountedShare}
+use Rattle.worker_pool.proofs.Common.{◌≡◌, ℕ, ◌+◌, ◌<◌, ◌≤◌, List, [], ◌∷◌, All, flat_map, get_or, slice_get, Some, nat_lt, if◌then◌else◌, sym, ap, ◌∙◌, subst}
+use Rattle.worker_pool.proofs.Common.{arith, nat_tests, flat_map-cons, All-append, All-head, All-nil, All-tail, sum_by-cons, get_or_from_slice_get}
+use Rattle.worker_pool.proofs.Common.{slice_get_within, ClearingInput, BooksShape, DeskView, Done, AreCallersWhole, counted_number, IsDone, CountedShare}
 use Rattle.worker_pool.proofs.Gathered.{among_total, items_of, total_had}
 use Rattle.worker_pool.proofs.Running.{among_had}
 

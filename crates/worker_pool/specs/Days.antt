@@ -17,11 +17,6 @@ use Rattle.txn_commit.specs.Lists.{IsEntryOf}
 use Rattle.txn_commit.specs.Ordered.{spot_of, IsRebuilt}
 use Rattle.books_model.specs.declared.reply.Reply.{Reply}
 
--- the desk is new, and these are all its passes
-pub record AreAllNew {S : Type 0} (desk : DeskView S) (passes : List PassView) : Type 0 where
-  pub count : length passes ≡ desk.seats
-  pub each : (j : ℕ) → j < desk.seats → slice_get passes j ≡ Some (fresh_pass desk.table desk.base desk.seats j)
-
 -- a script that was run
 abbrev pub Done : Type 0
 Done = lists.Done Reply

@@ -6,6 +6,7 @@
 //! two steps of any workers. What no worker took is run at the end by the calling thread.
 #![tactic(auto)]
 
+mod client;
 mod dealing;
 pub mod done;
 mod ends;

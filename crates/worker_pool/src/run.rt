@@ -1,21 +1,21 @@
 //! All workers of a day: a thread for each pass, and what they leave.
 
-ghost use Rattle.std.specs.Prelude.{ℕ, ◌≡◌, ◌<◌, ◌≤◌, ◌+◌, ◌*◌, ◌++◌, ◌∷◌, [], length, map, flat_map, All, false, IfOk, OnOk};
-ghost use Rattle.std.specs.List.{range_with_len};
-ghost use Rattle.crossbeam_utils.specs.Padded.{padded_value};
+ghost use Rattle.std.specs.Prelude.{ℕ, ◌≡◌, ◌<◌, ◌≤◌, ◌+◌, ◌*◌, ◌++◌, ◌∷◌, [], length, map, get_or, flat_map, All, IfOk, OnOk};
 ghost use Rattle.history_model.specs.Fitting.{IsGood};
 ghost use Rattle.script_reader.specs.declared.limits.TheConstants.{MOST_CALLERS, MOST_SCRIPTS};
+ghost use Rattle.txn_threads.specs.Passes.{AreNew};
 ghost use Rattle.txn_books.specs.Layout.{shape_of, words_of};
 ghost use Rattle.txn_books.specs.Standing.{IsGoodFor, Stands, StandsFor};
 ghost use Rattle.worker_pool.specs.declared.rule.TheConstants.{ALL_PARTS};
 ghost use Rattle.worker_pool.specs.Counting.{times};
-ghost use Rattle.worker_pool.specs.Days.{AreAllNew, AreCallersWhole, IsDay};
+ghost use Rattle.worker_pool.specs.Days.{AreCallersWhole, IsDay};
 ghost use Rattle.word_table.specs.Closing.{AreRecords, IsCoherent, IsLegalInEachOrder};
 ghost use Rattle.worker_pool.specs.Inner.Dealing.{AreDealtInTurn, AreShown, IsFree, IsNewRow};
 ghost use Rattle.worker_pool.specs.Inner.Makers.{HasMade, RunsEach};
 ghost use Rattle.worker_pool.specs.Inner.Queues.{dealt_to, IsDealtOut};
-ghost use Rattle.worker_pool.specs.Inner.Workers.{number_of, seat_of, workers_of, AreAllDone, IsTableFor, HasEndedItsPart, IsSeated};
+ghost use Rattle.worker_pool.specs.Inner.Workers.{seat_of, AreAllDone, worker_of, HaveDoneTheirParts, IsSeated, IsTableFor};
 
+use crate::client::WorkerClient;
 use crate::dealing::{Deques, deal_out};
 use crate::done::{DayEnd, Done};
 use crate::finish::take_what_is_left;
@@ -31,97 +31,59 @@ use order_rebuild::{Readers, order_counted};
 use script_reader::Input;
 use std::alloc::Global;
 use std::sync::Wait;
-use std::thread;
 use std::thread::Threads;
 use txn_books::BooksShape;
 use txn_commit::arrange;
+use txn_threads::lend;
 use word_table::{Desk, Pass};
 use worker_gate::Gate;
 
-// A worker for each pass, in their order: each gets the deque of its number, and a row of passes.
-// They stand apart: each writes what it has at every step, and a cache line that two of them shared
-// would go to and fro between their threads.
-fn seat_workers<R: Wait, G: Gate>(
-    work: &Work<R, G>,
-    passes: Vec<Pass<BooksShape>>,
-    mut owners: Vec<Owner>,
+// A worker for each deque, in their order, with its row of passes.
+fn seat_workers<'a, R: Wait, G: Gate>(
+    work: &Work<'a, R, G>,
+    owners: Vec<Owner>,
     mut rows: Vec<Vec<DequePass>>,
-) -> Result<Vec<CachePadded<Worker>>, OutOfMemory>
-    requires passes { AreAllNew work.now.desk.now passes.items }
-    requires count { (length owners.items ≡ length passes.items)
-        × (length rows.items ≡ length passes.items) }
-    requires few { length passes.items < ALL_PARTS }
+) -> Result<Vec<WorkerClient<'a, G>>, OutOfMemory>
+    requires count { length rows.items ≡ length owners.items }
+    requires few { length owners.items < ALL_PARTS }
     requires shown { AreShown work.now.stealers.now owners.items }
-    requires free { All (IsFree (length passes.items)) owners.items }
+    requires free { All (IsFree (length owners.items)) owners.items }
     requires rows { All (λ row. IsNewRow owners.items row.items) rows.items }
-    ensures seated { IfOk result (λ workers.
-        All (IsSeated work.now.stealers.now work.now.desk.now) (workers_of workers.items)) }
-    ensures numbers { IfOk result (λ workers.
-        map number_of (workers_of workers.items) ≡ range_with_len 0 work.now.desk.now.seats) }
-    ensures owners { IfOk result (λ workers.
-        map (λ worker. worker.queue.own) (workers_of workers.items) ≡ owners.items) }
+    ensures seated { IfOk result (λ clients.
+        All (λ client. IsSeated work.now.stealers.now (worker_of client.worker)) clients.items) }
+    ensures shared { IfOk result (λ clients. All (λ client.
+        (client.shape ≡ work.now.shape) × (client.stealers.now ≡ work.now.stealers.now)
+        × (client.input.now ≡ work.now.input.now)) clients.items) }
+    ensures seats { IfOk result (λ clients. (k : ℕ) (d : _) → k < length clients.items
+        → (worker_of (get_or clients.items k d).worker).queue.seat ≡ k) }
+    ensures owners { IfOk result (λ clients.
+        map (λ client. (worker_of client.worker).queue.own) clients.items ≡ owners.items) }
 {
-    let mut workers = Vec::new(work.alloc);
-    // They are taken from the end.
-    owners.reverse();
-    for pass in passes {
-        let Some(own) = owners.pop() else {
+    let mut clients = Vec::new(work.alloc);
+    for own in owners {
+        let Some(passes) = rows.pop() else {
             unreachable!()
         };
-        let Some(row) = rows.pop() else {
-            unreachable!()
-        };
-        let done = Vec::new(work.alloc);
         let readers = Readers::new(work.alloc)?;
-        workers.push(CachePadded::new(Worker {
+        let worker = Worker {
             queue: Queue {
                 own,
-                passes: row,
-                seat: workers.len(),
+                passes,
+                seat: clients.len(),
                 count: 0,
             },
-            share: Share {
-                pass,
-                done,
-                readers,
-            },
-            failed: false,
-        }))?;
+            done: Vec::new(work.alloc),
+            readers,
+        };
+        clients.push(WorkerClient {
+            worker: CachePadded::new(worker),
+            shape: work.shape,
+            stealers: work.stealers,
+            input: work.input,
+            gate: work.gate,
+        })?;
     }
-    Ok(workers)
-}
-
-// Each worker on a thread of its own.
-fn work_all<R: Threads + Wait + Sync, G: Gate + Sync>(
-    work: &Work<R, G>,
-    workers: &mut [CachePadded<Worker>],
-)
-    requires some { 0 < length workers.old }
-    requires fit { IsTableFor work.now.desk.now work.now.shape work.now.input.now }
-    requires seated { All (IsSeated work.now.stealers.now work.now.desk.now)
-        (workers_of workers.old) }
-    ensures ended { All (HasEndedItsPart work.now.stealers.now work.now.desk.now work.now.input.now)
-        (workers_of workers.new) }
-    ensures numbers { map number_of (workers_of workers.new)
-        ≡ map number_of (workers_of workers.old) }
-    ensures dealt { map (λ worker. dealt_to worker.queue) (workers_of workers.new)
-        ≡ map (λ worker. dealt_to worker.queue) (workers_of workers.old) }
-{
-    thread::for_each_mut(
-        work.rt,
-        workers,
-        workers.len(),
-        &|_, worker: &mut CachePadded<Worker>|
-            requires { IsTableFor work.now.desk.now work.now.shape work.now.input.now
-                × IsSeated work.now.stealers.now work.now.desk.now (padded_value worker.now) }
-            ensures { HasEndedItsPart work.entry.now.stealers.now work.entry.now.desk.now
-                work.entry.now.input.now (padded_value worker.exit.now)
-                × (number_of (padded_value worker.exit.now)
-                ≡ number_of (padded_value worker.entry.now))
-                × (dealt_to (padded_value worker.exit.now).queue
-                ≡ dealt_to (padded_value worker.entry.now).queue) }
-        { worker.work(work) },
-    );
+    Ok(clients)
 }
 
 /// What all workers leave, each list in their order.
@@ -132,24 +94,22 @@ pub(crate) struct Results {
     pub shares: Vec<Share>,
 }
 
-// What one worker leaves, behind what others left, unless it found no memory.
-fn add_worker(worker: Worker, all: &mut Results) -> Result<(), OutOfMemory>
-    ensures not_failed { OnOk result (worker.failed ≡ false) }
+// What one worker leaves, with its pass, behind what others left.
+fn add_worker(worker: Worker, pass: Pass<BooksShape>, all: &mut Results) -> Result<(), OutOfMemory>
     ensures owner { OnOk result (all.new.owners.items
         ≡ all.old.owners.items ++ worker.queue.own ∷ []) }
     ensures row { OnOk result (all.new.rows.items
         ≡ all.old.rows.items ++ worker.queue.passes ∷ []) }
-    ensures share { OnOk result (all.new.shares.items
-        ≡ all.old.shares.items ++ worker.share ∷ []) }
+    ensures pass { OnOk result (map (λ share. share.pass) all.new.shares.items
+        ≡ map (λ share. share.pass) all.old.shares.items ++ pass ∷ []) }
+    ensures done { OnOk result (map (λ share. share.done.items) all.new.shares.items
+        ≡ map (λ share. share.done.items) all.old.shares.items ++ worker.done.items ∷ []) }
 {
     let Worker {
         queue,
-        share,
-        failed,
+        done,
+        readers,
     } = worker;
-    if failed {
-        return Err(OutOfMemory);
-    }
     let Queue {
         own,
         passes,
@@ -158,28 +118,42 @@ fn add_worker(worker: Worker, all: &mut Results) -> Result<(), OutOfMemory>
     } = queue;
     all.owners.push(own)?;
     all.rows.push(passes)?;
-    all.shares.push(share)?;
+    all.shares.push(Share {
+        pass,
+        done,
+        readers,
+    })?;
     Ok(())
 }
 
-// What all workers leave, unless one of them found no memory.
-fn results_of(alloc: Global, workers: Vec<CachePadded<Worker>>) -> Result<Results, OutOfMemory>
-    ensures none_failed { IfOk result (λ _.
-        All (λ worker. worker.failed ≡ false) (workers_of workers.items)) }
-    ensures owners { IfOk result (λ all.
-        all.owners.items ≡ map (λ worker. worker.queue.own) (workers_of workers.items)) }
-    ensures rows { IfOk result (λ all.
-        all.rows.items ≡ map (λ worker. worker.queue.passes) (workers_of workers.items)) }
-    ensures shares { IfOk result (λ all.
-        all.shares.items ≡ map (λ worker. worker.share) (workers_of workers.items)) }
+// What all workers leave, with their passes.
+fn results_of<G: Gate>(
+    alloc: Global,
+    clients: Vec<WorkerClient<G>>,
+    mut passes: Vec<Pass<BooksShape>>,
+) -> Result<Results, OutOfMemory>
+    requires count { length passes.items ≡ length clients.items }
+    ensures owners { IfOk result (λ all. all.owners.items
+        ≡ map (λ client. (worker_of client.worker).queue.own) clients.entry.items) }
+    ensures rows { IfOk result (λ all. all.rows.items
+        ≡ map (λ client. (worker_of client.worker).queue.passes) clients.entry.items) }
+    ensures passes { IfOk result (λ all.
+        map (λ share. share.pass) all.shares.items ≡ passes.items) }
+    ensures done { IfOk result (λ all. map (λ share. share.done.items) all.shares.items
+        ≡ map (λ client. (worker_of client.worker).done.items) clients.entry.items) }
 {
     let mut all = Results {
         owners: Vec::new(alloc),
         rows: Vec::new(alloc),
         shares: Vec::new(alloc),
     };
-    for worker in workers {
-        add_worker(worker.into_inner(), &mut all)?;
+    // They are taken from the end.
+    passes.reverse();
+    for client in clients {
+        let Some(pass) = passes.pop() else {
+            unreachable!()
+        };
+        add_worker(client.worker.into_inner(), pass, &mut all)?;
     }
     Ok(all)
 }
@@ -203,7 +177,13 @@ fn run_left<R: Wait, G: Gate>(
         → RunsEach work.now.input.now more share.new.done.items) }
 {
     for caller in left {
-        run_caller(work, share, caller)?;
+        run_caller(
+            work,
+            &mut share.pass,
+            &mut share.done,
+            &mut share.readers,
+            caller,
+        )?;
     }
     Ok(())
 }
@@ -211,18 +191,16 @@ fn run_left<R: Wait, G: Gate>(
 // What no worker took is run by the calling thread, with the first pass.
 fn last_round<R: Wait, G: Gate>(
     work: &Work<R, G>,
-    workers: Vec<CachePadded<Worker>>,
+    clients: Vec<WorkerClient<G>>,
+    passes: Vec<Pass<BooksShape>>,
     mut left: Vec<u32>,
 ) -> Result<Vec<Share>, OutOfMemory>
-    requires some { 0 < length (workers_of workers.items) }
+    requires some { 0 < length clients.items }
     requires fit { IsTableFor work.now.desk.now work.now.shape work.now.input.now }
-    requires ended { All (HasEndedItsPart work.now.stealers.now work.now.desk.now work.now.input.now)
-        (workers_of workers.items) }
-    requires numbers { map number_of (workers_of workers.items)
-        ≡ range_with_len 0 work.now.desk.now.seats }
-    requires stealers { length work.now.stealers.now ≡ length (workers_of workers.items) }
+    requires ended { HaveDoneTheirParts work.now.stealers.now work.now.desk.now work.now.input.now
+        (map (λ client. worker_of client.worker) clients.items) passes.items }
     requires dealt { IsDealtOut (length work.now.input.now.callers)
-        (map (λ worker. dealt_to worker.queue) (workers_of workers.items)) left.items }
+        (map (λ client. dealt_to (worker_of client.worker).queue) clients.items) left.items }
     ensures { IfOk result (λ shares.
         AreAllDone work.now.desk.now work.now.input.now shares.items) }
 {
@@ -230,7 +208,7 @@ fn last_round<R: Wait, G: Gate>(
         owners,
         rows,
         mut shares,
-    } = results_of(work.alloc, workers)?;
+    } = results_of(work.alloc, clients, passes)?;
     take_what_is_left(work.rt, owners, rows, &mut left)?;
     run_left(work, &mut shares[0], left)?;
     Ok(shares)
@@ -245,7 +223,7 @@ fn run_all<R: Threads + Wait + Sync, G: Gate + Sync>(
     left: Vec<u32>,
 ) -> Result<Vec<Share>, OutOfMemory>
     requires fit { IsTableFor work.now.desk.now work.now.shape work.now.input.now }
-    requires passes { AreAllNew work.now.desk.now passes.items }
+    requires passes { AreNew work.now.desk.now passes.items }
     requires some { 0 < length passes.items }
     requires count { (length owners.items ≡ length passes.items)
         × (length rows.items ≡ length passes.items) }
@@ -257,9 +235,9 @@ fn run_all<R: Threads + Wait + Sync, G: Gate + Sync>(
     ensures { IfOk result (λ shares.
         AreAllDone work.now.desk.now work.now.input.now shares.items) }
 {
-    let mut workers = seat_workers(work, passes, owners, rows)?;
-    work_all(work, workers.as_mut_slice());
-    last_round(work, workers, left)
+    let clients = seat_workers(work, owners, rows)?;
+    let (clients, passes) = lend(work.rt, work.alloc, work.desk, clients, passes)?;
+    last_round(work, clients, passes, left)
 }
 
 // One share behind others.
@@ -344,7 +322,7 @@ pub fn run_callers<R: Threads + Wait + Sync, G: Gate + Sync>(
     input: &Input,
     gate: &G,
 ) -> Result<DayEnd, OutOfMemory>
-    requires passes { AreAllNew desk passes.items }
+    requires passes { AreNew desk passes.items }
     requires shape { desk.shape ≡ shape_of input.now.books }
     requires stands { StandsFor desk.base input.now.books }
     // The table of the day is that of the desk, closed.

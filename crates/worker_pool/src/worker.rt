@@ -9,8 +9,8 @@ ghost use Rattle.word_table.specs.declared.limits.TheConstants.{LAST_CALL};
 ghost use Rattle.worker_pool.specs.Counting.{HadOneMore};
 ghost use Rattle.worker_pool.specs.Days.{Done};
 ghost use Rattle.worker_pool.specs.Inner.Makers.{HasMade, RanScripts, RunsEach};
-ghost use Rattle.worker_pool.specs.Inner.Queues.{dealt_to};
-ghost use Rattle.worker_pool.specs.Inner.Workers.{number_of, IsTableFor, HasEndedItsPart, HasDoneItsPart, IsSeated};
+ghost use Rattle.txn_threads.specs.Passes.{IsFresh, IsNext};
+ghost use Rattle.worker_pool.specs.Inner.Workers.{DoesItsPart, IsTableFor, IsSeated};
 
 use crate::done::Done;
 use crate::heap::enlarge;
@@ -26,22 +26,21 @@ use txn_commit::transact;
 use word_table::Pass;
 use worker_gate::Gate;
 
-/// What was run by one pass.
+/// What a worker has for its own, beside its pass.
 #[derive(Drop)]
-pub(crate) struct Share {
-    pub pass: Pass<BooksShape>,
+pub(crate) struct Worker {
+    pub queue: Queue,
     pub done: Vec<Done>,
     /// How many of its items read each version of each lock.
     pub readers: Readers,
 }
 
-/// What a worker has for its own.
+/// What was run by one pass.
 #[derive(Drop)]
-pub(crate) struct Worker {
-    pub queue: Queue,
-    pub share: Share,
-    /// It found no memory, and ended before its work was done.
-    pub failed: bool,
+pub(crate) struct Share {
+    pub pass: Pass<BooksShape>,
+    pub done: Vec<Done>,
+    pub readers: Readers,
 }
 
 // The number by which a gate knows a script: a caller's own lie side by side.
@@ -64,7 +63,7 @@ fn run_script<R: Wait, G: Gate>(
     requires desk { pass.old.table ≡ work.now.desk.now.table }
     requires idle { pass.old.view.phase ≡ Idle }
     requires room { pass.old.view.call < LAST_CALL }
-    ensures who { pass.new.view.who ≡ pass.old.view.who }
+    ensures next { IsNext pass.old pass.new }
     ensures made { IfOk result (λ item. (done : List Done)
         → HasMade work.now.desk.now work.now.input.now (number pass.old.view) pass.old done
         → HasMade work.now.desk.now work.now.input.now (number pass.old.view)
@@ -108,7 +107,7 @@ fn run_scripts<R: Wait, G: Gate>(
         pass.old done.old.items }
     requires room { length done.old.items + length (caller_at work.now.input.now.callers caller).scripts
         ≤ LAST_CALL }
-    ensures who { pass.new.view.who ≡ pass.old.view.who }
+    ensures next { IsNext pass.old pass.new }
     ensures made { OnOk result (HasMade work.now.desk.now work.now.input.now
         (number pass.old.view) pass.new done.new.items) }
     ensures run { OnOk result ((h : ℕ → ℕ) → h caller ≡ 0
@@ -129,65 +128,52 @@ fn run_scripts<R: Wait, G: Gate>(
 /// All scripts of one caller, in their order. A number that is no caller's is passed over.
 pub(crate) fn run_caller<R: Wait, G: Gate>(
     work: &Work<R, G>,
-    share: &mut Share,
+    pass: &mut Pass<BooksShape>,
+    done: &mut Vec<Done>,
+    readers: &mut Readers,
     caller: u32,
 ) -> Result<(), OutOfMemory>
     requires fit { IsTableFor work.now.desk.now work.now.shape work.now.input.now }
-    requires made { HasMade work.now.desk.now work.now.input.now (number share.old.pass.view)
-        share.old.pass share.old.done.items }
-    requires room { length share.old.done.items + MOST_SCRIPTS ≤ LAST_CALL }
-    ensures who { share.new.pass.view.who ≡ share.old.pass.view.who }
+    requires made { HasMade work.now.desk.now work.now.input.now (number pass.old.view)
+        pass.old done.old.items }
+    requires room { length done.old.items + MOST_SCRIPTS ≤ LAST_CALL }
+    ensures next { IsNext pass.old pass.new }
     ensures made { OnOk result (HasMade work.now.desk.now work.now.input.now
-        (number share.old.pass.view) share.new.pass share.new.done.items) }
+        (number pass.old.view) pass.new done.new.items) }
     ensures run { OnOk result ((h more : ℕ → ℕ) → HadOneMore h more caller
-        → RunsEach work.now.input.now h share.old.done.items
-        → RunsEach work.now.input.now more share.new.done.items) }
-    ensures count { OnOk result (length share.new.done.items
-        ≤ length share.old.done.items + MOST_SCRIPTS) }
+        → RunsEach work.now.input.now h done.old.items
+        → RunsEach work.now.input.now more done.new.items) }
+    ensures count { OnOk result (length done.new.items ≤ length done.old.items + MOST_SCRIPTS) }
 {
     if caller < work.input.callers() {
-        run_scripts(
-            work,
-            &mut share.pass,
-            &mut share.done,
-            &mut share.readers,
-            caller,
-        )?;
+        run_scripts(work, pass, done, readers, caller)?;
     }
     Ok(())
 }
 
 impl Worker {
-    // Takes callers until it finds none.
-    fn run<R: Wait, G: Gate>(&mut self, work: &Work<R, G>) -> Result<(), OutOfMemory>
+    /// Takes callers and runs their scripts, until it finds none or there is no memory.
+    pub(crate) fn run<R: Wait, G: Gate>(
+        &mut self,
+        work: &Work<R, G>,
+        pass: &mut Pass<BooksShape>,
+    ) -> Result<(), OutOfMemory>
         requires fit { IsTableFor work.now.desk.now work.now.shape work.now.input.now }
-        requires seated { IsSeated work.now.stealers.now work.now.desk.now self.old }
-        ensures who { self.new.share.pass.view.who ≡ self.old.share.pass.view.who }
-        ensures dealt { dealt_to self.new.queue ≡ dealt_to self.old.queue }
-        ensures worked { OnOk result
-            (HasDoneItsPart work.now.stealers.now work.now.desk.now work.now.input.now self.new) }
+        requires seated { IsSeated work.now.stealers.now self.old }
+        requires fresh { IsFresh work.now.desk.now pass.old }
+        ensures next { IsNext pass.old pass.new }
+        ensures worked { OnOk result (DoesItsPart work.now.stealers.now work.now.desk.now
+            work.now.input.now self.old self.new pass.new) }
     {
         enlarge(work.alloc);
+        // Its number is all that says who it is.
+        pass.who();
         for _ in work.rt.forever() {
             let Some(caller) = self.queue.next(work.rt, work.stealers) else {
                 return Ok(());
             };
-            run_caller(work, &mut self.share, caller)?;
+            run_caller(work, pass, &mut self.done, &mut self.readers, caller)?;
         }
         unreachable!()
-    }
-
-    /// Takes callers and runs their scripts, until it finds none or there is no memory.
-    pub(crate) fn work<R: Wait, G: Gate>(&mut self, work: &Work<R, G>)
-        requires fit { IsTableFor work.now.desk.now work.now.shape work.now.input.now }
-        requires seated { IsSeated work.now.stealers.now work.now.desk.now self.old }
-        ensures number { number_of self.new ≡ number_of self.old }
-        ensures dealt { dealt_to self.new.queue ≡ dealt_to self.old.queue }
-        ensures ended { HasEndedItsPart work.now.stealers.now work.now.desk.now work.now.input.now
-            self.new }
-    {
-        if self.run(work).is_err() {
-            self.failed = true;
-        }
     }
 }

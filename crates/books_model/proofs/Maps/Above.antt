@@ -1,18 +1,17 @@
 -- The first entry above a key.
-use Rattle.std.proofs.Common.{◌≡◌, ℕ, ◌<◌, ◌≤◌, Bool, true, false, cond, ◌&&◌, List, [], ◌∷◌, Option, Some, None, IsSome, nat_lt, refl, sym, ap, subst, ◌∙◌}
-use Rattle.std.specs.List.{find, slice_get}
-use Rattle.std.specs.Ordering.{nat_cmp, is_lt, is_gt, ordering_reverse}
-use Rattle.std.specs.declared.cmp.Ordering.{Ordering}
-use Rattle.std.specs.declared.cmp.Ordering.TheVariants.{Less, Equal, Greater}
+use Rattle.books_model.proofs.Common.{◌≡◌, ℕ, ◌<◌, ◌≤◌, Bool, true, false, cond, ◌&&◌, List, [], ◌∷◌, Option, Some, None, IsSome, nat_lt, refl, sym, ap, subst}
+use Rattle.books_model.proofs.Common.{◌∙◌, slice_get, nat_cmp, is_lt, Ordering, Less, Equal, Greater, entries_between, IsTotalOrder, nat_cmp_total}
+use Rattle.std.specs.List.{find}
+use Rattle.std.specs.Ordering.{is_gt, ordering_reverse}
 use Rattle.std.specs.declared.ops.Bound.TheVariants.{Excluded, Unbounded}
-use Rattle.std.specs.BTreeMap as tree
-use Rattle.std.specs.BTreeMap.Range.{IsRangeOf, IsLtBy, IsLeBy, entries_between}
-use Rattle.std.specs.Cmp.{IsTotalOrder, nat_cmp_total, nat_cmp_is}
-use Rattle.std.specs.FinMap as map
+use Rattle.std.specs.BTreeMap.Range.{IsRangeOf, IsLtBy, IsLeBy}
+use Rattle.std.specs.Cmp.{nat_cmp_is}
 use Rattle.std.proofs.lemmas.Cmp.{ranked}
 use Rattle.std.proofs.lemmas.Map.Keys.{le_from_not_gt}
 use Rattle.books_model.proofs.Maps.Keys.{is_lt-nat_cmp}
 use Rattle.books_model.proofs.Maps.Trees.{get-lookup, entries-from_entries}
+use Rattle.std.specs.BTreeMap as tree
+use Rattle.std.specs.FinMap as map
 
 -- a test that passes puts an entry first in both searches, and one that fails leaves them
 first_of_both : {X : Type 0} (above : Bool) (e : X) (found : Option X) (kept : List X) → found ≡ slice_get kept 0

@@ -1,22 +1,15 @@
 -- Changes of a map, and how they are put into it.
-use Rattle.std.proofs.Common.{◌≡◌, ℕ, Bool, true, false, cond, List, [], ◌∷◌, Option, Some, None, IsSome, IfSome, IfNone, is_some, ◌⊎◌, inl, inr, refl, sym, ap}
-use Rattle.std.proofs.Common.{subst, ◌∙◌}
-use Rattle.std.specs.declared.cmp.Ordering.{Ordering}
-use Rattle.std.specs.Cmp.{IsTotalOrder, eq_by_cmp_equiv, tied_itself}
-use Rattle.std.specs.Ordering.{eq_by_cmp, is_eq}
-use Rattle.std.specs.BTreeMap.{is_at}
-use Rattle.std.specs.Map.{keys_of}
-use Rattle.std.specs.List.Sorted.{IsStrictlySortedBy}
-use Rattle.std.specs.FinMap.{FinMap, get, insert, remove, get-insert, get-remove, same_map}
+use Rattle.books_model.proofs.Common.{◌≡◌, ℕ, Bool, true, false, cond, List, [], ◌∷◌, Option, Some, None, IsSome, IfSome, is_some, ◌⊎◌, inl, inr, refl, sym, ap}
+use Rattle.books_model.proofs.Common.{subst, ◌∙◌, Ordering, IsTotalOrder, eq_by_cmp_equiv, tied_itself, eq_by_cmp, is_eq, is_at, keys_of, IsStrictlySortedBy}
+use Rattle.books_model.proofs.Common.{FinMap, get, insert, remove, get-insert, get-remove, same_map, CmpEqualImpliesEq, tells_apart, Change, set_at, changed}
+use Rattle.books_model.proofs.Common.{KnowBefore, HasRoomFor, IsRoomier}
+use Rattle.std.proofs.Common.{IfNone}
 use Rattle.std.proofs.lemmas.Map.{lookup-none}
 use Rattle.std.proofs.lemmas.Map.Entries.{lookup_head, none_past_head}
 use Rattle.std.proofs.lemmas.Map.Keys.{IsDistinct-from_sorted}
-use Rattle.std.proofs.lemmas.Map.Lookups.{CmpEqualImpliesEq}
-use Rattle.std.proofs.lemmas.Map.Views.{tells_apart}
 use Rattle.books_model.proofs.Maps.Comparing.{none_of}
 use Rattle.books_model.proofs.Maps.Trees.{stays_after_insert}
-use Rattle.books_model.specs.declared.overlay.Change.{Change}
-use Rattle.books_model.specs.Inner.Changes.{set_at, changed, change_at, new_value, KnowBefore, HasRoomFor, IsRoomier}
+use Rattle.books_model.specs.Inner.Changes.{change_at, new_value}
 
 -- what a change leaves at its key, or what was there if nothing is changed
 abbrev pub now_or : Option Change → Option ℕ → Option ℕ
@@ -225,21 +218,6 @@ module _ {K : Type 0} {R : K → K → Ordering} (o : IsTotalOrder R) where
             | None ↦ λ f. let found : IsSome {T = ℕ} None = subst IsSome f some in absurd (cc)
             | Some u ↦ λ _. refl
           ] is
-
-    -- no room is made before the first change
-    pub making-first : (before : FinMap R ℕ) (all : List (K × Change)) → IsMaking before all before all
-    making-first before all = record {
-      left = λ q change there. there;
-      roomier = record { kept = λ q _. refl; others = λ q _. refl };
-      room = λ q change there some. inr there;
-    }
-
-    -- if no change is left there is room for all
-    pub making-done : (before : FinMap R ℕ) (all : List (K × Change)) (now : FinMap R ℕ) → IsMaking before all now [] → HasRoomFor now all
-    making-done before all now h = λ q change there some. elim (h.room q change there some) [
-      | inl was ↦ was
-      | inr ahead ↦ absurd (cc)
-    ]
 
     module _ (before now : FinMap R ℕ) (e : K × Change) (es : List (K × Change)) (was : e.1.before ≡ get before e.0) (h : IsRoomier (e ∷ es) before now) where
       none_left : (q : K) → eq_by_cmp R q e.0 ≡ false → change_at R es q ≡ None → change_at R (e ∷ es) q ≡ None

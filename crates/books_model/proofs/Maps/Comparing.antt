@@ -1,6 +1,5 @@
 -- What tests of numbers, and of what was found, say.
-use Rattle.std.proofs.Common.{◌≡◌, ℕ, ◌<◌, ◌≤◌, false, ◌==◌, nat_lt, Option, Some, None, is_some, refl, arith}
-use Rattle.std.proofs.lemmas.Bool.Decides.{nat_tests}
+use Rattle.books_model.proofs.Common.{◌≡◌, ℕ, ◌<◌, ◌≤◌, false, ◌==◌, nat_lt, Option, Some, None, is_some, refl, arith, nat_tests}
 
 -- a number that is not 0 is at least 1
 pub at_least_one : (n : ℕ) → (n == 0) ≡ false → 1 ≤ n

@@ -1,20 +1,12 @@
 -- The entries of a finite map: what holds of them all, and sums over them.
-use Rattle.std.proofs.Common.{◌≡◌, ℕ, ◌+◌, ◌*◌, ◌-◌, ◌||◌, ◌<◌, ◌≤◌, Bool, true, false, cond, T, List, [], ◌∷◌, length, filter, Option, Some, None, IsSome}
-use Rattle.std.proofs.Common.{is_some, inl, inr, refl, sym, ap, subst, ◌∙◌, arith}
-use Rattle.std.specs.declared.cmp.Ordering.{Ordering}
-use Rattle.std.specs.declared.cmp.Ordering.TheVariants.{Less, Equal, Greater}
-use Rattle.std.specs.Cmp.{IsTotalOrder, tied_itself}
-use Rattle.std.specs.Ordering.{eq_by_cmp, is_eq}
-use Rattle.std.specs.List.{AllByRecursion, sum_by, list_any}
-use Rattle.std.specs.FinMap.{FinMap, get, insert, remove, len, entries, get-entries, get-empty, get-insert, get-remove, entries-insert, entries_sorted}
-use Rattle.std.specs.FinMap.{len-insert, len-remove, empty_of_len, same_map}
-use Rattle.std.specs.FinMap.Entries.{find, put, is_sorted, below_all, by_order}
-use Rattle.std.proofs.lemmas.Bool.{cases_lt}
-use Rattle.std.proofs.lemmas.List.Sums.{sum_by-cons}
-use Rattle.std.proofs.lemmas.Map.Lookups.{CmpEqualImpliesEq}
-use Rattle.std.proofs.lemmas.Map.Views.{tells_apart}
+use Rattle.books_model.proofs.Common.{◌≡◌, ℕ, ◌+◌, ◌*◌, ◌-◌, ◌||◌, ◌<◌, ◌≤◌, Bool, true, false, cond, List, [], ◌∷◌, length, Option, Some, None, IsSome}
+use Rattle.books_model.proofs.Common.{is_some, inl, inr, refl, sym, ap, subst, ◌∙◌, arith, Ordering, Less, Equal, Greater, IsTotalOrder, tied_itself, eq_by_cmp}
+use Rattle.books_model.proofs.Common.{is_eq, AllByRecursion, sum_by, list_any, FinMap, get, insert, remove, len, entries, get-insert, get-remove}
+use Rattle.books_model.proofs.Common.{entries-insert, len-insert, same_map, is_sorted, below_all, cases_lt, sum_by-cons, CmpEqualImpliesEq, tells_apart, set_at}
+use Rattle.std.proofs.Common.{T, filter}
+use Rattle.std.specs.FinMap.{get-entries, get-empty, entries_sorted, len-remove, empty_of_len}
+use Rattle.std.specs.FinMap.Entries.{find, put, by_order}
 use Rattle.books_model.proofs.Maps.Keys.{below_first, below_rest, sorted_first, sorted_rest, below_less}
-use Rattle.books_model.specs.Inner.Changes.{set_at}
 
 -- a property of all entries, at another function that is the same at them
 pub AllByRecursion-weaker : {X : Type 0} (P Q : X → Type 0) → ((x : X) → P x → Q x) → (xs : List X) → AllByRecursion P xs → AllByRecursion Q xs

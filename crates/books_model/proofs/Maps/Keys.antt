@@ -1,11 +1,6 @@
 -- Keys in order: in a list in order each is below those behind it.
+use Rattle.books_model.proofs.Common.{sym, subst, Ordering, Less, Equal, Greater, IsTotalOrder, nat_cmp, is_lt, below_all, is_sorted}
 use Rattle.std.specs.Prelude.{◌≡◌, ℕ, Bool, true, false, cond, nat_lt, ◌==◌, ◌&&◌, T, List, [], ◌∷◌, refl}
-use Rattle.std.proofs.Common.{sym, subst}
-use Rattle.std.specs.declared.cmp.Ordering.{Ordering}
-use Rattle.std.specs.declared.cmp.Ordering.TheVariants.{Less, Equal, Greater}
-use Rattle.std.specs.Cmp.{IsTotalOrder}
-use Rattle.std.specs.Ordering.{nat_cmp, is_lt}
-use Rattle.std.specs.FinMap.Entries.{below_all, is_sorted}
 
 first_of : (a b : Bool) → T (a && b) → T a
 first_of true b h = tt

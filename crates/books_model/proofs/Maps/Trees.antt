@@ -1,20 +1,11 @@
 -- What ties a `BTreeMap`, by its entries, to the finite map that the entries make.
-use Rattle.std.proofs.Common.{◌≡◌, Bool, true, false, cond, List, [], ◌∷◌, length, ◌+◌, ◌⊎◌, inl, inr, Option, Some, None, IsSome, is_some, refl, sym, ap}
-use Rattle.std.proofs.Common.{subst, ◌∙◌}
-use Rattle.std.specs.declared.cmp.Ordering.{Ordering}
-use Rattle.std.specs.declared.cmp.Ordering.TheVariants.{Less}
-use Rattle.std.specs.Cmp.{IsTotalOrder, eq_by_cmp_equiv}
-use Rattle.std.specs.Ordering.{eq_by_cmp}
-use Rattle.std.specs.BTreeMap.{is_at}
-use Rattle.std.specs.Map.{lookup, keys_of}
-use Rattle.std.specs.List.{AllByRecursion}
-use Rattle.std.specs.List.Sorted.{IsStrictlySortedBy}
-use Rattle.std.specs.FinMap.{FinMap, find, put, from_entries, entries, get, insert, remove, len, empty, get-from_entries, entries-insert, len-entries}
-use Rattle.std.specs.FinMap.{len-empty, len-insert, same_map, get-insert, get-remove}
-use Rattle.std.proofs.lemmas.List.{nil_from_length}
-use Rattle.std.proofs.lemmas.Map.Keys.{sorted_head, sorted_tail}
-use Rattle.std.proofs.lemmas.Map.Lookups.{CmpEqualImpliesEq}
-use Rattle.std.proofs.lemmas.Map.Views.{tells_apart}
+use Rattle.books_model.proofs.Common.{◌≡◌, Bool, true, false, cond, List, [], ◌∷◌, length, ◌+◌, ◌⊎◌, inl, inr, Option, Some, None, IsSome, is_some, refl, sym}
+use Rattle.books_model.proofs.Common.{ap, subst, ◌∙◌, Ordering, Less, IsTotalOrder, eq_by_cmp_equiv, eq_by_cmp, is_at, keys_of, AllByRecursion}
+use Rattle.books_model.proofs.Common.{IsStrictlySortedBy, FinMap, entries, get, insert, remove, len, entries-insert, len-insert, same_map, get-insert}
+use Rattle.books_model.proofs.Common.{get-remove, nil_from_length, sorted_tail, CmpEqualImpliesEq, tells_apart}
+use Rattle.std.specs.Map.{lookup}
+use Rattle.std.specs.FinMap.{find, put, from_entries, empty, get-from_entries, len-entries, len-empty}
+use Rattle.std.proofs.lemmas.Map.Keys.{sorted_head}
 use Rattle.std.proofs.lemmas.Option.{same_Some}
 pub use Rattle.books_model.specs.Inner.Keys.{positions_total, exact_positions}
 

@@ -1,24 +1,17 @@
 -- What operations do to all cash, and to all that is held of an instrument.
-use Rattle.std.proofs.Common.{◌≡◌, ℕ, ◌+◌, ◌-◌, ◌*◌, ◌≤◌, Bool, true, false, cond, not, ◌&&◌, ◌||◌, ◌==◌, nat_lt, Option, Some, None, unwrap_or, refl, sym, ap}
-use Rattle.std.proofs.Common.{◌∙◌, arith}
-use Rattle.std.specs.Cmp.{nat_cmp_total}
-use Rattle.std.specs.Ordering.{nat_cmp, eq_by_cmp}
-use Rattle.std.specs.FinMap as map
-use Rattle.std.proofs.lemmas.Bool.Decides.{nat_tests}
-use Rattle.std.proofs.lemmas.Map.Lookups.{exact_unsigned}
-use Rattle.std.proofs.lemmas.Map.Views.{tells_apart}
-use Rattle.books_model.specs.declared.limits.TheConstants.{GREATEST_CASH, GREATEST_QUANTITY}
-use Rattle.books_model.specs.declared.script.Op.TheVariants as op
-use Rattle.books_model.specs.declared.reply.Value.{Value}
-use Rattle.books_model.specs.declared.reply.Value.TheVariants as value
-use Rattle.books_model.specs.Books.{ClearingBooks, cash_of, position_of, price_of, put_cash}
-use Rattle.books_model.specs.Interpreter.{is_account, is_full, put_position, step_of}
+use Rattle.books_model.proofs.Common.{◌≡◌, ℕ, ◌+◌, ◌-◌, ◌*◌, ◌≤◌, Bool, true, false, cond, not, ◌&&◌, ◌||◌, ◌==◌, nat_lt, Option, Some, None, unwrap_or, refl}
+use Rattle.books_model.proofs.Common.{sym, ap, ◌∙◌, arith, nat_cmp_total, nat_cmp, eq_by_cmp, nat_tests, exact_unsigned, tells_apart, GREATEST_CASH}
+use Rattle.books_model.proofs.Common.{GREATEST_QUANTITY, Value, ClearingBooks, cash_of, position_of, price_of, put_cash, is_account, is_full, put_position}
+use Rattle.books_model.proofs.Common.{step_of}
 use Rattle.books_model.specs.Laws.{all_cash, all_held}
 use Rattle.books_model.proofs.Maps.Comparing.{enough, not_apart}
 use Rattle.books_model.proofs.Maps.Trees.{positions_total, exact_positions}
 use Rattle.books_model.proofs.Maps.Entries.{weigh, sum_by-set_at}
 use Rattle.books_model.proofs.Drafts.{put_position-apart}
 use Rattle.books_model.proofs.Scripts.Outcomes.{WhereDone, choice, gives, declines, finds_no_block}
+use Rattle.std.specs.FinMap as map
+use Rattle.books_model.specs.declared.script.Op.TheVariants as op
+use Rattle.books_model.specs.declared.reply.Value.TheVariants as value
 
 -- all cash, if one account has other cash
 all_cash-put_cash : (books : ClearingBooks) (a cash : ℕ) → all_cash (put_cash books a cash) + cash_of books a ≡ all_cash books + cash

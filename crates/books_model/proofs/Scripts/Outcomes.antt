@@ -1,17 +1,11 @@
 -- What holds of a step, and of the run of a script, wherever it is done.
-use Rattle.std.proofs.Common.{◌≡◌, ◌≢◌, ℕ, ◌+◌, Bool, true, false, if◌then◌else◌, List, [], ◌∷◌, ◌++◌, length, refl, ap, subst, ◌∙◌}
-use Rattle.books_model.specs.declared.script.Op.{Op}
-use Rattle.books_model.specs.declared.reply.Decline.{Decline}
-use Rattle.books_model.specs.declared.reply.Value.{Value}
+use Rattle.books_model.proofs.Common.{◌≡◌, ◌≢◌, ℕ, ◌+◌, Bool, true, false, if◌then◌else◌, List, [], ◌∷◌, ◌++◌, length, refl, ap, subst, ◌∙◌, Op, Decline, Value}
+use Rattle.books_model.proofs.Common.{Part, operations_in, Reply, ClearingBooks, Step, Gives, Declines, FindsNoBlock, Run, Ends, Stops, step_of, run_from}
+use Rattle.books_model.proofs.Common.{run_part, run_parts, then_run, after_value, after_values, after_step, outcome_from}
+use Rattle.books_model.specs.Interpreter.{either_of}
 use Rattle.books_model.specs.declared.reply.Value.TheVariants as value
-use Rattle.books_model.specs.declared.script.Part.{Part}
 use Rattle.books_model.specs.declared.script.Part.TheVariants as part
-use Rattle.books_model.specs.Scripts.{operations_in}
-use Rattle.books_model.specs.declared.reply.Reply.{Reply}
 use Rattle.books_model.specs.declared.reply.Reply.TheVariants as reply
-use Rattle.books_model.specs.Books.{ClearingBooks}
-use Rattle.books_model.specs.Interpreter.{Step, Gives, Declines, FindsNoBlock, Run, Ends, Stops, step_of, run_from, run_part}
-use Rattle.books_model.specs.Interpreter.{run_parts, then_run, either_of, after_value, after_values, after_step, outcome_from}
 
 -- what holds of the value and the books of a step that is done
 pub WhereDone : (Value → ClearingBooks → Type 0) → Step → Type 0

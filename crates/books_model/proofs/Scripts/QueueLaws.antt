@@ -1,21 +1,14 @@
 -- Margin calls are taken in the order in which they were queued.
-use Rattle.std.proofs.Common.{◌≡◌, ℕ, ◌+◌, List, [], ◌∷◌, ◌++◌}
-use Rattle.std.proofs.Common.{length, drop, suc, refl, sym, ap, ◌∙◌, arith, append-nil, append_assoc}
+use Rattle.books_model.proofs.Common.{◌≡◌, ℕ, ◌+◌, List, [], ◌∷◌, ◌++◌, length, drop, suc, refl, sym, ap, ◌∙◌, arith, append-nil, append_assoc}
+use Rattle.books_model.proofs.Common.{drop-append_seam, Op, Value, Part, operations_in, ClearingBooks, run_from, run_part, run_parts, step_of, Step, Gives}
+use Rattle.books_model.proofs.Common.{Declines, FindsNoBlock, queued_by, taken_by}
 use Rattle.std.specs.List.{flat_map, zip}
-use Rattle.std.proofs.Math.Seq.{drop-append_seam}
 use Rattle.std.proofs.lemmas.Grind.{flat_map-append}
-use Rattle.books_model.specs.declared.script.Op.{Op}
-use Rattle.books_model.specs.declared.reply.Value.{Value}
-use Rattle.books_model.specs.declared.reply.Value.TheVariants as value
-use Rattle.books_model.specs.declared.script.Part.{Part}
-use Rattle.books_model.specs.declared.script.Part.TheVariants as part
-use Rattle.books_model.specs.Scripts.{operations_in}
-use Rattle.books_model.specs.Books.{ClearingBooks}
-use Rattle.books_model.specs.Interpreter.{run_from, run_part, run_parts, step_of, Step, Gives, Declines, FindsNoBlock}
-use Rattle.books_model.specs.Laws.{queued_by, done_of, queued, taken_by}
+use Rattle.books_model.specs.Laws.{done_of, queued}
 use Rattle.books_model.proofs.Scripts.SizeLaws.{Keeps, step_keeps}
-use Rattle.books_model.proofs.Scripts.Outcomes.{WhereDone, WhereEnds, gives, declines}
-use Rattle.books_model.proofs.Scripts.Outcomes.{finds_no_block, step_first, run_first, either_holds, weaker, both}
+use Rattle.books_model.proofs.Scripts.Outcomes.{WhereDone, WhereEnds, gives, declines, finds_no_block, step_first, run_first, either_holds, weaker, both}
+use Rattle.books_model.specs.declared.reply.Value.TheVariants as value
+use Rattle.books_model.specs.declared.script.Part.TheVariants as part
 
 -- the margin calls that operations queue, each with its value
 abbrev queued_of : List (Op × Value) → List (ℕ × ℕ)

@@ -1,22 +1,15 @@
 -- Books stay in range, whatever is run on them.
-use Rattle.std.proofs.Common.{◌≡◌, ℕ, zero, suc, ◌+◌, ◌-◌, ◌*◌, ◌<◌, ◌≤◌, Bool, true, false, cond, not, ◌&&◌, ◌||◌, ◌==◌, nat_lt, List, [], ◌∷◌, length, drop}
-use Rattle.std.proofs.Common.{All, Option, Some, None, IsSome, is_some, unwrap_or, refl, sym, ap, subst, ◌∙◌, arith}
+use Rattle.books_model.proofs.Common.{◌≡◌, ℕ, zero, suc, ◌+◌, ◌-◌, ◌*◌, ◌<◌, ◌≤◌, Bool, true, false, cond, not, ◌&&◌, ◌||◌, ◌==◌, nat_lt, List, [], ◌∷◌, length}
+use Rattle.books_model.proofs.Common.{drop, All, Option, Some, None, IsSome, is_some, unwrap_or, refl, sym, ap, subst, ◌∙◌, arith, nat_cmp_total}
+use Rattle.books_model.proofs.Common.{AllByRecursion, All-weaker, GREATEST_CASH, GREATEST_QUANTITY, Op, Part, operations_in, operations_of, ClearingBooks}
+use Rattle.books_model.proofs.Common.{HaveSameSizes, cash_of, position_of, price_of, put_cash, used, AreInRange, IsWithin, IsAccountNumber, IsOperationFor}
+use Rattle.books_model.proofs.Common.{holds_any, is_account, is_full, margin_of, next_of, put_position, shortfall_of, worth_of, run_from, step_of, run_part}
+use Rattle.books_model.proofs.Common.{run_parts}
 use Rattle.std.proofs.Math.Nat.{mul-le-mul_left}
-use Rattle.std.specs.Cmp.{nat_cmp_total}
-use Rattle.std.specs.List.{AllByRecursion}
-use Rattle.std.specs.FinMap as map
 use Rattle.std.proofs.lemmas.Bool.{and_parts}
-use Rattle.std.proofs.lemmas.List.Elements.{All-weaker, recursion_from_All}
-use Rattle.books_model.specs.declared.limits.TheConstants.{GREATEST_CASH, GREATEST_QUANTITY, GREATEST_RATE, GREATEST_SHORTFALL}
-use Rattle.books_model.specs.declared.script.Op.{Op}
-use Rattle.books_model.specs.declared.script.Op.TheVariants as op
-use Rattle.books_model.specs.declared.script.Part.{Part}
-use Rattle.books_model.specs.declared.script.Part.TheVariants as part
-use Rattle.books_model.specs.Scripts.{operations_in, operations_of}
-use Rattle.books_model.specs.Books.{ClearingBooks, HaveSameSizes, cash_of, position_of, price_of, put_cash, used}
-use Rattle.books_model.specs.Ranges.{AreInRange, IsWithin, IsAccountNumber, IsOperationFor}
-use Rattle.books_model.specs.Interpreter.{holds_any, is_account, is_full, margin_of, next_of, put_position, shortfall_of, worth_of, run_from, step_of, trade_of}
-use Rattle.books_model.specs.Interpreter.{run_part, run_parts}
+use Rattle.std.proofs.lemmas.List.Elements.{recursion_from_All}
+use Rattle.books_model.specs.declared.limits.TheConstants.{GREATEST_RATE, GREATEST_SHORTFALL}
+use Rattle.books_model.specs.Interpreter.{trade_of}
 use Rattle.books_model.proofs.Maps.Comparing.{at_least_one, below_most, enough, none_of, not_apart}
 use Rattle.books_model.proofs.Maps.Trees.{stays_after_insert}
 use Rattle.books_model.proofs.InRange.{put_cash-in_range, put_call-in_range, change-in_range, used_after_insert}
@@ -27,6 +20,9 @@ use Rattle.books_model.proofs.Sums.{most_worth, worth_below, worth_first, worth_
 use Rattle.books_model.proofs.Scripts.Outcomes.{WhereDone, WhereEnds, choice, gives, declines, finds_no_block, step_first, run_first, either_holds, both}
 use Rattle.books_model.proofs.Scripts.Branches.{All-front, All-back}
 use Rattle.books_model.proofs.Scripts.SizeLaws.{part_keeps}
+use Rattle.std.specs.FinMap as map
+use Rattle.books_model.specs.declared.script.Op.TheVariants as op
+use Rattle.books_model.specs.declared.script.Part.TheVariants as part
 
 -- in range, with as many instruments
 abbrev pub Stays : ClearingBooks → ClearingBooks → Type 0

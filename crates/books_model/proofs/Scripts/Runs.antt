@@ -1,16 +1,10 @@
 -- A run of operations, and one of parts, from any of them on.
-use Rattle.std.proofs.Common.{◌≡◌, ℕ, ◌+◌, List, [], ◌∷◌, ◌++◌, length, map, refl, sym, ap, append_assoc, append-nil, ◌∙◌}
-use Rattle.books_model.specs.declared.script.Op.{Op}
-use Rattle.books_model.specs.declared.script.Part.{Part}
+use Rattle.books_model.proofs.Common.{◌≡◌, ℕ, ◌+◌, List, [], ◌∷◌, ◌++◌, length, refl, sym, ap, append_assoc, append-nil, ◌∙◌, Op, Part, operations_in, Value}
+use Rattle.books_model.proofs.Common.{Decline, Reply, ClearingBooks, Step, Gives, Declines, FindsNoBlock, Run, Ends, Stops, step_of, run_from, run_part}
+use Rattle.books_model.proofs.Common.{run_parts, then_run, after_value, after_values, after_step}
+use Rattle.std.proofs.Common.{map}
 use Rattle.books_model.specs.declared.script.Part.TheVariants as part
-use Rattle.books_model.specs.Scripts.{operations_in}
-use Rattle.books_model.specs.declared.reply.Value.{Value}
-use Rattle.books_model.specs.declared.reply.Decline.{Decline}
-use Rattle.books_model.specs.declared.reply.Reply.{Reply}
 use Rattle.books_model.specs.declared.reply.Reply.TheVariants as reply
-use Rattle.books_model.specs.Books.{ClearingBooks}
-use Rattle.books_model.specs.Interpreter.{Step, Gives, Declines, FindsNoBlock, Run, Ends, Stops, step_of, run_from}
-use Rattle.books_model.specs.Interpreter.{run_part, run_parts, then_run, after_value, after_values, after_step}
 
 -- one more value in front
 pub after_values-push : (vs : List Value) (v : Value) (run : Run) → after_values (vs ++ v ∷ []) run ≡ after_values vs (after_value v run)

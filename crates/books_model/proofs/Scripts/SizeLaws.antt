@@ -1,18 +1,12 @@
 -- No script changes the sizes of books, and each operation keeps the order of the queue.
-use Rattle.std.proofs.Common.{◌≡◌, ℕ, ◌+◌, cond, not, ◌&&◌, ◌==◌, nat_lt, List, [], ◌∷◌, ◌++◌, length, refl, ap, ◌∙◌, append-nil}
-use Rattle.std.specs.FinMap as map
-use Rattle.books_model.specs.declared.limits.TheConstants.{GREATEST_CASH}
-use Rattle.books_model.specs.declared.script.Op.{Op}
-use Rattle.books_model.specs.declared.script.Op.TheVariants as op
-use Rattle.books_model.specs.declared.script.Part.{Part}
-use Rattle.books_model.specs.declared.script.Part.TheVariants as part
-use Rattle.books_model.specs.Scripts.{operations_in}
-use Rattle.books_model.specs.declared.reply.Value.{Value}
-use Rattle.books_model.specs.Books.{ClearingBooks, HaveSameSizes, cash_of}
-use Rattle.books_model.specs.Interpreter.{holds_any, is_account, is_full, margin_of, next_of, shortfall_of, run_from, step_of, run_part, run_parts}
-use Rattle.books_model.specs.Laws.{queued_by, taken_by}
+use Rattle.books_model.proofs.Common.{◌≡◌, ℕ, ◌+◌, cond, not, ◌&&◌, ◌==◌, nat_lt, List, [], ◌∷◌, ◌++◌, length, refl, ap, ◌∙◌, append-nil, GREATEST_CASH, Op}
+use Rattle.books_model.proofs.Common.{Part, operations_in, Value, ClearingBooks, HaveSameSizes, cash_of, holds_any, is_account, is_full, margin_of, next_of}
+use Rattle.books_model.proofs.Common.{shortfall_of, run_from, step_of, run_part, run_parts, queued_by, taken_by}
 use Rattle.books_model.proofs.Scripts.CashLaws.{traded}
 use Rattle.books_model.proofs.Scripts.Outcomes.{WhereDone, WhereEnds, choice, gives, declines, finds_no_block, step_first, run_first, either_holds, weaker}
+use Rattle.std.specs.FinMap as map
+use Rattle.books_model.specs.declared.script.Op.TheVariants as op
+use Rattle.books_model.specs.declared.script.Part.TheVariants as part
 
 -- the sizes are those of the books before, and what was queued and what an operation queues is what it takes and what
 -- is queued after it

@@ -1,9 +1,7 @@
 -- What each operation keeps of a state, scripts keep.
-use Rattle.std.proofs.Common.{ℕ, ◌+◌, List, [], ◌∷◌, All, arith}
-use Rattle.std.proofs.lemmas.List.Elements.{All-tail}
-use Rattle.books_report.specs.Stores.Interpreter.{Step, Run, after_step, after_value, outcome_from, outcome_of, run_from}
-use Rattle.books_report.specs.Stores.Interpreter.Run.{Ends, Stops}
-use Rattle.books_report.specs.Stores.Interpreter.Step.{Gives, Absent, Full}
+use Rattle.books_report.proofs.Common.{ℕ, ◌+◌, List, [], ◌∷◌, All, arith, All-tail, Step, Run, after_step, after_value, outcome_from, run_from, Ends, Stops}
+use Rattle.books_report.proofs.Common.{Gives, Absent, Full}
+use Rattle.books_report.specs.Stores.Interpreter.{outcome_of}
 
 module _ {V X : Type 0} (Holds : X → Type 0) where
   -- the state that a step leaves, if it leaves any, is so

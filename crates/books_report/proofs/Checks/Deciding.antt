@@ -1,22 +1,12 @@
 -- A text is an output, or has a first wrong line.
-use Rattle.std.proofs.Common.{◌≡◌, ◌≢◌, ◌⊎◌, inl, inr, ℕ, zero, suc, ◌+◌, ◌<◌, ◌≤◌, List, [], ◌∷◌, ◌++◌, codes, length, refl, sym, ap, ◌∙◌, subst, append_assoc}
-use Rattle.std.proofs.Common.{append-nil, length-append, arith}
-use Rattle.std.specs.List.{concat}
-use Rattle.std.proofs.lemmas.Bool.{cases_lt}
-use Rattle.std.proofs.lemmas.Bool.Decides.{eqb_tells}
-use Rattle.script_reader.specs.Gathered.{caller_at}
-use Rattle.script_reader.specs.Text.{line}
-use Rattle.script_reader.specs.Input.{ClearingInput, IsInput, count_scripts}
-use Rattle.script_reader.specs.Journal.{Place}
-use Rattle.books_report.specs.Journals.{places_run, journal_line}
-use Rattle.books_report.specs.Output.{Ran, reply_to, books_after, IsOutput}
-use Rattle.books_report.specs.Checking.{MayFollow, FollowInTurn, journal_as_lines, closing_lines}
+use Rattle.books_report.proofs.Common.{◌≡◌, ◌≢◌, ◌⊎◌, inl, inr, ℕ, zero, suc, ◌+◌, ◌<◌, ◌≤◌, List, [], ◌∷◌, ◌++◌, codes, length, refl, sym, ap, ◌∙◌, subst}
+use Rattle.books_report.proofs.Common.{append_assoc, append-nil, length-append, arith, concat, cases_lt, eqb_tells, caller_at, line, ClearingInput, IsInput}
+use Rattle.books_report.proofs.Common.{count_scripts, Place, places_run, journal_line, Ran, reply_to, books_after, IsOutput, MayFollow, FollowInTurn}
+use Rattle.books_report.proofs.Common.{journal_as_lines, closing_lines, StopsBefore, StopsAfter, reply_words}
 use Rattle.books_report.specs.Statements.{HasWrongLine}
-use Rattle.books_report.specs.Inner.Audit.{StopsBefore, StopsAfter}
 use Rattle.books_report.proofs.Order.Turns.{turns, turns_more}
 use Rattle.books_report.proofs.Order.Histories.{journal_so_far}
 use Rattle.books_report.proofs.Checks.Wrong.{wrong_title, wrong_script, wrong_closing, is_output}
-use Rattle.books_report.specs.Words.{reply_words}
 
 -- a text begins with another, or does not
 pub begins_or_not : (p s : List ℕ) → ((after : List ℕ) × (s ≡ p ++ after)) ⊎ ((after : List ℕ) → s ≢ p ++ after)
@@ -40,9 +30,9 @@ some_below P tells (suc k) = by (tells k) (some_below P tells k)
     by (inr not) (inr none) = inr (λ i less p. elim (eqb_tells i k) [ inl at ↦ not (subst P at.1 p) | inr apart ↦ none i (omega (arith, less, apart.1)) p ])
 
 -- one line more is right
-pub stops_later : (line : List ℕ) (lines : List (List ℕ)) (text left : List ℕ) (count : ℕ) → text ≡ line ++ left
+pub stops_later : {line : List ℕ} {lines : List (List ℕ)} {text left : List ℕ} {count : ℕ} → text ≡ line ++ left
     → StopsAfter lines left count → StopsAfter (line ∷ lines) text (count + 1)
-stops_later line lines text left count is s = record {
+stops_later {line} {left} is s = record {
   done = line ∷ s.done;
   rest = s.rest;
   left = s.left;
@@ -53,13 +43,13 @@ stops_later line lines text left count is s = record {
 }
 
 -- a text stops at once if it does not begin with the first line, or goes on behind the last
-pub stops_here : (lines : List (List ℕ)) (text : List ℕ) → StopsBefore lines text → StopsAfter lines text 0
-stops_here lines text stops = record { done = []; rest = lines; left = text; lines_are = refl; text_is = refl; stops = stops; count_is = refl }
+pub stops_here : {lines : List (List ℕ)} {text : List ℕ} → StopsBefore lines text → StopsAfter lines text 0
+stops_here {lines} {text} stops = record { done = []; rest = lines; left = text; lines_are = refl; text_is = refl; stops = stops; count_is = refl }
 
 -- lines are a text, or it stops somewhere
 lines_or_not : (lines : List (List ℕ)) (text : List ℕ) → (text ≡ concat lines) ⊎ ((count : ℕ) × StopsAfter lines text count)
 lines_or_not [] [] = inl refl
-lines_or_not [] (b ∷ text) = inr (0, stops_here [] (b ∷ text) (λ e. cc))
+lines_or_not [] (b ∷ text) = inr (0, stops_here (λ e. cc))
 lines_or_not (line ∷ lines) text = by (begins_or_not line text) (lines_or_not lines)
   where
     by : ((left : List ℕ) × (text ≡ line ++ left)) ⊎ ((left : List ℕ) → text ≢ line ++ left)
@@ -70,8 +60,8 @@ lines_or_not (line ∷ lines) text = by (begins_or_not line text) (lines_or_not 
         on : (begins.0 ≡ concat lines) ⊎ ((count : ℕ) × StopsAfter lines begins.0 count)
             → (text ≡ concat (line ∷ lines)) ⊎ ((count : ℕ) × StopsAfter (line ∷ lines) text count)
         on (inl same) = inl (begins.1 ∙ ap (λ l. line ++ l) same)
-        on (inr (count, stops)) = inr (count + 1, stops_later line lines text begins.0 count begins.1 stops)
-    by (inr none) more = inr (0, stops_here (line ∷ lines) text none)
+        on (inr (count, stops)) = inr (count + 1, stops_later begins.1 stops)
+    by (inr none) more = inr (0, stops_here none)
 
 module _ (input : ClearingInput) (limit : ℕ) (ours : List Ran) (left : List ℕ) where
   -- the next script of a caller, with so many restarts
@@ -168,17 +158,17 @@ journal_more input ours ran =
         later = omega arith
 
 -- and what is left behind it
-pub text_more : (input : ClearingInput) (ours : List Ran) (ran : Ran) (text left after : List ℕ)
+pub text_more : (input : ClearingInput) (ours : List Ran) (ran : Ran) {text left : List ℕ} (after : List ℕ)
     → text ≡ concat (journal_so_far input ours) ++ left → left ≡ journal_line reply_words (length ours + 1)
     (caller_at input.callers ran.place.caller).name ran ++ after
     → text ≡ concat (journal_so_far input (ours ++ ran ∷ [])) ++ after
-text_more input ours ran text left after e is =
+text_more input ours ran after e is =
     e ∙ ap (λ l. concat (journal_so_far input ours) ++ l) is
     ∙ sym (append_assoc (concat (journal_so_far input ours))
     (journal_line reply_words (length ours + 1) (caller_at input.callers ran.place.caller).name ran) after)
     ∙ ap (λ l. l ++ after) (sym (journal_more input ours ran))
 
-module _ (input : ClearingInput) (limit : ℕ) (valid : IsInput input) (text : List ℕ) where
+module _ {input : ClearingInput} (limit : ℕ) (valid : IsInput input) (text : List ℕ) where
   -- behind scripts in turn
   decided_behind : (fuel : ℕ) (ours : List Ran) (left : List ℕ) → FollowInTurn input limit [] ours
       → text ≡ concat (journal_so_far input ours) ++ left → fuel + length ours ≡ count_scripts input.callers
@@ -191,8 +181,8 @@ module _ (input : ClearingInput) (limit : ℕ) (valid : IsInput input) (text : L
       by : (left ≡ concat (closing_lines (books_after input input.books (places_run ours))))
           ⊎ ((count : ℕ) × StopsAfter (closing_lines (books_after input input.books (places_run ours))) left count)
           → IsOutput input limit text ⊎ HasWrongLine input limit text
-      by (inl same) = inl (is_output input limit valid text ours left t e run same)
-      by (inr (count, s)) = inr (length ours + count + 2, wrong_closing input limit valid text ours left t e run count s)
+      by (inl same) = inl (is_output input limit valid ours left t e run same)
+      by (inr (count, s)) = inr (length ours + count + 2, wrong_closing limit valid ours left t e run s)
   decided_behind (suc fuel) ours left t e all = by (decided_behind fuel) (follows_or_not input limit ours left)
     where
       by : ((scripts : List Ran) (left : List ℕ) → FollowInTurn input limit [] scripts
@@ -201,9 +191,9 @@ module _ (input : ClearingInput) (limit : ℕ) (valid : IsInput input) (text : L
           → Follows input limit ours left ⊎ ((ran : Ran) (after : List ℕ) → MayFollow input limit ours ran
           → left ≢ journal_line reply_words (length ours + 1) (caller_at input.callers ran.place.caller).name ran ++ after)
           → IsOutput input limit text ⊎ HasWrongLine input limit text
-      by more (inl f) = more (ours ++ f.ran ∷ []) f.after (turns_more input limit [] ours f.ran t f.may)
-          (text_more input ours f.ran text left f.after e f.is) (omega (arith, all, length-append ours (f.ran ∷ [])))
-      by more (inr none) = inr (length ours + 2, wrong_script input limit valid text ours left t e (omega (arith, all)) none)
+      by more (inl f) = more (ours ++ f.ran ∷ []) f.after (turns_more [] ours t f.may)
+          (text_more input ours f.ran f.after e f.is) (omega (arith, all, length-append ours (f.ran ∷ [])))
+      by more (inr none) = inr (length ours + 2, wrong_script input limit valid ours left t e (omega (arith, all)) none)
 
   -- a text is an output, or has a first wrong line
   pub decided : IsOutput input limit text ⊎ HasWrongLine input limit text
@@ -213,4 +203,4 @@ module _ (input : ClearingInput) (limit : ℕ) (valid : IsInput input) (text : L
           ⊎ ((after : List ℕ) → text ≢ line (codes "journal" ∷ []) ++ after) → IsOutput input limit text ⊎ HasWrongLine input limit text
       by (inl begins) = decided_behind (count_scripts input.callers) [] begins.0 tt (begins.1
           ∙ ap (λ l. l ++ begins.0) (sym (append-nil (line (codes "journal" ∷ []))))) (omega arith)
-      by (inr none) = inr (1, wrong_title input limit valid text none)
+      by (inr none) = inr (1, wrong_title input limit valid none)

@@ -1,35 +1,29 @@
 -- First wrong lines.
-use Rattle.std.proofs.Common.{◌≡◌, ◌≢◌, ℕ, ◌+◌, ◌<◌, List, [], ◌∷◌, ◌++◌, codes, length, refl, sym, ap, ◌∙◌, subst, append_assoc, append-nil, length-append}
-use Rattle.std.proofs.Common.{arith}
-use Rattle.std.specs.List.{AllByRecursion, concat}
-use Rattle.std.proofs.lemmas.List.{append_cancel_left, length-map}
+use Rattle.books_report.proofs.Common.{◌≡◌, ◌≢◌, ℕ, ◌+◌, ◌<◌, List, [], ◌∷◌, ◌++◌, codes, length, refl, sym, ap, ◌∙◌, subst, append_assoc, append-nil}
+use Rattle.books_report.proofs.Common.{length-append, arith, AllByRecursion, concat, length-map, caller_at, line, ClearingInput, IsInput, count_scripts}
+use Rattle.books_report.proofs.Common.{places_run, journal_line, Ran, books_after, IsOutput, MayFollow, FollowInTurn, journal_as_lines, closing_lines}
+use Rattle.books_report.proofs.Common.{lines_behind, output_lines, IsFirstWrongLine, StopsBefore, StopsAfter, reply_words}
+use Rattle.std.proofs.lemmas.List.{append_cancel_left}
 use Rattle.std.proofs.lemmas.List.Elements.{All-from_recursion}
-use Rattle.script_reader.specs.Gathered.{caller_at}
-use Rattle.script_reader.specs.Text.{line}
-use Rattle.script_reader.specs.Input.{ClearingInput, IsInput, count_scripts}
-use Rattle.books_report.specs.Journals.{places_run, journal_line}
-use Rattle.books_report.specs.Output.{Ran, books_after, IsOutput}
-use Rattle.books_report.specs.Checking.{MayFollow, FollowInTurn, journal_as_lines, closing_lines, lines_behind, output_lines, CanBegin, IsFirstWrongLine}
-use Rattle.books_report.specs.Inner.Audit.{StopsBefore, StopsAfter}
+use Rattle.books_report.specs.Checking.{CanBegin}
 use Rattle.books_report.proofs.Order.Turns.{gone_of, journal_of_turns, length_of_journal, turns_of_journal, below_of_turns, replies_of_turns}
 use Rattle.books_report.proofs.Outputs.Rows.{IsRow, row_some, all_first, concat-both, output_rows, output_text, behind_all, behind_some}
 use Rattle.books_report.proofs.Checks.Comparing.{Compared, AreSame, IsShorter, IsLonger, compared}
 use Rattle.books_report.proofs.Order.Histories.{journal_so_far, length-lines_of, follows_others, GoesOn, goes_on_behind, length_of_same, closing_of_all}
-use Rattle.books_report.specs.Words.{reply_words}
 
 -- the first line behind others is one line
-row_behind : (xs : List (List ℕ)) (y : List ℕ) (ys : List (List ℕ)) → AllByRecursion IsRow (xs ++ y ∷ ys) → IsRow y
-row_behind [] y ys rows = rows.0
-row_behind (x ∷ xs) y ys rows = row_behind xs y ys rows.1
+row_behind : (xs : List (List ℕ)) {y : List ℕ} (ys : List (List ℕ)) → AllByRecursion IsRow (xs ++ y ∷ ys) → IsRow y
+row_behind [] ys rows = rows.0
+row_behind (x ∷ xs) ys rows = row_behind xs ys rows.1
 
 -- one line more, and those behind it
 one_more : (xs : List (List ℕ)) (y : List ℕ) (ys zs : List (List ℕ)) → (xs ++ y ∷ ys) ++ zs ≡ (xs ++ y ∷ []) ++ (ys ++ zs)
-one_more xs y ys zs = append_assoc xs (y ∷ ys) zs ∙ sym (append_assoc xs (y ∷ []) (ys ++ zs))
+one_more xs y ys zs = simp append_assoc
 
 module _ (input : ClearingInput) (limit : ℕ) (valid : IsInput input) where
   -- lines with which an output can begin are lines
-  begin_rows : (lines : List (List ℕ)) → CanBegin input limit lines → AllByRecursion IsRow lines
-  begin_rows lines h = all_first IsRow lines h.more (subst (AllByRecursion IsRow) h.lines_are (output_rows input limit valid h.scripts h.in_turn))
+  begin_rows : {lines : List (List ℕ)} → CanBegin input limit lines → AllByRecursion IsRow lines
+  begin_rows {lines} h = all_first IsRow lines h.more (subst (AllByRecursion IsRow) h.lines_are (output_rows limit valid h.scripts h.in_turn))
 
   -- it can begin with fewer of them
   begins_sooner : (front : List (List ℕ)) (next : List ℕ) (more : List (List ℕ))
@@ -43,25 +37,25 @@ module _ (input : ClearingInput) (limit : ℕ) (valid : IsInput input) where
   }
 
   -- what is left behind right lines does not begin with a right one
-  stops_there : (text : List ℕ) (number : ℕ) (w : IsFirstWrongLine input limit text number) (next : List ℕ) (more : List (List ℕ)) (left : List ℕ)
+  stops_there : {text : List ℕ} {number : ℕ} (w : IsFirstWrongLine input limit text number) (next : List ℕ) (more : List (List ℕ)) (left : List ℕ)
       → CanBegin input limit (w.before ++ next ∷ more) → w.left ≡ concat (next ∷ more) ++ left → ⊥
-  stops_there text number w next more left h e =
+  stops_there w next more left h e =
       w.wrong next (concat more ++ left) (begins_sooner w.before next more h) (e ∙ append_assoc next (concat more) left)
 
   -- there is one first wrong line at most
   pub one_wrong : (text : List ℕ) (number other : ℕ) → IsFirstWrongLine input limit text number → IsFirstWrongLine input limit text other → number ≡ other
   one_wrong text number other w v =
-      by (compared w.before v.before w.left v.left (begin_rows w.before w.right) (begin_rows v.before v.right) (sym w.text_is ∙ v.text_is))
+      by (compared w.before v.before (begin_rows w.right) (begin_rows v.right) (sym w.text_is ∙ v.text_is))
     where
       by : Compared w.before v.before w.left v.left → number ≡ other
       by (AreSame lines left) = w.number_is ∙ ap (λ l. length l + 1) lines ∙ sym v.number_is
-      by (IsShorter next more lines left) = absurd (stops_there text number w next more v.left (subst (CanBegin input limit) lines v.right) left)
-      by (IsLonger next more lines left) = absurd (stops_there text other v next more w.left (subst (CanBegin input limit) lines w.right) left)
+      by (IsShorter next more lines left) = absurd (stops_there w next more v.left (subst (CanBegin input limit) lines v.right) left)
+      by (IsLonger next more lines left) = absurd (stops_there v next more w.left (subst (CanBegin input limit) lines w.right) left)
 
   -- an output has none
   pub none_of_output : (text : List ℕ) (number : ℕ) → IsOutput input limit text → IsFirstWrongLine input limit text number → ⊥
   none_of_output text number o w =
-      by (compared w.before lines w.left [] (begin_rows w.before w.right) (output_rows input limit valid o.scripts in_turn) (sym w.text_is ∙ text_is))
+      by (compared w.before lines (begin_rows w.right) (output_rows limit valid o.scripts in_turn) (sym w.text_is ∙ text_is))
     where
       in_turn : FollowInTurn input limit [] o.scripts
       in_turn = turns_of_journal input limit [] o.scripts o.journal o.below o.replies
@@ -78,7 +72,7 @@ module _ (input : ClearingInput) (limit : ℕ) (valid : IsInput input) where
       by : Compared w.before lines w.left [] → ⊥
       by (AreSame same left) = w.unfinished (record { scripts = o.scripts; in_turn = in_turn; run = run; lines_are = sym same }) left
       by (IsShorter next more same left) =
-          stops_there text number w next more [] (record {
+          stops_there w next more [] (record {
             scripts = o.scripts;
             in_turn = in_turn;
             more =
@@ -86,13 +80,13 @@ module _ (input : ClearingInput) (limit : ℕ) (valid : IsInput input) where
             lines_are = same ∙ sym (append-nil (w.before ++ next ∷ more));
           }) left
       by (IsLonger next more same left) =
-          row_some next (concat more ++ w.left)
-          (row_behind lines next more (subst (AllByRecursion IsRow) same (begin_rows w.before w.right)))
+          row_some (concat more ++ w.left)
+          (row_behind lines more (subst (AllByRecursion IsRow) same (begin_rows w.right)))
           (sym (append_assoc next (concat more) w.left) ∙ sym left)
 
   -- a text that does not begin with the first line of an output
-  pub wrong_title : (text : List ℕ) → ((after : List ℕ) → text ≢ line (codes "journal" ∷ []) ++ after) → IsFirstWrongLine input limit text 1
-  wrong_title text none = record {
+  pub wrong_title : {text : List ℕ} → ((after : List ℕ) → text ≢ line (codes "journal" ∷ []) ++ after) → IsFirstWrongLine input limit text 1
+  wrong_title {text} none = record {
     before = [];
     left = text;
     text_is = refl;
@@ -108,7 +102,7 @@ module _ (input : ClearingInput) (limit : ℕ) (valid : IsInput input) where
       nothing : (scripts : List Ran) → output_lines input scripts ≡ [] → ⊥
       nothing scripts e = cc
 
-  module _ (text : List ℕ) (ours : List Ran) (left : List ℕ) (t : FollowInTurn input limit [] ours) (text_is : text
+  module _ {text : List ℕ} (ours : List Ran) (left : List ℕ) (t : FollowInTurn input limit [] ours) (text_is : text
       ≡ concat (journal_so_far input ours) ++ left) where
     -- behind scripts in turn, a script is left, and no line of one that may come next
     pub wrong_script : length ours < count_scripts input.callers
@@ -144,18 +138,18 @@ module _ (input : ClearingInput) (limit : ℕ) (valid : IsInput input) where
         next_is next theirs u more e after is = by g.more g.in_turn g.parts g.lines
           where
             g : GoesOn input limit [] [] ours theirs 1 (next ∷ more) (lines_behind input theirs)
-            g = goes_on_behind input limit valid ours theirs (next ∷ more) t u (omega (arith, less)) e
+            g = goes_on_behind limit valid t u (omega (arith, less)) e
 
             by : (rest : List Ran) → FollowInTurn input limit g.same rest → theirs ≡ g.same ++ rest
                 → journal_as_lines input (1 + length ours) rest ++ lines_behind input theirs ≡ next ∷ more → ⊥
             by [] turns parts lines =
                 let few : length theirs ≡ length ours = ap length (parts ∙ append-nil g.same)
-                ∙ length_of_same input limit valid ours theirs (next ∷ more) (lines_behind input theirs) g in
+                ∙ length_of_same limit valid g in
                 omega (arith, ap length lines, ap length (behind_some input theirs (omega (arith, few, less))))
             by (ran ∷ rest) turns parts lines =
                 let number : 1 + length ours ≡ length ours + 1 = omega arith in
                 let line_is : journal_line reply_words (1 + length ours) (caller_at input.callers ran.place.caller).name ran ≡ next = cc in
-                none ran after (follows_others input limit g.same ours ran g.places turns.0)
+                none ran after (follows_others g.places turns.0)
                 (is ∙ ap (λ l. l ++ after) (sym line_is ∙ ap (λ n. journal_line reply_words n (caller_at input.callers ran.place.caller).name ran) number))
 
     -- behind all scripts, the lines of the books and the last one
@@ -163,7 +157,7 @@ module _ (input : ClearingInput) (limit : ℕ) (valid : IsInput input) where
         → left ≡ concat (closing_lines (books_after input input.books (places_run ours))) → IsOutput input limit text
     is_output all is = record {
       scripts = ours;
-      journal = journal_of_turns input (places_run ours) (gone_of input limit ours t) (length-map ours (λ (r : Ran). r.place) ∙ all);
+      journal = journal_of_turns (gone_of limit ours t) (length-map ours (λ (r : Ran). r.place) ∙ all);
       below = All-from_recursion (λ (r : Ran). r.restarts < limit) ours (below_of_turns input limit [] ours t);
       replies = replies_of_turns input limit [] ours t;
       text_is =
@@ -171,12 +165,12 @@ module _ (input : ClearingInput) (limit : ℕ) (valid : IsInput input) where
           ∙ sym (concat-both (journal_so_far input ours) (lines_behind input ours)) ∙ output_text input ours all;
     }
 
-module _ (input : ClearingInput) (limit : ℕ) (valid : IsInput input) (text : List ℕ) (ours : List Ran) (left : List ℕ)
+module _ {input : ClearingInput} (limit : ℕ) (valid : IsInput input) {text : List ℕ} (ours : List Ran) (left : List ℕ)
     (t : FollowInTurn input limit [] ours) (text_is : text ≡ concat (journal_so_far input ours) ++ left) where
   -- behind all scripts, some of the lines of the books, and then another line than the next, or something behind the last
-  pub wrong_closing : length ours ≡ count_scripts input.callers → (count : ℕ)
+  pub wrong_closing : length ours ≡ count_scripts input.callers → {count : ℕ}
       → StopsAfter (closing_lines (books_after input input.books (places_run ours))) left count → IsFirstWrongLine input limit text (length ours + count + 2)
-  wrong_closing all count s = record {
+  wrong_closing all s = record {
     before = journal_so_far input ours ++ s.done;
     left = s.left;
     text_is = text_is ∙ ap (λ l. concat (journal_so_far input ours) ++ l) s.text_is
@@ -191,11 +185,11 @@ module _ (input : ClearingInput) (limit : ℕ) (valid : IsInput input) (text : L
     };
     wrong = λ next behind h e. stops_at s.rest s.stops next h.more
         (append_cancel_left s.done s.rest (next ∷ h.more) (sym s.lines_are
-        ∙ closing_of_all input limit valid ours h.scripts (s.done ++ next ∷ h.more) t h.in_turn all
+        ∙ closing_of_all limit valid ours h.scripts t h.in_turn all
         (h.lines_are ∙ append_assoc (journal_so_far input ours ++ s.done) (next ∷ []) h.more
         ∙ append_assoc (journal_so_far input ours) s.done (next ∷ h.more)))) behind e;
     unfinished = λ h. ends_at s.rest s.stops (append_cancel_left s.done s.rest [] (sym s.lines_are
-        ∙ closing_of_all input limit valid ours h.scripts s.done t h.in_turn all h.lines_are ∙ sym (append-nil s.done)));
+        ∙ closing_of_all limit valid ours h.scripts t h.in_turn all h.lines_are ∙ sym (append-nil s.done)));
     number_is = omega (arith, length-append (journal_so_far input ours) s.done, length-lines_of input 1 ours, s.count_is);
   }
     where

@@ -1,21 +1,18 @@
 -- Scripts that follow in turn are those of a journal, and those of a journal follow in turn.
-use Rattle.std.proofs.Common.{◌≡◌, ◌≢◌, ℕ, suc, ◌+◌, ◌<◌, ◌≤◌, ◌==◌, ◌&&◌, Bool, true, false, cond, nat_lt, List, [], ◌∷◌, ◌++◌, length, map, get_or, count_by}
-use Rattle.std.proofs.Common.{All, AllPairs, inl, inr, refl, sym, ap, ◌∙◌, subst, append_assoc, append-nil, length-append, arith}
-use Rattle.std.specs.List.{AllByRecursion}
-use Rattle.std.proofs.lemmas.List.{map_push, get_or_append_left, get_or_at, get_or-append-add, map-append}
-use Rattle.std.proofs.lemmas.List.Sums.{sum_by_push, sum_by-append}
-use Rattle.std.proofs.lemmas.List.Elements.{All-nil, All-push, All-weaker, All-head, All-tail, recursion_from_All}
+use Rattle.books_report.proofs.Common.{◌≡◌, ◌≢◌, ℕ, suc, ◌+◌, ◌<◌, ◌≤◌, ◌==◌, ◌&&◌, Bool, true, false, cond, nat_lt, List, [], ◌∷◌, ◌++◌, length, map, get_or}
+use Rattle.books_report.proofs.Common.{count_by, All, inl, inr, refl, sym, ap, ◌∙◌, subst, append_assoc, append-nil, length-append, arith, AllByRecursion}
+use Rattle.books_report.proofs.Common.{map_push, sum_by-append, All-weaker, All-tail, recursion_from_All, eq-eqb, ne_eqb, nat_tests, eqb_tells, caller_at}
+use Rattle.books_report.proofs.Common.{ClearingBooks, Caller, ClearingInput, count_scripts, Place, IsPlace, places_run, Ran, books_left, books_after, IsNext}
+use Rattle.books_report.proofs.Common.{MayFollow, FollowInTurn}
+use Rattle.std.proofs.Common.{AllPairs}
+use Rattle.std.proofs.lemmas.List.{get_or_append_left, get_or_at, get_or-append-add, map-append}
+use Rattle.std.proofs.lemmas.List.Sums.{sum_by_push}
+use Rattle.std.proofs.lemmas.List.Elements.{All-nil, All-push, All-head}
 use Rattle.std.proofs.lemmas.List.Quantifiers.{all_pairs_push}
-use Rattle.std.proofs.lemmas.Bool.{eqb-true, eq-eqb, ne_eqb}
-use Rattle.std.proofs.lemmas.Bool.Decides.{nat_tests, eqb_tells}
-use Rattle.script_reader.specs.Gathered.{caller_at}
-use Rattle.books_model.specs.Books.{ClearingBooks}
-use Rattle.script_reader.specs.Input.{Caller, ClearingInput, count_scripts}
-use Rattle.script_reader.specs.Journal.{Place, IsPlace, IsJournal}
+use Rattle.std.proofs.lemmas.Bool.{eqb-true}
+use Rattle.script_reader.specs.Journal.{IsJournal}
 use Rattle.script_reader.proofs.books.Printing.Sections.{all_follow}
-use Rattle.books_report.specs.Journals.{places_run}
-use Rattle.books_report.specs.Output.{Ran, books_left, replies_of, books_after}
-use Rattle.books_report.specs.Checking.{IsNext, MayFollow, FollowInTurn}
+use Rattle.books_report.specs.Output.{replies_of}
 use Rattle.books_report.proofs.Order.Classes.{sums, sums-same, sums-ones, sums-tight, by_classes, sum_by_all}
 
 -- how many scripts of a caller were run
@@ -47,16 +44,16 @@ once_more : (same : Bool) (pi i t : ℕ) → (same ≡ true → pi ≡ t) → co
 once_more false pi i t at = grind (arith, nat_tests)
 once_more true pi i t at = let is = at refl in grind (arith, nat_tests, is)
 
-few_more : (input : ClearingInput) (done : List Place) (p : Place) → Gone input done → IsNext input done p → (c : ℕ)
+few_more : {input : ClearingInput} {done : List Place} {p : Place} → Gone input done → IsNext input done p → (c : ℕ)
     → turns (done ++ p ∷ []) c ≤ length (caller_at input.callers c).scripts
-few_more input done p h n c = elim (eqb_tells p.caller c) [
+few_more {input} {done} {p} h n c = elim (eqb_tells p.caller c) [
   | inl same ↦ subst (λ x. turns (done ++ p ∷ []) x ≤ length (caller_at input.callers x).scripts) same.1 (omega (arith, its_turn done p, n.next, n.left.1))
   | inr apart ↦ omega (arith, turns-push done p c, ap {B = ℕ} (λ b. cond b 1 0) apart.0, h.few c)
 ]
 
 -- one more script in turn
-pub gone_more : (input : ClearingInput) (done : List Place) (p : Place) → Gone input done → IsNext input done p → Gone input (done ++ p ∷ [])
-gone_more input done p h n = record {
+pub gone_more : {input : ClearingInput} {done : List Place} {p : Place} → Gone input done → IsNext input done p → Gone input (done ++ p ∷ [])
+gone_more {input} {done} {p} h n = record {
   only = All-push (IsPlace input) done p h.only n.left;
   rising = all_pairs_push (λ p q. p.caller ≡ q.caller → p.index < q.index) done p h.rising (λ k d less same.
       omega (arith, h.every k d less, ap (turns done) same, n.next));
@@ -69,12 +66,12 @@ gone_more input done p h n = record {
       (All-weaker (λ q. q.index < turns done q.caller) (λ q. q.index < turns (done ++ p ∷ []) q.caller)
       (λ q less. omega (arith, less, turns-push done p q.caller)) done h.every)
       (omega (arith, its_turn done p, n.next));
-  few = few_more input done p h n;
+  few = few_more h n;
 }
 
 -- before the first script
-pub gone_none : (input : ClearingInput) → Gone input []
-gone_none input = record {
+pub gone_none : {input : ClearingInput} → Gone input []
+gone_none {input} = record {
   only = All-nil (IsPlace input);
   rising = λ i j d less short. absurd (omega arith);
   once = λ c i. grind (arith, nat_tests);
@@ -83,17 +80,17 @@ gone_none input = record {
 }
 
 -- scripts in turn, behind others
-pub gone_by_turns : (input : ClearingInput) (limit : ℕ) (before scripts : List Ran) → Gone input (places_run before)
+pub gone_by_turns : {input : ClearingInput} (limit : ℕ) (before scripts : List Ran) → Gone input (places_run before)
     → FollowInTurn input limit before scripts → Gone input (places_run (before ++ scripts))
-gone_by_turns input limit before [] h t = subst (λ l. Gone input (places_run l)) (sym (append-nil before)) h
-gone_by_turns input limit before (ran ∷ scripts) h t =
+gone_by_turns {input} limit before [] h t = subst (λ l. Gone input (places_run l)) (sym (append-nil before)) h
+gone_by_turns {input} limit before (ran ∷ scripts) h t =
     let more : Gone input (places_run (before ++ ran ∷ [])) =
-    subst (Gone input) (sym (map_push (λ (r : Ran). r.place) before ran)) (gone_more input (places_run before) ran.place h t.0.next) in
-    subst (λ l. Gone input (places_run l)) (append_assoc before (ran ∷ []) scripts) (gone_by_turns input limit (before ++ ran ∷ []) scripts more t.1)
+    subst (Gone input) (sym (map_push (λ (r : Ran). r.place) before ran)) (gone_more h t.0.next) in
+    subst (λ l. Gone input (places_run l)) (append_assoc before (ran ∷ []) scripts) (gone_by_turns limit (before ++ ran ∷ []) scripts more t.1)
 
 -- scripts in turn, from the first
-pub gone_of : (input : ClearingInput) (limit : ℕ) (scripts : List Ran) → FollowInTurn input limit [] scripts → Gone input (places_run scripts)
-gone_of input limit scripts t = gone_by_turns input limit [] scripts (gone_none input) t
+pub gone_of : {input : ClearingInput} (limit : ℕ) (scripts : List Ran) → FollowInTurn input limit [] scripts → Gone input (places_run scripts)
+gone_of limit scripts t = gone_by_turns limit [] scripts (gone_none) t
 
 -- all are as many as the list is long
 count_all : {A : Type 0} (xs : List A) → count_by (λ x. true) xs ≡ length xs
@@ -111,22 +108,22 @@ scripts_together : (input : ClearingInput) → count_scripts input.callers ≡ s
 scripts_together input = sum_by_all (λ (c : Caller). length c.scripts) (record { name = []; scripts = [] }) input.callers
 
 -- if as many were run as there are, no caller has one left
-pub finished : (input : ClearingInput) (done : List Place) → Gone input done → length done ≡ count_scripts input.callers
-    → (c : ℕ) → c < length input.callers → turns done c ≡ length (caller_at input.callers c).scripts
-finished input done h all c within =
+pub finished : {input : ClearingInput} {done : List Place} → Gone input done → length done ≡ count_scripts input.callers
+    → {c : ℕ} → c < length input.callers → turns done c ≡ length (caller_at input.callers c).scripts
+finished {input} {done} h all {c} within =
     sums-tight (length input.callers) (turns done) (λ c. length (caller_at input.callers c).scripts) (λ c less. h.few c)
     (sym (turns_together input done h.only) ∙ all ∙ scripts_together input) c within
 
 -- so none comes next
-pub none_left : (input : ClearingInput) (done : List Place) (p : Place) → Gone input done → length done ≡ count_scripts input.callers → IsNext input done p → ⊥
-none_left input done p h all n = omega (arith, finished input done h all p.caller n.left.0, n.next, n.left.1)
+pub none_left : {input : ClearingInput} {done : List Place} {p : Place} → Gone input done → length done ≡ count_scripts input.callers → IsNext input done p → ⊥
+none_left h all n = omega (arith, finished h all n.left.0, n.next, n.left.1)
 
 -- and they are a journal
-pub journal_of_turns : (input : ClearingInput) (done : List Place) → Gone input done → length done ≡ count_scripts input.callers → IsJournal input done
-journal_of_turns input done h all = record {
+pub journal_of_turns : {input : ClearingInput} {done : List Place} → Gone input done → length done ≡ count_scripts input.callers → IsJournal input done
+journal_of_turns {done} h all = record {
   only = h.only;
   once = λ place there. h.once place.caller place.index
-      ∙ by place.index (turns done place.caller) (omega (arith, finished input done h all place.caller there.0, there.1));
+      ∙ by place.index (turns done place.caller) (omega (arith, finished h all there.0, there.1));
   rising = h.rising;
 }
   where
@@ -256,8 +253,8 @@ replies_of_turns input limit before (ran ∷ scripts) t = λ i.
     ∙ ap (λ books. replies_of input books (places_run scripts)) (books_after_ran input before ran)) i
 
 -- one more script in turn, behind some
-pub turns_more : (input : ClearingInput) (limit : ℕ) (before scripts : List Ran) (ran : Ran)
+pub turns_more : {input : ClearingInput} {limit : ℕ} (before scripts : List Ran) {ran : Ran}
     → FollowInTurn input limit before scripts → MayFollow input limit (before ++ scripts) ran → FollowInTurn input limit before (scripts ++ ran ∷ [])
-turns_more input limit before [] ran t m = (subst (λ l. MayFollow input limit l ran) (append-nil before) m, tt)
-turns_more input limit before (r ∷ scripts) ran t m =
-    (t.0, turns_more input limit (before ++ r ∷ []) scripts ran t.1 (subst (λ l. MayFollow input limit l ran) (sym (append_assoc before (r ∷ []) scripts)) m))
+turns_more {input} {limit} before [] {ran} t m = (subst (λ l. MayFollow input limit l ran) (append-nil before) m, tt)
+turns_more {input} {limit} before (r ∷ scripts) {ran} t m =
+    (t.0, turns_more (before ++ r ∷ []) scripts t.1 (subst (λ l. MayFollow input limit l ran) (sym (append_assoc before (r ∷ []) scripts)) m))

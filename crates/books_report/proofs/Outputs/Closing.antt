@@ -1,34 +1,29 @@
 -- The books at the end of a journal, and scripts for them.
-use Rattle.std.proofs.Common.{◌≡◌, ℕ, ◌<◌, List, [], ◌∷◌, length, refl, ◌∙◌}
-use Rattle.std.specs.List.{All, AllByRecursion}
-use Rattle.std.proofs.lemmas.List.Elements.{All-weaker, recursion_from_All}
-use Rattle.script_reader.specs.Gathered.{caller_at, script_at}
-use Rattle.books_model.specs.Books.{ClearingBooks}
+use Rattle.books_report.proofs.Common.{◌≡◌, ℕ, ◌<◌, List, [], ◌∷◌, length, refl, ◌∙◌, AllByRecursion, All-weaker, recursion_from_All, caller_at, script_at}
+use Rattle.books_report.proofs.Common.{ClearingBooks, AreInRange, Caller, ClearingInput, IsInput, Two, Place, IsPlace, books_after}
+use Rattle.script_reader.proofs.Common.{AreCallersFor, callers_of}
+use Rattle.std.specs.List.{All}
 use Rattle.books_model.specs.Laws.{BooksStayInRange, ScriptsKeepSizes, ScriptsGoByInstruments}
-use Rattle.books_model.specs.Ranges.{AreInRange, IsScriptFor}
-use Rattle.script_reader.specs.Input.{Caller, ClearingInput, AreCallersFor, IsInput, callers_of}
-use Rattle.script_reader.specs.declared.books.version.Version.TheVariants.{Two}
+use Rattle.books_model.specs.Ranges.{IsScriptFor}
 use Rattle.script_reader.specs.Statements.{EachInputIsWithinTwo}
-use Rattle.script_reader.specs.Journal.{Place, IsPlace}
-use Rattle.books_report.specs.Output.{books_left, books_after}
 use Rattle.books_report.specs.Statements.{ClosingBooksOpen}
 
 -- the script of a place can be given to the opening books
-pub script_of_place : (input : ClearingInput) (caller index : ℕ) → IsInput input → caller < length input.callers
+pub script_of_place : {input : ClearingInput} {caller index : ℕ} → IsInput input → caller < length input.callers
     → index < length (caller_at input.callers caller).scripts → IsScriptFor input.books (script_at input.callers caller index)
-script_of_place input caller index valid within at = valid.callers.scripts caller (record { name = []; scripts = [] }) within index [] at
+script_of_place {caller} {index} valid within at = valid.callers.scripts caller (record { name = []; scripts = [] }) within index [] at
 
 module _ (in_range : BooksStayInRange) (keep_sizes : ScriptsKeepSizes) (by_instruments : ScriptsGoByInstruments)
     (within_two : EachInputIsWithinTwo) where
   -- scripts of places leave books in range, with as many instruments
-  along : (input : ClearingInput) → IsInput input → (order : List Place) → AllByRecursion (IsPlace input) order
-      → (books : ClearingBooks) → AreInRange books → books.instruments ≡ input.books.instruments
+  along : {input : ClearingInput} → IsInput input → (order : List Place) → AllByRecursion (IsPlace input) order
+      → {books : ClearingBooks} → AreInRange books → books.instruments ≡ input.books.instruments
       → AreInRange (books_after input books order) × ((books_after input books order).instruments ≡ input.books.instruments)
-  along input valid [] each books range same = (range, same)
-  along input valid (p ∷ order) each books range same =
+  along valid [] each range same = (range, same)
+  along {input} valid (p ∷ order) each {books} range same =
       let script = script_at input.callers p.caller p.index in
-      let fits : IsScriptFor books script = by_instruments script input.books books same (script_of_place input p.caller p.index valid each.0.0 each.0.1) in
-      along input valid order each.1 (books_left input books p) (in_range script books range fits) ((keep_sizes script books).instruments ∙ same)
+      let fits : IsScriptFor books script = by_instruments script input.books books same (script_of_place valid each.0.0 each.0.1) in
+      along valid order each.1 (in_range script books range fits) ((keep_sizes script books).instruments ∙ same)
 
   -- callers with scripts for books are such for others with as many instruments
   callers_for : (books others : ClearingBooks) → others.instruments ≡ books.instruments → (callers : List Caller)
@@ -47,7 +42,7 @@ module _ (in_range : BooksStayInRange) (keep_sizes : ScriptsKeepSizes) (by_instr
   pub closing_books_open : ClosingBooksOpen
   closing_books_open input order submissions valid journal callers =
       let closing = books_after input input.books order in
-      let stays = along input valid order (recursion_from_All (IsPlace input) order journal.only) input.books valid.books refl in
+      let stays = along valid order (recursion_from_All (IsPlace input) order journal.only) valid.books refl in
       let new : IsInput (record { books = closing; callers = callers_of submissions }) =
       record { books = stays.0; callers = callers_for input.books closing stays.1 (callers_of submissions) callers } in
       record {

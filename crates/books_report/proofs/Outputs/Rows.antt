@@ -1,64 +1,55 @@
 -- The lines of outputs: each is one line, and joined they are the text.
-use Rattle.std.proofs.Common.{◌≡◌, ◌≢◌, ℕ, zero, suc, ◌+◌, ◌<◌, ◌/◌, ◌%◌, ◌==◌, Bool, true, false, if◌then◌else◌, List, [], ◌∷◌, ◌++◌, codes, length, map, refl}
-use Rattle.std.proofs.Common.{sym, ap, ◌∙◌, append_assoc, append-nil, length-append, lit<, arith}
-use Rattle.std.specs.List.{AllByRecursion, concat, flat_map, join_with_byte}
+use Rattle.books_report.proofs.Common.{◌≡◌, ◌≢◌, ℕ, zero, suc, ◌+◌, ◌<◌, ◌==◌, Bool, true, false, if◌then◌else◌, List, [], ◌∷◌, ◌++◌, codes, length, map, refl}
+use Rattle.books_report.proofs.Common.{sym, ap, ◌∙◌, append_assoc, append-nil, length-append, lit<, arith, AllByRecursion, concat, flat_map, join_with_byte}
+use Rattle.books_report.proofs.Common.{eq-eqb, ne_eqb, nat_tests, caller_at, Reply, ClearingBooks, word_of_value, SPACE, LINE_FEED, Two, IsFreeOf, line, number}
+use Rattle.books_report.proofs.Common.{account_line, price_line, position_line, call_line, finish_line, books_lines, ClearingInput, IsInput, IsName}
+use Rattle.books_report.proofs.Common.{count_scripts, line_once, caller-AreWords, reply_words, places_run, journal_line, journal_lines, Ran, books_after}
+use Rattle.books_report.proofs.Common.{FollowInTurn, journal_as_lines, closing_lines, lines_behind, output_lines}
+use Rattle.script_reader.proofs.Common.{IsWord, AreWords, header_words, account_words, price_words, position_words, call_words}
+use Rattle.std.proofs.Common.{◌/◌, ◌%◌}
 use Rattle.std.specs.Fmt.{digits, digits_onto, digit_glyph}
-use Rattle.std.specs.FinMap as finmap
-use Rattle.std.proofs.lemmas.Bool.{eq-eqb, ne_eqb}
-use Rattle.std.proofs.lemmas.Bool.Decides.{nat_tests}
-use Rattle.script_reader.specs.Gathered.{caller_at}
 use Rattle.books_model.specs.declared.reply.Decline.{Decline}
-use Rattle.books_model.specs.declared.reply.Decline.TheVariants as decline
 use Rattle.books_model.specs.declared.reply.Value.{Value}
+use Rattle.books_model.specs.Words.{decline_word}
+use Rattle.script_reader.specs.Text.{header_line}
+use Rattle.script_reader.proofs.text.Tokens.Cutting.{free-append, word_from_test}
+use Rattle.books_report.specs.Output.{output_of}
+use Rattle.std.specs.FinMap as finmap
+use Rattle.books_model.specs.declared.reply.Decline.TheVariants as decline
 use Rattle.books_model.specs.declared.reply.Value.TheVariants as value
-use Rattle.books_model.specs.declared.reply.Reply.{Reply}
 use Rattle.books_model.specs.declared.reply.Reply.TheVariants as reply
-use Rattle.books_model.specs.Books.{ClearingBooks}
-use Rattle.books_model.specs.Words.{word_of_value, decline_word}
-use Rattle.script_reader.specs.declared.text.words.TheConstants.{SPACE, LINE_FEED}
-use Rattle.script_reader.specs.declared.books.version.Version.TheVariants.{Two}
-use Rattle.script_reader.specs.Lines.{IsFreeOf, IsWord, AreWords}
-use Rattle.script_reader.specs.Text.{line, number, header_words, header_line, account_line, account_words, price_line, price_words, position_line}
-use Rattle.script_reader.specs.Text.{position_words, call_line, call_words, finish_line, books_lines}
-use Rattle.script_reader.specs.Input.{ClearingInput, IsInput, IsName, count_scripts}
-use Rattle.script_reader.proofs.text.Tokens.Cutting.{free-append, line_once, word_from_test}
-use Rattle.script_reader.proofs.language.Grouped.Submitting.{caller-AreWords}
-use Rattle.books_report.specs.Words.{reply_words}
-use Rattle.books_report.specs.Journals.{places_run, journal_line, journal_lines}
-use Rattle.books_report.specs.Output.{Ran, books_after, output_of}
-use Rattle.books_report.specs.Checking.{FollowInTurn, journal_as_lines, closing_lines, lines_behind, output_lines}
 
 -- bytes that are one line
 abbrev pub IsRow : List ℕ → Type 0
 IsRow row = (words : List (List ℕ)) × AreWords words × (row ≡ line words)
 
 -- a text begins with one line at most
-pub row_once : (a b x y : List ℕ) → IsRow a → IsRow b → a ++ x ≡ b ++ y → (a ≡ b) × (x ≡ y)
-row_once a b x y p q e =
+pub row_once : {a b : List ℕ} (x y : List ℕ) → IsRow a → IsRow b → a ++ x ≡ b ++ y → (a ≡ b) × (x ≡ y)
+row_once x y p q e =
     let same = line_once p.0 q.0 x y p.1 q.1 (ap (λ l. l ++ x) (sym p.2) ∙ e ∙ ap (λ l. l ++ y) q.2) in
     (p.2 ∙ ap line same.0 ∙ sym q.2, same.1)
 
 -- a line is not nothing
-pub row_some : (a x : List ℕ) → IsRow a → a ++ x ≢ []
-row_some a x p e = omega (arith, ap length p.2, length-append (join_with_byte SPACE p.0) (LINE_FEED ∷ []), length-append a x, ap length e)
+pub row_some : {a : List ℕ} (x : List ℕ) → IsRow a → a ++ x ≢ []
+row_some {a} x p e = omega (arith, ap length p.2, length-append (join_with_byte SPACE p.0) (LINE_FEED ∷ []), length-append a x, ap length e)
 
 -- digits are above the bytes that separate words and lines
-digit_is : (c d : ℕ) → c < 48 → (digit_glyph false d == c) ≡ false
-digit_is c d low = grind (arith, nat_tests, low)
+digit_is : {c : ℕ} (d : ℕ) → c < 48 → (digit_glyph false d == c) ≡ false
+digit_is d low = grind (arith, nat_tests, low)
 
-digits_free : (c k n : ℕ) (acc : List ℕ) → c < 48 → IsFreeOf c acc → IsFreeOf c (digits_onto k 10 false n acc)
-digits_free c zero n acc low f = f
-digits_free c (suc k) n acc low f = by (n / 10 == 0) (digits_free c k (n / 10) (digit_glyph false (n % 10) ∷ acc) low (digit_is c (n % 10) low, f))
+digits_free : {c : ℕ} (k n : ℕ) (acc : List ℕ) → c < 48 → IsFreeOf c acc → IsFreeOf c (digits_onto k 10 false n acc)
+digits_free zero n acc low f = f
+digits_free {c} (suc k) n acc low f = by (n / 10 == 0) (digits_free k (n / 10) (digit_glyph false (n % 10) ∷ acc) low (digit_is (n % 10) low, f))
   where
     by : (last : Bool) → IsFreeOf c (digits_onto k 10 false (n / 10) (digit_glyph false (n % 10) ∷ acc))
         → IsFreeOf c (if last then digit_glyph false (n % 10) ∷ acc else digits_onto k 10 false (n / 10) (digit_glyph false (n % 10) ∷ acc))
-    by true more = (digit_is c (n % 10) low, f)
+    by true more = (digit_is (n % 10) low, f)
     by false more = more
 
 -- a number is a word, however great it is
 pub number-word : (n : ℕ) → IsWord (number n)
 unfolding digits
-number-word n = (digits_free SPACE 64 n [] (lit< tt) tt, digits_free LINE_FEED 64 n [] (lit< tt) tt)
+number-word n = (digits_free 64 n [] (lit< tt) tt, digits_free 64 n [] (lit< tt) tt)
 
 -- so is what an operation tells
 value-IsWord : (v : Value) → IsWord (word_of_value v)
@@ -115,8 +106,8 @@ journal_row : (serial : ℕ) (name : List ℕ) (ran : Ran) → IsName name → I
 journal_row serial name ran named = (journal_words serial name ran, journal-AreWords serial name ran named, refl)
 
 -- a caller of an input has a name
-pub caller_named : (input : ClearingInput) → IsInput input → (c : ℕ) → c < length input.callers → IsName (caller_at input.callers c).name
-caller_named input valid c within = valid.callers.names c (record { name = []; scripts = [] }) within
+pub caller_named : {input : ClearingInput} → IsInput input → {c : ℕ} → c < length input.callers → IsName (caller_at input.callers c).name
+caller_named valid {c} within = valid.callers.names c (record { name = []; scripts = [] }) within
 
 -- what holds of two lists holds of both together
 pub all_both : {A : Type 0} (P : A → Type 0) (xs ys : List A) → AllByRecursion P xs → AllByRecursion P ys → AllByRecursion P (xs ++ ys)
@@ -195,13 +186,13 @@ closing_rows b = (
       (all_both IsRow _ _ (map_rows call_line call_row b.calls) (only_row (codes "finish") (word_from_test (codes "finish") refl), tt)))),
 )
 
-module _ (input : ClearingInput) (limit : ℕ) (valid : IsInput input) where
+module _ {input : ClearingInput} (limit : ℕ) (valid : IsInput input) where
   -- the lines of scripts in turn
   pub journal_rows : (before scripts : List Ran) (serial : ℕ) → FollowInTurn input limit before scripts
       → AllByRecursion IsRow (journal_as_lines input serial scripts)
   journal_rows before [] serial t = tt
   journal_rows before (ran ∷ scripts) serial t = (
-    journal_row serial (caller_at input.callers ran.place.caller).name ran (caller_named input valid ran.place.caller t.0.next.left.0),
+    journal_row serial (caller_at input.callers ran.place.caller).name ran (caller_named valid t.0.next.left.0),
     journal_rows (before ++ ran ∷ []) scripts (serial + 1) t.1,
   )
 
@@ -236,12 +227,12 @@ behind_some input scripts less =
 -- the texts of two lists of lines together
 pub concat-both : (xs ys : List (List ℕ)) → concat (xs ++ ys) ≡ concat xs ++ concat ys
 concat-both [] ys = refl
-concat-both (x ∷ xs) ys = ap (λ l. x ++ l) (concat-both xs ys) ∙ sym (append_assoc x (concat xs) (concat ys))
+concat-both (x ∷ xs) ys = simp (concat-both xs ys, append_assoc)
 
 -- the text of some lines, and what follows it
 concat_map : {A : Type 0} (f : A → List ℕ) (xs : List A) (ys : List (List ℕ)) → concat (map f xs ++ ys) ≡ flat_map f xs ++ concat ys
 concat_map f [] ys = refl
-concat_map f (x ∷ xs) ys = ap (λ l. f x ++ l) (concat_map f xs ys) ∙ sym (append_assoc (f x) (flat_map f xs) (concat ys))
+concat_map f (x ∷ xs) ys = simp (concat_map f xs ys, append_assoc)
 
 -- the text of closing books
 pub closing_text : (b : ClearingBooks) → concat (closing_lines b) ≡ books_lines Two b ++ finish_line
@@ -261,8 +252,7 @@ closing_text b =
     ∙ sym (grouped (header_line Two b) accounts prices positions calls finish_line)
   where
     grouped : (h a p q c f : List ℕ) → ((((h ++ a) ++ p) ++ q) ++ c) ++ f ≡ h ++ (a ++ (p ++ (q ++ (c ++ f))))
-    grouped h a p q c f = append_assoc (((h ++ a) ++ p) ++ q) c f ∙ append_assoc ((h ++ a) ++ p) q (c ++ f)
-        ∙ append_assoc (h ++ a) p (q ++ (c ++ f)) ∙ append_assoc h a (p ++ (q ++ (c ++ f)))
+    grouped h a p q c f = simp append_assoc
 
 -- the text of a journal's lines
 journal_text : (input : ClearingInput) (serial : ℕ) (scripts : List Ran)

@@ -1,15 +1,12 @@
 -- Walks over the three maps of books.
-use Rattle.std.proofs.Common.{◌≡◌, ℕ, ◌<◌, [], Option, Some, None, IsSome, nat_lt, refl, sym, ap, ◌∙◌}
-use Rattle.std.specs.Cmp.{nat_cmp_total, nat_cmp_is}
-use Rattle.std.specs.Ordering.{nat_cmp, is_lt, ordering_then}
-use Rattle.std.specs.declared.cmp.Ordering.TheVariants.{Less}
+use Rattle.books_report.proofs.Common.{◌≡◌, ℕ, ◌<◌, [], Option, Some, None, nat_lt, refl, sym, ap, ◌∙◌, nat_cmp_total, is_lt, Less, ClearingBooks, position_cmp}
+use Rattle.books_report.proofs.Common.{AreInRange, positions_total, is_lt-nat_cmp}
+use Rattle.std.proofs.Common.{IsSome}
+use Rattle.std.specs.Cmp.{nat_cmp_is}
+use Rattle.std.specs.Ordering.{nat_cmp, ordering_then}
 use Rattle.std.specs.Option.{option_map}
-use Rattle.std.specs.FinMap as map
-use Rattle.books_model.specs.Books.{ClearingBooks, position_cmp}
-use Rattle.books_model.specs.Ranges.{AreInRange}
-use Rattle.books_model.specs.Inner.Keys.{positions_total}
-use Rattle.books_model.proofs.Maps.Keys.{is_lt-nat_cmp}
 use Rattle.books_report.proofs.Walking.Walks.{up_to, none_up_to, below_found}
+use Rattle.std.specs.FinMap as map
 
 -- no account is up to 0
 pub accounts_from : (books : ClearingBooks) → AreInRange books → up_to nat_lt 0 (map.entries books.accounts) ≡ []
@@ -18,8 +15,8 @@ accounts_from books h = none_up_to nat_cmp_total nat_lt is_lt-nat_cmp 0 (map.ent
     sym (nat_cmp_is 0 a Less (h.accounts a cash (map.get-entries books.accounts a ∙ found)).0.0)))
 
 -- no price is up to 0
-pub prices_from : (books : ClearingBooks) → AreInRange books → up_to nat_lt 0 (map.entries books.prices) ≡ []
-prices_from books h = none_up_to nat_cmp_total nat_lt is_lt-nat_cmp 0 (map.entries books.prices)
+pub prices_from : {books : ClearingBooks} → AreInRange books → up_to nat_lt 0 (map.entries books.prices) ≡ []
+prices_from {books} h = none_up_to nat_cmp_total nat_lt is_lt-nat_cmp 0 (map.entries books.prices)
     (below_found nat_cmp_total 0 (map.entries books.prices) (map.entries_sorted books.prices) (λ i price found.
     sym (nat_cmp_is 0 i Less (h.prices i price (map.get-entries books.prices i ∙ found)).0.0)))
 

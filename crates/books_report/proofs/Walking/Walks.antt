@@ -1,16 +1,16 @@
 -- A walk over entries in the order of their keys: each is the first above the one before.
-use Rattle.std.proofs.Common.{◌≡◌, ◌-◌, ◌<◌, ◌≤◌, ℕ, Bool, true, false, cond, ◌&&◌, not, T, List, [], ◌∷◌, ◌++◌, length, Some, None, filter, refl, sym, ap, ◌∙◌}
-use Rattle.std.proofs.Common.{subst, arith, length-append}
-use Rattle.std.specs.List.{find, flat_map}
-use Rattle.std.specs.Ordering.{is_eq, is_lt, ordering_reverse}
+use Rattle.books_report.proofs.Common.{◌≡◌, ◌-◌, ◌<◌, ◌≤◌, ℕ, Bool, true, false, cond, ◌&&◌, not, List, [], ◌∷◌, ◌++◌, length, Some, None, refl, sym, ap, ◌∙◌}
+use Rattle.books_report.proofs.Common.{subst, arith, length-append, flat_map, is_lt, Less}
+use Rattle.std.proofs.Common.{T, filter}
+use Rattle.std.specs.List.{find}
+use Rattle.std.specs.Ordering.{is_eq, ordering_reverse}
 use Rattle.std.specs.Cmp.{IsTotalOrder, tied_itself}
 use Rattle.std.specs.declared.cmp.Ordering.{Ordering}
-use Rattle.std.specs.declared.cmp.Ordering.TheVariants.{Less}
-use Rattle.std.specs.FinMap.Entries as entries
 use Rattle.std.specs.FinMap.Entries.{below_all, is_sorted}
 use Rattle.std.proofs.lemmas.List.Sums.{length-filter, count_by-le-length}
 use Rattle.std.proofs.lemmas.List.{flat_map_more}
 use Rattle.books_model.proofs.Maps.Keys.{below_first, below_rest, sorted_first, sorted_rest, below_less, less_of}
+use Rattle.std.specs.FinMap.Entries as entries
 
 -- the entries whose keys are not later than a key
 abbrev pub up_to : {K X : Type 0} → (K → K → Bool) → K → List (K × X) → List (K × X)
@@ -32,34 +32,25 @@ module _ {K X : Type 0} {R : K → K → Ordering} (o : IsTotalOrder R) where
       subst (λ r. T (is_lt r && below_all R first es)) (sym here) (below_less R o first e.0 es here (sorted_first R e es sorted))
 
 module _ {K X : Type 0} {R : K → K → Ordering} (o : IsTotalOrder R) (later : K → K → Bool) (is : (a b : K) → later a b ≡ is_lt (R a b)) where
-  kept : (b : Bool) (e : K × X) (es : List (K × X)) → b ≡ false → cond (not b) (e ∷ es) es ≡ e ∷ es
-  kept b e es no_later = ap (λ b. cond (not b) (e ∷ es) es) no_later
+  kept : {b : Bool} (e : K × X) (es : List (K × X)) → b ≡ false → cond (not b) (e ∷ es) es ≡ e ∷ es
+  kept {b} e es no_later = ap (λ b. cond (not b) (e ∷ es) es) no_later
 
-  left_out : (b : Bool) (e : K × X) (es : List (K × X)) → b ≡ true → cond (not b) (e ∷ es) es ≡ es
-  left_out b e es later = ap (λ b. cond (not b) (e ∷ es) es) later
+  left_out : {b : Bool} (e : K × X) {es : List (K × X)} → b ≡ true → cond (not b) (e ∷ es) es ≡ es
+  left_out {b} e {es} later = ap (λ b. cond (not b) (e ∷ es) es) later
 
   -- below all keys there are none of them
   pub none_up_to : (last : K) (es : List (K × X)) → T (below_all R last es) → up_to later last es ≡ []
   none_up_to last [] h = refl
-  none_up_to last (e ∷ es) h = left_out (later last e.0) e (up_to later last es) (is last e.0
+  none_up_to last (e ∷ es) h = left_out e (is last e.0
       ∙ ap is_lt (below_first R last e es h)) ∙ none_up_to last es (below_rest R last e es h)
 
-  -- what a search finds is above the last one
-  found_above : (last : K) (es : List (K × X)) (e : K × X) → find (λ x. later last x.0) es ≡ Some e → later last e.0 ≡ true
-  found_above last [] e found = absurd cc
-  found_above last (x ∷ es) e found =
-      elim (later last x.0) as (λ b. later last x.0 ≡ b → cond b (Some x) (find (λ x. later last x.0) es) ≡ Some e → later last e.0 ≡ true) [
-        | true ↦ λ at f. let same : x ≡ e = cc in ap (λ (y : K × X). later last y.0) (sym same) ∙ at
-        | false ↦ λ at f. found_above last es e f
-      ] refl found
-
   -- what a search finds is above what is below all
-  found_past : (first last : K) (es : List (K × X)) (e : K × X) → T (below_all R first es) → find (λ x. later last x.0) es ≡ Some e → R first e.0 ≡ Less
-  found_past first last [] e below found = absurd cc
-  found_past first last (x ∷ es) e below found =
+  found_past : (first last : K) (es : List (K × X)) {e : K × X} → T (below_all R first es) → find (λ x. later last x.0) es ≡ Some e → R first e.0 ≡ Less
+  found_past first last [] below found = absurd cc
+  found_past first last (x ∷ es) {e} below found =
       elim (later last x.0) as (λ b. cond b (Some x) (find (λ x. later last x.0) es) ≡ Some e → R first e.0 ≡ Less) [
         | true ↦ λ f. let same : x ≡ e = cc in ap (λ (y : K × X). R first y.0) (sym same) ∙ below_first R first x es below
-        | false ↦ λ f. found_past first last es e (below_rest R first x es below) f
+        | false ↦ λ f. found_past first last es (below_rest R first x es below) f
       ] found
 
   -- the first entry above the last one is the next that is put in
@@ -75,12 +66,12 @@ module _ {K X : Type 0} {R : K → K → Ordering} (o : IsTotalOrder R) (later :
             let less = less_of (R last x.0) (subst T (sym (sym (is last x.0) ∙ at)) tt) in
             let itself : later x.0 x.0 ≡ false = is x.0 x.0 ∙ ap is_lt (tied_itself o x.0) in
             subst (λ (y : K × X). up_to later y.0 (x ∷ es) ≡ up_to later last (x ∷ es) ++ y ∷ []) same
-            (kept (later x.0 x.0) x (up_to later x.0 es) itself ∙ ap (λ xs. x ∷ xs) (none_up_to x.0 es below)
-            ∙ ap (λ xs. xs ++ x ∷ []) (sym (left_out (later last x.0) x (up_to later last es) at ∙ none_up_to last es (below_less R o last x.0 es less below))))
+            (kept x (up_to later x.0 es) itself ∙ ap (λ xs. x ∷ xs) (none_up_to x.0 es below)
+            ∙ ap (λ xs. xs ++ x ∷ []) (sym (left_out x at ∙ none_up_to last es (below_less R o last x.0 es less below))))
         | false ↦ λ at f.
-            let past : later e.0 x.0 ≡ false = is e.0 x.0 ∙ ap is_lt (o.antisymm e.0 x.0 ∙ ap ordering_reverse (found_past x.0 last es e below f)) in
-            kept (later e.0 x.0) x (up_to later e.0 es) past ∙ ap (λ xs. x ∷ xs) (up_to-next last es e (sorted_rest R x es sorted) f)
-            ∙ ap (λ xs. xs ++ e ∷ []) (sym (kept (later last x.0) x (up_to later last es) at))
+            let past : later e.0 x.0 ≡ false = is e.0 x.0 ∙ ap is_lt (o.antisymm e.0 x.0 ∙ ap ordering_reverse (found_past x.0 last es below f)) in
+            kept x (up_to later e.0 es) past ∙ ap (λ xs. x ∷ xs) (up_to-next last es e (sorted_rest R x es sorted) f)
+            ∙ ap (λ xs. xs ++ e ∷ []) (sym (kept x (up_to later last es) at))
       ] refl found
 
   -- if no entry is above, all are put in
@@ -89,7 +80,7 @@ module _ {K X : Type 0} {R : K → K → Ordering} (o : IsTotalOrder R) (later :
   up_to_all last (x ∷ es) none =
       elim (later last x.0) as (λ b. later last x.0 ≡ b → cond b (Some x) (find (λ x. later last x.0) es) ≡ None → up_to later last (x ∷ es) ≡ x ∷ es) [
         | true ↦ λ at f. absurd cc
-        | false ↦ λ at f. kept (later last x.0) x (up_to later last es) at ∙ ap (λ xs. x ∷ xs) (up_to_all last es f)
+        | false ↦ λ at f. kept x (up_to later last es) at ∙ ap (λ xs. x ∷ xs) (up_to_all last es f)
       ] refl none
 
   -- fewer entries are left after each step

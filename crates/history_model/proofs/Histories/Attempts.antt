@@ -1,11 +1,11 @@
 -- A call has fewer attempts that gave way than there are seats, by the pigeonhole principle.
-use Rattle.std.proofs.Common.{◌≡◌, ◌≢◌, ℕ, zero, suc, ◌<◌, List, [], ◌∷◌, length, slice_get, Some, refl, sym, ap, arith, true, false, eqb, ne_eqb}
+use Rattle.history_model.proofs.Common.{◌≡◌, ◌≢◌, ℕ, zero, suc, ◌<◌, List, [], ◌∷◌, length, slice_get, Some, refl, sym, ap, arith, true, false, ne_eqb, dite}
+use Rattle.history_model.proofs.Common.{ℕ_discrete, IsIn}
+use Rattle.std.proofs.Common.{eqb}
 use Rattle.std.specs.List.{AllByRecursion, IsDistinct, list_any}
 use Rattle.std.proofs.lemmas.Map.Steps.{length-le_from_distinct_below}
-use mathlib.Core.Logic.{dite}
-use native.Mathlib.Decide.{ℕ_discrete}
 use Rattle.history_model.specs.declared.entry.Abandoned.{Abandoned}
-use Rattle.history_model.specs.Legal.{IsIn, GaveWayToOthers}
+use Rattle.history_model.specs.Legal.{GaveWayToOthers}
 
 -- the seats of the causes
 seats_of : List Abandoned → List ℕ

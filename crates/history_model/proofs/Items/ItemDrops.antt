@@ -1,14 +1,10 @@
 -- Items that wrote nothing go out of an arrangement.
-use Rattle.std.proofs.Common.{◌≡◌, ℕ, zero, suc, ◌<◌, Bool, true, ⊎_elim, List, [], ◌∷◌, slice_get, Some, arith}
+use Rattle.history_model.proofs.Common.{◌≡◌, ℕ, zero, suc, ◌<◌, Bool, true, ⊎_elim, List, [], ◌∷◌, slice_get, Some, arith, Item, Uses, AgreeWithVersions}
+use Rattle.history_model.proofs.Common.{IsArrangement, KeepsValues, cases_Bool, lock_of_word, IsIn}
 use Rattle.std.specs.Prelude.{if◌then◌else◌}
-use Rattle.history_model.specs.declared.item.Item.{Item}
-use Rattle.history_model.specs.Items.{Uses, AgreeWithVersions}
-use Rattle.history_model.specs.Arrangements.{IsArrangement, KeepsValues, Drops, passing}
+use Rattle.history_model.specs.Arrangements.{Drops, passing}
 use Rattle.history_model.proofs.Items.ItemOrders.{kept_wrote}
-use Rattle.std.proofs.lemmas.Bool.{cases_Bool}
 use Rattle.history_model.proofs.Items.ItemEnds.{values_agree, writers_agree, legal_still}
-use Rattle.history_model.specs.Locks.{lock_of_word}
-use Rattle.history_model.specs.Legal.{IsIn}
 
 -- the place in the whole list of an element of those that pass
 place : (Item → Bool) → List Item → ℕ → ℕ

@@ -1,18 +1,13 @@
 -- An item at the end of an arrangement.
-use Rattle.std.proofs.Common.{◌≡◌, ℕ, zero, suc, ◌<◌, ◌≤◌, Bool, true, inl, inr, ⊎_elim, List, [], ◌∷◌, ◌++◌, length, Some, refl, sym, ap, ◌∙◌, subst, arith}
-use mathlib.Core.Logic.{dite}
-use native.Mathlib.Decide.{dec_lt}
-use Rattle.history_model.specs.declared.item.Item.{Item}
-use Rattle.history_model.specs.Items.{Uses, IsItem, LegalOnValues, StaysGood, writer_at, value_at, AgreeWithVersions, KeepsUses}
-use Rattle.history_model.specs.Arrangements.{IsArrangement, MayStandLast, Adds, RaisesVersions, WritesNewest, KeepsValues, ComesBefore}
-use Rattle.std.proofs.lemmas.Bool.{cases_Bool}
-use Rattle.std.proofs.lemmas.Option.{slice_get_within}
+use Rattle.history_model.proofs.Common.{◌≡◌, ℕ, zero, suc, ◌<◌, ◌≤◌, Bool, true, inl, inr, ⊎_elim, List, [], ◌∷◌, ◌++◌, length, Some, refl, sym, ap, ◌∙◌, subst}
+use Rattle.history_model.proofs.Common.{arith, dite, dec_lt, Item, Uses, IsItem, LegalOnValues, writer_at, AgreeWithVersions, KeepsUses, IsArrangement}
+use Rattle.history_model.proofs.Common.{KeepsValues, cases_Bool, slice_get_within, lock_of_word, IsIn}
+use Rattle.history_model.specs.Items.{StaysGood, value_at}
+use Rattle.history_model.specs.Arrangements.{MayStandLast, Adds, RaisesVersions, WritesNewest, ComesBefore}
 use Rattle.history_model.proofs.ListPlaces.{get_first, get_last, get_cases}
 use Rattle.history_model.proofs.Traces.LastEvents.{last_written-unwritten}
 use Rattle.history_model.proofs.Items.ItemValues.{writer_is, value_at-next}
 use Rattle.history_model.proofs.Items.ItemOrders.{kept_wrote, wrote_all}
-use Rattle.history_model.specs.Locks.{lock_of_word}
-use Rattle.history_model.specs.Legal.{IsIn}
 
 pub arranged : (items order : List Item) → IsArrangement items order → KeepsUses items order
 arranged items order h = record {

@@ -1,22 +1,16 @@
 -- Every list of the items in the order of their uses is legal.
-use Rattle.std.proofs.Common.{◌≡◌, ℕ, zero, suc, ◌<◌, ◌≤◌, Bool, true, false, ◌⊎◌, inl, inr, ⊎_elim, List, [], ◌∷◌, ◌++◌, length, slice_get, take, Some, refl}
-use Rattle.std.proofs.Common.{sym, ap, ◌∙◌, subst, arith, add-one}
-use mathlib.Core.Logic.{dite}
-use native.Mathlib.Decide.{ℕ_discrete, dec_lt}
-use Rattle.history_model.specs.declared.item.Item.{Item}
-use Rattle.history_model.specs.Traces.{IsLegalTrace, Writes}
-use Rattle.history_model.specs.Items.{Uses, IsItem, item_effect, LegalOnValues, writer_at, value_at, AgreeWithVersions, KeepsUses, replay_items, LegalOrder}
-use Rattle.history_model.specs.Items.{IsNewest}
-use Rattle.std.proofs.lemmas.Bool.{cases_Bool}
+use Rattle.history_model.proofs.Common.{◌≡◌, ℕ, zero, suc, ◌<◌, ◌≤◌, Bool, true, false, ◌⊎◌, inl, inr, ⊎_elim, List, [], ◌∷◌, ◌++◌, length, slice_get, take}
+use Rattle.history_model.proofs.Common.{Some, refl, sym, ap, ◌∙◌, subst, arith, dite, ℕ_discrete, dec_lt, Item, Writes, Uses, IsItem, LegalOnValues, writer_at}
+use Rattle.history_model.proofs.Common.{AgreeWithVersions, KeepsUses, cases_Bool, slice_get_within, lock_of_word, IsIn, after_effect}
+use Rattle.std.proofs.Common.{add-one}
+use Rattle.history_model.specs.Traces.{IsLegalTrace}
+use Rattle.history_model.specs.Items.{item_effect, value_at, replay_items, LegalOrder, IsNewest}
 use Rattle.std.proofs.lemmas.List.{take_all}
-use Rattle.std.proofs.lemmas.Option.{slice_get_within}
 use Rattle.history_model.proofs.ListPlaces.{get-front, front-get, below_get, take-more, same_list}
 use Rattle.history_model.proofs.Traces.LastEvents.{get-after-last_written, last_written-unwritten}
 use Rattle.history_model.proofs.Histories.ReplayLaws.{length-effect}
 use Rattle.history_model.proofs.Items.ItemValues.{wrote_some, writer_is, value_at-next, value_at-first}
-use Rattle.history_model.specs.Locks.{lock_of_word}
-use Rattle.history_model.specs.Legal.{IsIn}
-use Rattle.history_model.specs.Histories.{after_effect, replay_effects}
+use Rattle.history_model.specs.Histories.{replay_effects}
 
 -- the words after an item
 abbrev pub next_words : Item → List ℕ → List ℕ

@@ -1,17 +1,11 @@
 -- Who wrote a lock at a version, and the values of a word.
-use Rattle.std.proofs.Common.{◌≡◌, ℕ, zero, suc, ◌<◌, Bool, true, false, ◌&&◌, ◌⊎◌, inl, inr, ⊎_elim, List, [], ◌∷◌, length, slice_get, Some, refl, sym, ap}
-use Rattle.std.proofs.Common.{◌∙◌, arith, eq-eqb}
+use Rattle.history_model.proofs.Common.{◌≡◌, ℕ, zero, suc, ◌<◌, Bool, true, false, ◌&&◌, ◌⊎◌, inl, inr, ⊎_elim, List, [], ◌∷◌, length, slice_get, Some, refl}
+use Rattle.history_model.proofs.Common.{sym, ap, ◌∙◌, arith, eq-eqb, slice_get-get_or, dite, ℕ_discrete, Item, Uses, lock_of_word, IsIn}
 use Rattle.std.proofs.lemmas.Bool.{eqb-true, and_parts, or_cases}
-use Rattle.std.proofs.lemmas.Option.{slice_get-get_or}
 use Rattle.std.specs.Prelude.{if◌then◌else◌, ◌==◌}
-use mathlib.Core.Logic.{dite}
-use native.Mathlib.Decide.{ℕ_discrete}
-use Rattle.history_model.specs.declared.item.Item.{Item}
 use Rattle.history_model.specs.declared.item.LockUse.{LockUse}
 use Rattle.history_model.specs.Traces.{last_written}
-use Rattle.history_model.specs.Items.{HasUse, Uses, wrote_at, writer_at, value_at}
-use Rattle.history_model.specs.Locks.{lock_of_word}
-use Rattle.history_model.specs.Legal.{IsIn}
+use Rattle.history_model.specs.Items.{HasUse, wrote_at, writer_at, value_at}
 
 pub use_is : (u : LockUse) (k v : ℕ) (b : Bool) → u.lock ≡ k → u.version ≡ v → u.wrote ≡ b → Some u ≡ Some (record { lock = k; version = v; wrote = b })
 use_is u k v b l w e = rw (← l, ← w, ← e) refl

@@ -1,13 +1,10 @@
 -- Going back to a mark.
-use Rattle.std.proofs.Common.{◌≡◌, ℕ, zero, suc, ◌<◌, List, [], ◌∷◌, ◌++◌, length, drop, slice_get, slice_set, slice_index, Option, Some, refl, sym, ap}
-use Rattle.std.proofs.Common.{◌∙◌, subst, arith, eq-eqb}
-use mathlib.Core.Logic.{dite}
-use native.Mathlib.Decide.{ℕ_discrete}
-use Rattle.std.proofs.lemmas.List.{append_assoc, append-nil}
-use Rattle.std.proofs.lemmas.Option.{get_or_from_slice_get, same_Some}
-use Rattle.history_model.specs.declared.event.Event.TheVariants.{Read, Write}
-use Rattle.history_model.specs.Traces.{Trace, after, IsLegalTrace, Writes, value_after}
-use Rattle.history_model.specs.Undoing.{Notes, written_back, notes_of}
+use Rattle.history_model.proofs.Common.{◌≡◌, ℕ, zero, suc, ◌<◌, List, [], ◌∷◌, ◌++◌, length, slice_get, slice_set, slice_index, Option, Some, refl, sym, ap}
+use Rattle.history_model.proofs.Common.{◌∙◌, subst, arith, eq-eqb, dite, ℕ_discrete, append_assoc, append-nil, get_or_from_slice_get, same_Some, Read, Write}
+use Rattle.history_model.proofs.Common.{Trace, Writes, Notes}
+use Rattle.std.proofs.Common.{drop}
+use Rattle.history_model.specs.Traces.{after, IsLegalTrace, value_after}
+use Rattle.history_model.specs.Undoing.{written_back, notes_of}
 use Rattle.history_model.specs.Marks.{count_writes}
 use Rattle.history_model.proofs.Traces.TraceLaws.{after-append, legal_parts, legal_read, read_there}
 use Rattle.history_model.proofs.Traces.LastEvents.{get-after-value_after}

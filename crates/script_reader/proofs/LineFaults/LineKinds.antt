@@ -1,17 +1,10 @@
 -- Lines by their kinds, and what is known of a line that no reason applies to.
-use Rattle.std.proofs.Common.{◌≡◌, ℕ, ◌+◌, ◌<◌, ◌^◌, ◌⊎◌, inl, inr, Bool, true, false, ◌&&◌, ◌==◌, nat_le, cond, if◌then◌else◌, List, [], ◌∷◌, codes}
-use Rattle.std.proofs.Common.{drop, length, Option, Some, None, refl, ap, ◌∙◌, arith}
-use Rattle.std.specs.Option.{is_none}
-use Rattle.std.proofs.lemmas.Bool.{leb-true, eqb-true}
-use Rattle.std.proofs.lemmas.Slice.Eq.{bytes_eq-Decides}
-use Rattle.books_model.specs.Ranges.{IsWithin}
-use Rattle.script_reader.specs.declared.fault.Fault.{Fault}
-use Rattle.script_reader.specs.Number.{is_number}
-use Rattle.script_reader.specs.Text.{number}
-use Rattle.script_reader.specs.Forms.{Words, Form, form, InScript, books_forms, turning_forms, begins, is_only, has_form, form_of, value_of}
+use Rattle.script_reader.proofs.Common.{◌≡◌, ℕ, ◌+◌, ◌<◌, ◌^◌, ◌⊎◌, inl, inr, Bool, true, false, ◌&&◌, ◌==◌, nat_le, cond, if◌then◌else◌, List, [], ◌∷◌, codes}
+use Rattle.script_reader.proofs.Common.{drop, length, Option, Some, None, refl, ap, ◌∙◌, arith, is_none, leb-true, eqb-true, bytes_eq-Decides, IsWithin, Fault}
+use Rattle.script_reader.proofs.Common.{is_number, number, Words, Form, form, InScript, books_forms, turning_forms, begins, is_only, has_form, form_of}
+use Rattle.script_reader.proofs.Common.{value_of, Version}
 use Rattle.script_reader.proofs.text.Tokens.Numerals.{text_of_number}
 use Rattle.script_reader.proofs.Conditions.{both}
-use Rattle.script_reader.specs.declared.books.version.Version.{Version}
 
 -- a reason that does not apply, and what follows it
 pub none_applies : (c : Bool) (why : Fault) (rest : Option Fault) → (if c then Some why else rest) ≡ None → (c ≡ false) × (rest ≡ None)
@@ -86,9 +79,9 @@ module _ (k : List ℕ) (words : Words) where
       (rest.0, rest.1, rest.2, rest.3, behind.0 ∙ ap (λ l. k ∷ l) rest.4)
 
 -- a word that is a number in a range is the text of its value
-pub ranged : (word : List ℕ) (low high : ℕ) → high < 2 ^ 64 → is_number word ≡ true → (nat_le low (value_of word) && nat_le (value_of word) high) ≡ true
+pub ranged : (word : List ℕ) (low : ℕ) {high : ℕ} → high < 2 ^ 64 → is_number word ≡ true → (nat_le low (value_of word) && nat_le (value_of word) high) ≡ true
     → (word ≡ number (value_of word)) × IsWithin low high (value_of word)
-ranged word low high fits is within =
+ranged word low {high} fits is within =
     let parts = both within in
     let above = leb-true low (value_of word) parts.0 in
     let below = leb-true (value_of word) high parts.1 in
@@ -109,10 +102,10 @@ line_words (PositionLine a i quantity) = codes "position" ∷ a ∷ i ∷ quanti
 line_words (CallLine a shortfall) = codes "call" ∷ a ∷ shortfall ∷ []
 line_words ScriptsLine = codes "scripts" ∷ []
 
-pub books_line : (version : Version) (instruments : ℕ) (words : Words) → is_none (form_of (books_forms version instruments) words) ≡ false
+pub books_line : (version : Version) (instruments : ℕ) {words : Words} → is_none (form_of (books_forms version instruments) words) ≡ false
     → (l : BooksLine) × (words ≡ line_words l)
 unfolding IsOneOf
-books_line version instruments words h = elim (one_of (books_forms version instruments) words h) [
+books_line version instruments {words} h = elim (one_of (books_forms version instruments) words h) [
   | inl is ↦ let e = two_behind (codes "account") words is in (AccountLine e.0 e.1, e.2)
   | inr other ↦ elim other [
     | inl is ↦ let e = two_behind (codes "price") words is in (PriceLine e.0 e.1, e.2)
@@ -141,9 +134,9 @@ end_or_try words h = elim h [
 ]
 
 -- and the one that may stand in a branch
-pub closing : (k : List ℕ) (words : Words) → IsOneOf (form k [] ∷ []) words → words ≡ k ∷ []
+pub closing : {k : List ℕ} {words : Words} → IsOneOf (form k [] ∷ []) words → words ≡ k ∷ []
 unfolding IsOneOf
-closing k words h = elim h [
+closing {k} {words} h = elim h [
   | inl is ↦ only_word k words is
   | inr none ↦ absurd none
 ]

@@ -1,24 +1,13 @@
 -- What is wrong with a line of a script, by its form.
-use Rattle.std.proofs.Common.{◌≡◌, ℕ, ◌+◌, Bool, true, false, not, ◌&&◌, ◌==◌, cond, List, [], ◌∷◌, drop, filter, length, Some, None, refl, sym, ap, ◌∙◌}
-use Rattle.std.proofs.Common.{true≢false}
-use Rattle.std.specs.List.{AllByRecursion}
-use Rattle.std.specs.Option.{is_none}
-use Rattle.std.proofs.lemmas.Bool.{eqb-true, eq-eqb}
-use Rattle.script_reader.specs.declared.fault.Fault.{Fault}
-use Rattle.script_reader.specs.declared.fault.Fault.TheVariants as fault
-use Rattle.script_reader.specs.Forms.{Words, Form, form, begins, has_form, form_of, ranges_of, are_numbers, are_in_range}
-use Rattle.script_reader.specs.Faults.{first_reason}
-use Rattle.script_reader.specs.Rows.{numbers_fault, row_fault}
+use Rattle.script_reader.proofs.Common.{◌≡◌, ℕ, ◌+◌, Bool, true, false, not, ◌&&◌, ◌==◌, cond, List, [], ◌∷◌, drop, filter, length, Some, None, refl, sym, ap}
+use Rattle.script_reader.proofs.Common.{◌∙◌, arith, true≢false, AllByRecursion, is_none, eqb-true, eq-eqb, nat_tests, Fault, Words, Form, form, begins}
+use Rattle.script_reader.proofs.Common.{has_form, form_of, ranges_of, are_numbers, are_in_range, first_reason, numbers_fault, row_fault}
 use Rattle.script_reader.proofs.LineFaults.LineKinds.{one_behind, two_behind, three_behind, four_behind}
+use Rattle.script_reader.specs.declared.fault.Fault.TheVariants as fault
 
 -- a line of another length is none of this keyword and this length
 pub other_length : (k : List ℕ) (n : ℕ) (words : Words) → (length words ≡ n → ⊥) → (begins k words && length words == n) ≡ false
-other_length k n words other = by (begins k words) (length words == n) refl
-  where
-    by : (a b : Bool) → (length words == n) ≡ b → (a && b) ≡ false
-    by true true e = absurd (other (eqb-true (length words) n e))
-    by true false e = refl
-    by false b e = refl
+other_length k n words other = grind (arith, nat_tests)
 
 -- a line that has none of some forms
 no_form : (forms : List Form) (words : Words) → AllByRecursion (λ f. has_form words f ≡ false) forms → form_of forms words ≡ None
@@ -36,8 +25,8 @@ module _ (forms : List Form) (words : Words) where
       )
 
   -- what is wrong with the numbers of a line that has a form
-  numbers_wrong : (f : Form) (why : Fault) → form_of forms words ≡ Some f → numbers_fault words f.ranges ≡ Some why → row_fault forms words ≡ Some why
-  numbers_wrong f why e h = (λ i. first_reason (
+  numbers_wrong : {f : Form} {why : Fault} → form_of forms words ≡ Some f → numbers_fault words f.ranges ≡ Some why → row_fault forms words ≡ Some why
+  numbers_wrong e h = (λ i. first_reason (
       (is_none (e i), fault.Word)
       ∷ (not (are_numbers (drop 1 words)), fault.Number)
       ∷ (not (are_in_range (drop 1 words) (ranges_of (e i))), fault.Limit)
@@ -48,32 +37,32 @@ module _ (forms : List Form) (words : Words) where
       → (begins k words && length words == 2) ≡ true → numbers_fault words (r ∷ []) ≡ Some why → row_fault forms words ≡ Some why
   one_wrong k r why is row h =
       let e = one_behind k words row in
-      numbers_wrong (form k (r ∷ [])) why (ap (form_of forms) e.1 ∙ is e.0) h
+      numbers_wrong (ap (form_of forms) e.1 ∙ is e.0) h
 
   pub two_wrong : (k : List ℕ) (r s : ℕ × ℕ) (why : Fault) → ((a b : List ℕ) → form_of forms (k ∷ a ∷ b ∷ []) ≡ Some (form k (r ∷ s ∷ [])))
       → (begins k words && length words == 3) ≡ true → numbers_fault words (r ∷ s ∷ []) ≡ Some why → row_fault forms words ≡ Some why
   two_wrong k r s why is row h =
       let e = two_behind k words row in
-      numbers_wrong (form k (r ∷ s ∷ [])) why (ap (form_of forms) e.2 ∙ is e.0 e.1) h
+      numbers_wrong (ap (form_of forms) e.2 ∙ is e.0 e.1) h
 
   pub three_wrong : (k : List ℕ) (r s t : ℕ × ℕ) (why : Fault) → ((a b c : List ℕ) → form_of forms (k ∷ a ∷ b ∷ c ∷ []) ≡ Some (form k (r ∷ s ∷ t ∷ [])))
       → (begins k words && length words == 4) ≡ true → numbers_fault words (r ∷ s ∷ t ∷ []) ≡ Some why → row_fault forms words ≡ Some why
   three_wrong k r s t why is row h =
       let e = three_behind k words row in
-      numbers_wrong (form k (r ∷ s ∷ t ∷ [])) why (ap (form_of forms) e.3 ∙ is e.0 e.1 e.2) h
+      numbers_wrong (ap (form_of forms) e.3 ∙ is e.0 e.1 e.2) h
 
-  pub four_wrong : (k : List ℕ) (r s t u : ℕ × ℕ) (why : Fault)
+  pub four_wrong : (k : List ℕ) (r s t u : ℕ × ℕ) {why : Fault}
       → ((a b c d : List ℕ) → form_of forms (k ∷ a ∷ b ∷ c ∷ d ∷ []) ≡ Some (form k (r ∷ s ∷ t ∷ u ∷ [])))
       → (begins k words && length words == 5) ≡ true → numbers_fault words (r ∷ s ∷ t ∷ u ∷ []) ≡ Some why → row_fault forms words ≡ Some why
-  four_wrong k r s t u why is row h =
+  four_wrong k r s t u is row h =
       let e = four_behind k words row in
-      numbers_wrong (form k (r ∷ s ∷ t ∷ u ∷ [])) why (ap (form_of forms) e.4 ∙ is e.0 e.1 e.2 e.3) h
+      numbers_wrong (ap (form_of forms) e.4 ∙ is e.0 e.1 e.2 e.3) h
 
 -- a line of so many words that is of none of the forms that have as many
-pub unknown_word : (forms : List Form) (words : Words) (n : ℕ) → length words ≡ n
+pub unknown_word : (forms : List Form) (words : Words) {n : ℕ} → length words ≡ n
     → AllByRecursion (λ f. (begins f.keyword words && length words == n) ≡ false) (filter (λ f. 1 + length f.ranges == n) forms)
     → row_fault forms words ≡ Some fault.Word
-unknown_word forms words n long all = word_wrong forms words (none forms all)
+unknown_word forms words {n} long all = word_wrong forms words (none forms all)
   where
     none : (forms : List Form) → AllByRecursion (λ f. (begins f.keyword words && length words == n) ≡ false) (filter (λ f. 1 + length f.ranges == n) forms)
         → AllByRecursion (λ f. has_form words f ≡ false) forms

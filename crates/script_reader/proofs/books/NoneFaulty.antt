@@ -1,8 +1,6 @@
 -- Lines of books and scripts without a fault.
+use Rattle.script_reader.proofs.Common.{HaveNoFault, Words, fault_of}
 use Rattle.std.specs.Prelude.{List}
-use Rattle.script_reader.specs.Reading.{HaveNoFault}
-use Rattle.script_reader.specs.Forms.{Words}
-use Rattle.script_reader.specs.Faults.{fault_of}
 
 -- no line of a list is faulty beside the lines before it and those of the list ahead of it, and none is the last of a
 -- text

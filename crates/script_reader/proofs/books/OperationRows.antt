@@ -1,30 +1,19 @@
 -- The operations of a script: what is to be known of each, said once.
-use Rattle.std.proofs.Common.{lit<, ◌≡◌, ◌⊎◌, inl, inr, ℕ, ◌<◌, ◌≤◌, ◌^◌, Bool, true, false, ◌&&◌, ◌||◌, ◌==◌, cond, if◌then◌else◌, List, [], ◌∷◌, ◌++◌}
-use Rattle.std.proofs.Common.{codes, length, drop, map, slice_index_or, Option, Some, refl, sym, ap, subst, ◌∙◌, arith}
-use Rattle.std.specs.List.{list_any, AllByRecursion}
-use Rattle.std.specs.Option.{is_none}
-use Rattle.std.specs.Str.{bytes_eq}
-use Rattle.books_model.specs.Books.{ClearingBooks}
-use Rattle.books_model.specs.Ranges.{IsWithin, IsAccountNumber, IsInstrumentOf, IsOperationFor}
-use Rattle.books_model.specs.declared.limits.TheConstants.{GREATEST_ACCOUNT, GREATEST_AMOUNT, GREATEST_PRICE, GREATEST_RATE}
-use Rattle.books_model.specs.declared.script.Op.{Op}
-use Rattle.books_model.specs.declared.script.Op.TheVariants as op
-use Rattle.script_reader.specs.declared.books.version.Version.{Version}
-use Rattle.script_reader.specs.declared.books.version.Version.TheVariants.{Two}
-use Rattle.script_reader.specs.Input.{ClearingInput, IsInput}
-use Rattle.script_reader.specs.Versions.{greatest_amount, amount_of, IsInputWithin}
-use Rattle.script_reader.specs.Lines.{AreWords, word_at}
-use Rattle.script_reader.specs.Text.{number, books_operation_words}
-use Rattle.script_reader.specs.Forms.{Words, Form, form, accounts, amounts, prices, quantities, operation_forms, begins, is_only, has_form, form_of}
-use Rattle.script_reader.specs.Forms.{ranges_of, value_of, are_numbers, are_in_range}
-use Rattle.script_reader.specs.Faults.{is_turning}
-use Rattle.script_reader.specs.ListLanguage.{AreNumbersIn, is_word}
-use Rattle.script_reader.specs.Inner.OfVersion.{IsOperationOf}
+use Rattle.script_reader.proofs.Common.{lit<, ◌≡◌, ◌⊎◌, inl, inr, ℕ, ◌<◌, ◌≤◌, ◌^◌, Bool, true, false, ◌&&◌, ◌||◌, ◌==◌, cond, if◌then◌else◌, List, [], ◌∷◌}
+use Rattle.script_reader.proofs.Common.{◌++◌, codes, length, drop, map, slice_index_or, Option, Some, refl, sym, ap, subst, ◌∙◌, arith, list_any}
+use Rattle.script_reader.proofs.Common.{AllByRecursion, is_none, bytes_eq, ClearingBooks, IsWithin, GREATEST_ACCOUNT, GREATEST_AMOUNT, GREATEST_PRICE}
+use Rattle.script_reader.proofs.Common.{GREATEST_RATE, Op, Version, Two, ClearingInput, greatest_amount, AreWords, word_at, number, books_operation_words}
+use Rattle.script_reader.proofs.Common.{Words, Form, form, accounts, amounts, prices, quantities, operation_forms, begins, is_only, has_form, form_of}
+use Rattle.script_reader.proofs.Common.{ranges_of, value_of, are_numbers, are_in_range, is_turning, AreNumbersIn, is_word, IsOperationOf}
+use Rattle.books_model.proofs.Common.{IsAccountNumber, IsInstrumentOf, IsOperationFor}
+use Rattle.script_reader.specs.Input.{IsInput}
+use Rattle.script_reader.specs.Versions.{amount_of, IsInputWithin}
 use Rattle.script_reader.proofs.Conditions.{neither}
 use Rattle.script_reader.proofs.text.Tokens.Cutting.{word_from_test}
 use Rattle.script_reader.proofs.LineFaults.LineKinds.{IsOneOf, one_of, behind_keyword}
 use Rattle.script_reader.proofs.language.Listed.Numbers.{texts_are_words, values_are, numbers_at, both_in, three_in}
 use Rattle.script_reader.proofs.books.Versions.{amount_small, amount_for}
+use Rattle.books_model.specs.declared.script.Op.TheVariants as op
 
 -- the first words of the other lines behind books
 abbrev other_words : List (List ℕ)
@@ -82,11 +71,11 @@ free h = ((h.0, omega arith), h.1)
 
 pub bound : (version : Version) {a x : ℕ} {Q : Type 0} → (IsAccountNumber a × IsWithin 1 (greatest_amount version) x) × Q
     → ((IsAccountNumber a × IsWithin 1 GREATEST_AMOUNT x) × (x ≤ greatest_amount version)) × Q
-bound version h = (((h.0.0, amount_for version _ h.0.1), h.0.1.1), h.1)
+bound version h = (((h.0.0, amount_for version h.0.1), h.0.1.1), h.1)
 
 pub bound_move : (version : Version) {a b x : ℕ} {Q : Type 0} → (IsAccountNumber a × IsAccountNumber b × IsWithin 1 (greatest_amount version) x) × Q
     → ((IsAccountNumber a × IsAccountNumber b × IsWithin 1 GREATEST_AMOUNT x) × (x ≤ greatest_amount version)) × Q
-bound_move version h = (((h.0.0, h.0.1, amount_for version _ h.0.2), h.0.2.1), h.1)
+bound_move version h = (((h.0.0, h.0.1, amount_for version h.0.2), h.0.2.1), h.1)
 
 -- the operation of a word and the numbers behind it
 abbrev operation_with : List ℕ → List ℕ → Op
@@ -187,11 +176,11 @@ module _ (version : Version) (books : ClearingBooks) where
         (opens, (closes, (deposits, (withdraws, (move, (price, (trade, (margin, (next, (shows, (sum, tt)))))))))))
 
     -- the operation of a line of a script, unless it is one of other forms
-    pub operation_line : (others : List Form) (words : Words)
+    pub operation_line : (others : List Form) {words : Words}
         → is_none (form_of (operation_forms version books.instruments ++ others) words) ≡ false → are_numbers (drop 1 words) ≡ true
         → are_in_range (drop 1 words) (ranges_of (form_of (operation_forms version books.instruments ++ others) words)) ≡ true
         → IsOneOf others words ⊎ ((o : Op) × IsOperationOf version books o × (words ≡ books_operation_words o))
-    operation_line others words h n r = elim (formed IsKind (operation_forms version books.instruments) others words kinds h) [
+    operation_line others {words} h n r = elim (formed IsKind (operation_forms version books.instruments) others words kinds h) [
       | inl other ↦ inl other
       | inr found ↦
           let kind : Form = found.0 in

@@ -1,6 +1,5 @@
 -- Where the next line of a script stands that has not ended.
-use Rattle.script_reader.specs.Forms.{Region, InScript, InFirstBranch, InSecondBranch}
-use Rattle.script_reader.specs.Inner.LinesAsWords.{Open, BetweenParts, InFirst, InSecond}
+use Rattle.script_reader.proofs.Common.{Region, InScript, InFirstBranch, InSecondBranch, Open, BetweenParts, InFirst, InSecond}
 
 -- where the next line stands
 abbrev pub region_of : Open → Region

@@ -1,9 +1,6 @@
 -- The ranges of the numbers in each row of books.
+use Rattle.script_reader.proofs.Common.{GREATEST_SHORTFALL, Version, greatest_cash, accounts, prices, quantities}
 use Rattle.std.specs.Prelude.{ℕ, List, [], ◌∷◌}
-use Rattle.books_model.specs.declared.limits.TheConstants.{GREATEST_SHORTFALL}
-use Rattle.script_reader.specs.declared.books.version.Version.{Version}
-use Rattle.script_reader.specs.Versions.{greatest_cash}
-use Rattle.script_reader.specs.Forms.{accounts, prices, quantities}
 
 -- of each row, by the version of the text or by how many instruments there are
 abbrev pub account_ranges : Version → List (ℕ × ℕ)

@@ -1,28 +1,16 @@
 -- The versions of texts: their words, and that their ranges are within those of the language.
-use Rattle.std.proofs.Common.{lit<, ◌≡◌, inl, inr, ℕ, ◌<◌, ◌≤◌, ◌+◌, ◌^◌, Bool, true, false, cond, ◌||◌, List, [], ◌∷◌, ◌++◌, length, length-append}
-use Rattle.std.proofs.Common.{sum_by, All, refl, sym, ap, subst, ◌∙◌, arith}
-use Rattle.std.specs.Cmp.{nat_cmp_total}
+use Rattle.script_reader.proofs.Common.{lit<, ◌≡◌, inl, inr, ℕ, ◌<◌, ◌≤◌, ◌+◌, ◌^◌, Bool, true, false, cond, ◌||◌, List, [], ◌∷◌, ◌++◌, length, length-append}
+use Rattle.script_reader.proofs.Common.{sum_by, All, refl, sym, ap, subst, ◌∙◌, arith, nat_cmp_total, bytes_eq, bytes_eq-Decides, ClearingBooks, IsWithin}
+use Rattle.script_reader.proofs.Common.{operations_in, operations_of, alternatives_in, behind_parts, All-append, sum_by-append, MOST_BLOCKS, MOST_OPERATIONS}
+use Rattle.script_reader.proofs.Common.{MOST_ALTERNATIVES, GREATEST_CASH, GREATEST_AMOUNT, Part, Version, One, Two, Row, Caller, AreCallersFor, version_word}
+use Rattle.script_reader.proofs.Common.{most_blocks, greatest_cash, greatest_amount, AreBooksWithin, IsOperationOf, IsScriptOf, AreCallersOf, with_row}
 use Rattle.std.proofs.lemmas.Map.Lookups.{exact_unsigned}
 use Rattle.books_model.proofs.Maps.Trees.{found_after_insert}
-use Rattle.std.specs.Str.{bytes_eq}
-use Rattle.std.proofs.lemmas.Slice.Eq.{bytes_eq-Decides}
-use Rattle.books_model.specs.Books.{ClearingBooks}
-use Rattle.books_model.specs.Ranges.{IsWithin, IsScriptFor}
-use Rattle.books_model.specs.Scripts.{operations_in, operations_of, alternatives_in}
-use Rattle.books_model.proofs.Scripts.Branches.{behind_parts}
-use Rattle.std.proofs.lemmas.List.Elements.{All-append}
-use Rattle.std.proofs.lemmas.List.Sums.{sum_by-append}
-use Rattle.books_model.specs.declared.limits.TheConstants.{MOST_BLOCKS, MOST_OPERATIONS, MOST_ALTERNATIVES, GREATEST_CASH, GREATEST_AMOUNT}
-use Rattle.books_model.specs.declared.script.Part.{Part}
-use Rattle.script_reader.specs.declared.books.version.Version.{Version}
-use Rattle.script_reader.specs.declared.books.version.Version.TheVariants.{One, Two}
-use Rattle.script_reader.specs.declared.books.Row.{Row}
-use Rattle.script_reader.specs.declared.books.Row.TheVariants as row
-use Rattle.script_reader.specs.Input.{Caller, AreCallersFor}
-use Rattle.script_reader.specs.Versions.{version_word, is_version, version_of, most_blocks, greatest_cash, greatest_amount, AreBooksWithin, IsScriptWithin}
+use Rattle.books_model.specs.Ranges.{IsScriptFor}
+use Rattle.script_reader.specs.Versions.{is_version, version_of, IsScriptWithin}
 use Rattle.script_reader.proofs.text.Tokens.Numerals.{greatest_u64}
-use Rattle.script_reader.specs.Inner.OfVersion.{IsOperationOf, IsScriptOf, AreCallersOf}
-use Rattle.script_reader.specs.Inner.BooksRows.{IsRowWithin, with_row}
+use Rattle.script_reader.specs.Inner.BooksRows.{IsRowWithin}
+use Rattle.script_reader.specs.declared.books.Row.TheVariants as row
 
 -- the word of a version is one, and that of this version
 pub version_known : (v : Version) → is_version (version_word v) ≡ true
@@ -60,8 +48,8 @@ amount_within One = omega arith
 amount_within Two = omega arith
 
 -- a number in the range of the version's amounts is an amount
-pub amount_for : (v : Version) (x : ℕ) → IsWithin 1 (greatest_amount v) x → IsWithin 1 GREATEST_AMOUNT x
-amount_for v x h = (h.0, omega (arith, h.1, amount_within v))
+pub amount_for : (v : Version) {x : ℕ} → IsWithin 1 (greatest_amount v) x → IsWithin 1 GREATEST_AMOUNT x
+amount_for v h = (h.0, omega (arith, h.1, amount_within v))
 
 -- they have texts
 pub blocks_small : (v : Version) → most_blocks v < 2 ^ 64
@@ -83,19 +71,19 @@ amount_small Two = lit< tt
 
 module _ (v : Version) (b : ClearingBooks) where
   -- a script that a text of a version can give, the language has, and its amounts are in the range of the version
-  script_for : (script : List Part) → IsScriptOf v b script → IsScriptFor b script
-  script_for script h = record {
+  script_for : {script : List Part} → IsScriptOf v b script → IsScriptFor b script
+  script_for h = record {
     few = h.few;
     few_alternatives = h.few_alternatives;
     each = λ k d less. (h.each k d less).0;
   }
 
-  script_within : (script : List Part) → IsScriptOf v b script → IsScriptWithin v script
-  script_within script h = λ k d less. (h.each k d less).1
+  script_within : {script : List Part} → IsScriptOf v b script → IsScriptWithin v script
+  script_within h = λ k d less. (h.each k d less).1
 
   -- which is all that it takes
-  pub script_of : (script : List Part) → IsScriptFor b script → IsScriptWithin v script → IsScriptOf v b script
-  script_of script h fits = record {
+  pub script_of : {script : List Part} → IsScriptFor b script → IsScriptWithin v script → IsScriptOf v b script
+  script_of h fits = record {
     few = h.few;
     few_alternatives = h.few_alternatives;
     each = λ k d less. (h.each k d less, fits k d less);
@@ -108,29 +96,29 @@ module _ (v : Version) (b : ClearingBooks) where
     few_scripts = h.few_scripts;
     names = h.names;
     names_differ = h.names_differ;
-    scripts = λ k d less i e low. script_for _ (h.scripts k d less i e low);
+    scripts = λ k d less i e low. script_for (h.scripts k d less i e low);
     some_scripts = h.some_scripts;
   }
 
   pub callers_within : (callers : List Caller) → AreCallersOf v b callers → All (λ c. All (IsScriptWithin v) c.scripts) callers
-  callers_within callers h = λ k d less i e low. script_within _ (h.scripts k d less i e low)
+  callers_within callers h = λ k d less i e low. script_within (h.scripts k d less i e low)
 
-  pub callers_of_version : (callers : List Caller) → AreCallersFor b callers
+  pub callers_of_version : {callers : List Caller} → AreCallersFor b callers
       → All (λ c. All (IsScriptWithin v) c.scripts) callers → AreCallersOf v b callers
-  callers_of_version callers h fits = record {
+  callers_of_version h fits = record {
     few = h.few;
     few_scripts = h.few_scripts;
     names = h.names;
     names_differ = h.names_differ;
-    scripts = λ k d less i e low. script_of _ (h.scripts k d less i e low) (fits k d less i e low);
+    scripts = λ k d less i e low. script_of (h.scripts k d less i e low) (fits k d less i e low);
     some_scripts = h.some_scripts;
   }
 
 -- a script with one more part for which there is room
-pub script_of_more : (v : Version) (b : ClearingBooks) (script : List Part) (p : Part) → IsScriptOf v b script → All (IsOperationOf v b) (operations_in p)
+pub script_of_more : {v : Version} {b : ClearingBooks} {script : List Part} (p : Part) → IsScriptOf v b script → All (IsOperationOf v b) (operations_in p)
     → length (operations_of script) + length (operations_in p) ≤ MOST_OPERATIONS
     → sum_by alternatives_in script + alternatives_in p ≤ MOST_ALTERNATIVES → IsScriptOf v b (script ++ p ∷ [])
-script_of_more v b script p valid each few few_alternatives = record {
+script_of_more {v} {b} {script} p valid each few few_alternatives = record {
   few = omega (arith, few, ap length (behind_parts script p), length-append (operations_of script) (operations_in p));
   few_alternatives = omega (arith, few_alternatives, sum_by-append alternatives_in script (p ∷ []));
   each = subst (All (IsOperationOf v b)) (sym (behind_parts script p))
@@ -138,14 +126,14 @@ script_of_more v b script p valid each few few_alternatives = record {
 }
 
 -- books with a row more are within the ranges if the row is
-pub row_within : (v : Version) (b : ClearingBooks) (r : Row) → AreBooksWithin v b → IsRowWithin v r → AreBooksWithin v (with_row b r)
-row_within v b (row.Account a cash) h fits = record {
+pub row_within : {v : Version} {b : ClearingBooks} (r : Row) → AreBooksWithin v b → IsRowWithin v r → AreBooksWithin v (with_row b r)
+row_within {v} {b} (row.Account a cash) h fits = record {
   blocks = h.blocks;
   cash = λ q w found. elim (found_after_insert nat_cmp_total exact_unsigned b.accounts a q cash w found) [
     | inl new ↦ subst (λ n. n ≤ greatest_cash v) new.1 fits
     | inr old ↦ h.cash q w old
   ];
 }
-row_within v b (row.Price i p) h fits = record { blocks = h.blocks; cash = h.cash }
-row_within v b (row.Position a i q) h fits = record { blocks = h.blocks; cash = h.cash }
-row_within v b (row.Call a d) h fits = record { blocks = h.blocks; cash = h.cash }
+row_within (row.Price i p) h fits = record { blocks = h.blocks; cash = h.cash }
+row_within (row.Position a i q) h fits = record { blocks = h.blocks; cash = h.cash }
+row_within (row.Call a d) h fits = record { blocks = h.blocks; cash = h.cash }

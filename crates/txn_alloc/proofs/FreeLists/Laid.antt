@@ -1,26 +1,18 @@
 -- Free blocks that are laid into their lists, from the last on.
-use Rattle.std.proofs.Common.{◌≡◌, ◌≢◌, ℕ, zero, suc, ◌+◌, ◌%◌, ◌<◌, ◌≤◌, ◌==◌, inl, inr, false, List, [], ◌∷◌, drop, filter, length, get_or, slice_get}
-use Rattle.std.proofs.Common.{slice_set, Some, nat_eq, refl, sym, ap, ◌∙◌, subst, arith, rules}
-use mathlib.Core.Bool.{true≢false}
-use mathlib.Core.Logic.{dite}
-use native.Mathlib.Decide.{ℕ_discrete}
-use Rattle.std.specs.List.{All, IsDistinct}
+use Rattle.txn_alloc.proofs.Common.{◌≡◌, ◌≢◌, ℕ, zero, suc, ◌+◌, ◌%◌, ◌<◌, ◌==◌, inl, inr, false, List, [], ◌∷◌, drop, length, get_or, slice_get, slice_set}
+use Rattle.txn_alloc.proofs.Common.{Some, nat_eq, refl, sym, ap, ◌∙◌, subst, arith, rules, true≢false, dite, ℕ_discrete, All, IsDistinct, length-set}
+use Rattle.txn_alloc.proofs.Common.{IsDistinct-tail, get_set_same, get_set_other, KeepsOthers, Arena, HEADS, block_at, head_of, IsHead, IsLaidOut, HasList}
+use Rattle.txn_alloc.proofs.Common.{FreeListsHold, IsWrittenByLaying}
+use Rattle.std.proofs.Common.{filter}
 use Rattle.std.specs.List.Sorted.{IsStrictlyIncreasing}
 use Rattle.std.proofs.lemmas.List.Kept.{IsStrictlyIncreasing-filter}
-use Rattle.std.specs.FinSet as set
 use Rattle.std.proofs.Math.Seq.{drop-cons}
-use Rattle.std.proofs.lemmas.List.{length-set}
 use Rattle.std.proofs.lemmas.Option.{slice_get-get_or}
-use Rattle.std.proofs.lemmas.Map.Keys.{IsDistinct-tail}
-use Rattle.history_model.proofs.Traces.TraceLaws.{get_set_same, get_set_other}
-use Rattle.txn_words.specs.Frames.{KeepsOthers}
-use Rattle.txn_alloc.specs.declared.arena.Arena.{Arena}
-use Rattle.txn_alloc.specs.declared.arena.TheConstants.{HEADS}
-use Rattle.txn_alloc.specs.FreeLists.{block_at, head_of, IsHead, IsLaidOut, HasList, FreeListsHold}
-use Rattle.txn_alloc.specs.Laying.{IsAmong, IsInRow, IsWrittenByLaying, of_list}
+use Rattle.txn_alloc.specs.Laying.{IsAmong, IsInRow, of_list}
 use Rattle.txn_alloc.proofs.FreeLists.Rounds.{is_head}
 use Rattle.txn_alloc.proofs.Sets.{in_here, in_there, in_or, out_empty, out_rest, contains-insert_other, distinct_more}
 use Rattle.txn_alloc.proofs.FreeLists.Lists.{blocks_of, list_kept, laid_kept, no_head, head_in, block_in}
+use Rattle.std.specs.FinSet as set
 
 -- a block of the list, and one of another
 pub of_here : (h b : ℕ) (bs : List ℕ) → b % HEADS ≡ h → of_list h (b ∷ bs) ≡ b ∷ of_list h bs
@@ -34,7 +26,7 @@ pub of_among : (h b : ℕ) (bs : List ℕ) → IsAmong (of_list h bs) b → IsAm
 of_among h b [] m = absurd (true≢false (sym m ∙ out_empty b))
 of_among h b (c ∷ bs) m = dite (ℕ_discrete (c % HEADS) h)
     (λ e. elim (in_or (blocks_of (of_list h bs)) c b (ap (λ z. set.contains (blocks_of z) b) (sym (of_here h c bs e)) ∙ m)) [
-      | inl is ↦ (ap (λ z. set.contains (blocks_of (c ∷ bs)) z) is ∙ in_here (blocks_of bs) c, ap (λ z. z % HEADS) is ∙ e)
+      | inl is ↦ (ap (set.contains (blocks_of (c ∷ bs))) is ∙ in_here (blocks_of bs) c, ap (λ z. z % HEADS) is ∙ e)
       | inr k ↦ let r = of_among h b bs k in (in_there (blocks_of bs) c b r.0, r.1)
     ])
     (λ ne. let r = of_among h b bs (ap (λ z. set.contains (blocks_of z) b) (sym (of_there h c bs ne)) ∙ m) in (in_there (blocks_of bs) c b r.0, r.1))
@@ -44,9 +36,9 @@ pub of_all : (h b : ℕ) (bs : List ℕ) → b % HEADS ≡ h → set.contains (b
 of_all h b [] own = refl
 of_all h b (c ∷ bs) own = dite (ℕ_discrete (c % HEADS) h)
     (λ e. dite (ℕ_discrete b c)
-    (λ is. ap (λ z. set.contains (blocks_of (c ∷ bs)) z) is ∙ in_here (blocks_of bs) c
+    (λ is. ap (set.contains (blocks_of (c ∷ bs))) is ∙ in_here (blocks_of bs) c
     ∙ sym (ap (λ z. set.contains (blocks_of z) b) (of_here h c bs e)
-    ∙ ap (λ z. set.contains (blocks_of (c ∷ of_list h bs)) z) is ∙ in_here (blocks_of (of_list h bs)) c))
+    ∙ ap (set.contains (blocks_of (c ∷ of_list h bs))) is ∙ in_here (blocks_of (of_list h bs)) c))
     (λ ne. contains-insert_other (blocks_of bs) c b ne ∙ of_all h b bs own
     ∙ sym (ap (λ z. set.contains (blocks_of z) b) (of_here h c bs e) ∙ contains-insert_other (blocks_of (of_list h bs)) c b ne)))
     (λ other.
@@ -59,8 +51,8 @@ of_once h (c ∷ bs) once = dite (ℕ_discrete (c % HEADS) h)
     (λ e.
     let rest : IsDistinct nat_eq (of_list h bs) = of_once h bs (IsDistinct-tail nat_eq c bs once) in
     let out : set.contains (blocks_of (of_list h bs)) c ≡ false = sym (of_all h c bs e) ∙ out_rest c bs once in
-    subst (λ z. IsDistinct nat_eq z) (sym (of_here h c bs e)) (distinct_more c (of_list h bs) out rest))
-    (λ ne. subst (λ z. IsDistinct nat_eq z) (sym (of_there h c bs ne)) (of_once h bs (IsDistinct-tail nat_eq c bs once)))
+    subst (IsDistinct nat_eq) (sym (of_here h c bs e)) (distinct_more c (of_list h bs) out rest))
+    (λ ne. subst (IsDistinct nat_eq) (sym (of_there h c bs ne)) (of_once h bs (IsDistinct-tail nat_eq c bs once)))
 
 -- these blocks are laid, each list from its head on
 pub record IsLaidFrom (arena : Arena) (order first left words : List ℕ) : Type 0 where
@@ -70,12 +62,12 @@ pub record IsLaidFrom (arena : Arena) (order first left words : List ℕ) : Type
 
 module _ (arena : Arena) (order first : List ℕ) (laid : IsLaidOut arena first) where
   -- after the heads were cleared nothing is laid
-  pub laid_none : (words : List ℕ) → KeepsOthers (IsHead arena) first words
+  pub laid_none : {words : List ℕ} → KeepsOthers (IsHead arena) first words
       → ((a : ℕ) → IsHead arena a → slice_get words a ≡ Some 0) → IsLaidFrom arena order first [] words
-  laid_none words kept none = record {
+  laid_none kept none = record {
     count = kept.count;
     same = λ a other. kept.same a (λ head. other (inl head));
-    lists = λ h lt. none (arena.heads + h) (record { low = omega arith; high = omega (arith, lt) });
+    lists = λ h lt. none (arena.heads + h) (record { low = omega arith; high = omega arith });
   }
 
   -- one block more is in front of its list
@@ -92,17 +84,17 @@ module _ (arena : Arena) (order first : List ℕ) (laid : IsLaidOut arena first)
     long_linked = length-set words (block_at arena b) (get_or words (head_of arena b) 0) ∙ h.count
 
     head_there : slice_get words (head_of arena b) ≡ Some (get_or words (head_of arena b) 0)
-    head_there = slice_get-get_or words (head_of arena b) 0 (omega (arith, head_in arena first b laid, h.count))
+    head_there = slice_get-get_or words (head_of arena b) 0 (omega (arith, head_in b laid, h.count))
 
-    heads_stay : (a : ℕ) → IsHead arena a → a ≢ head_of arena b → slice_get new a ≡ slice_get words a
-    heads_stay a head ne = get_set_other linked (head_of arena b) a (b + 1) ne
+    heads_stay : {a : ℕ} → IsHead arena a → a ≢ head_of arena b → slice_get new a ≡ slice_get words a
+    heads_stay {a} head ne = get_set_other linked (head_of arena b) a (b + 1) ne
         ∙ get_set_other words (block_at arena b) a (get_or words (head_of arena b) 0) (λ e. no_head arena first b a laid lt_b head (sym e))
 
     blocks_stay : (d : ℕ) → IsAmong left d → slice_get new (block_at arena d) ≡ slice_get words (block_at arena d)
     blocks_stay d m =
         get_set_other linked (head_of arena b) (block_at arena d) (b + 1) (no_head arena first d (head_of arena b) laid (below d m) (is_head arena b))
         ∙ get_set_other words (block_at arena b) (block_at arena d) (get_or words (head_of arena b) 0)
-        (λ e. let same : d ≡ b = omega arith in true≢false (sym m ∙ ap (λ z. set.contains (blocks_of left) z) same ∙ out))
+        (λ e. let same : d ≡ b = omega arith in true≢false (sym m ∙ ap (set.contains (blocks_of left)) same ∙ out))
 
     own_list : HasList arena new (head_of arena b) (b ∷ of_list (b % HEADS) left)
     own_list =
@@ -111,7 +103,7 @@ module _ (arena : Arena) (order first : List ℕ) (laid : IsLaidOut arena first)
         ∙ get_set_same words (block_at arena b) (get_or words (head_of arena b) 0)
         (omega (arith, block_in arena first b laid lt_b, h.count)) ∙ sym head_there in
         let small : b % 16 < 16 = omega arith in (
-          get_set_same linked (head_of arena b) (b + 1) (omega (arith, head_in arena first b laid, long_linked)),
+          get_set_same linked (head_of arena b) (b + 1) (omega (arith, head_in b laid, long_linked)),
           lt_b,
           list_kept arena words new (head_of arena b) (block_at arena b) (of_list (b % HEADS) left) link
               (λ d m. blocks_stay d (of_among (b % HEADS) d left m).0) (h.lists (b % HEADS) small),
@@ -119,13 +111,13 @@ module _ (arena : Arena) (order first : List ℕ) (laid : IsLaidOut arena first)
 
     lists_more : (k : ℕ) → k < HEADS → HasList arena new (arena.heads + k) (of_list k (b ∷ left))
     lists_more k lt = dite (ℕ_discrete (b % HEADS) k)
-        (λ e. subst (λ z. HasList arena new (arena.heads + k) z) (sym (of_here k b left e))
+        (λ e. subst (HasList arena new (arena.heads + k)) (sym (of_here k b left e))
         (subst (λ z. HasList arena new (arena.heads + z) (b ∷ of_list z left)) e own_list))
         (λ ne.
-        let apart : arena.heads + k ≢ head_of arena b = λ e. ne (omega (arith, e)) in
-        subst (λ z. HasList arena new (arena.heads + k) z) (sym (of_there k b left ne))
+        let apart : arena.heads + k ≢ head_of arena b = λ e. ne (omega arith) in
+        subst (HasList arena new (arena.heads + k)) (sym (of_there k b left ne))
         (list_kept arena words new (arena.heads + k) (arena.heads + k) (of_list k left)
-        (heads_stay (arena.heads + k) (record { low = omega arith; high = omega (arith, lt) }) apart)
+        (heads_stay (record { low = omega arith; high = omega arith }) apart)
         (λ d m. blocks_stay d (of_among k d left m).0) (h.lists k lt)))
 
     pub laid_more : IsLaidFrom arena order first (b ∷ left)
@@ -133,16 +125,13 @@ module _ (arena : Arena) (order first : List ℕ) (laid : IsLaidOut arena first)
     laid_more = record {
       count = length-set linked (head_of arena b) (b + 1) ∙ long_linked;
       same = λ a other.
-          get_set_other linked (head_of arena b) a (b + 1) (λ e. other (inl (subst (λ z. IsHead arena z) (sym e) (is_head arena b))))
+          get_set_other linked (head_of arena b) a (b + 1) (λ e. other (inl (subst (IsHead arena) (sym e) (is_head arena b))))
           ∙ get_set_other words (block_at arena b) a (get_or words (head_of arena b) 0) (λ e. other (inr (b, among, e))) ∙ h.same a other;
       lists = lists_more;
     }
 
   -- if all are laid, they are the free blocks
-  module _ (words : List ℕ) (h : IsLaidFrom arena order first order words) where
-    pub laid_others : KeepsOthers (IsWrittenByLaying arena order) first words
-    laid_others = record { count = h.count; same = h.same }
-
+  module _ {words : List ℕ} (h : IsLaidFrom arena order first order words) where
     pub laid_free : IsDistinct nat_eq order → FreeListsHold arena words (set.from_list order)
     laid_free once = record {
       laid_out = laid_kept arena first words h.count laid;
@@ -171,7 +160,7 @@ pub among_all : (P : ℕ → Type 0) (bs : List ℕ) → All P bs → (b : ℕ) 
 among_all P [] all b m = absurd (true≢false (sym m ∙ out_empty b))
 among_all P (c ∷ bs) all b m = elim (in_or (blocks_of bs) c b m) [
   | inl e ↦ subst P (sym e) (all 0 0 (omega arith))
-  | inr k ↦ among_all P bs (λ i d lt. all (suc i) d (omega (arith, lt))) b k
+  | inr k ↦ among_all P bs (λ i d lt. all (suc i) d (omega arith)) b k
 ]
 
 -- words that are cleared one after another
@@ -179,33 +168,18 @@ pub record AreCleared (first count : ℕ) (start : List ℕ) (n : ℕ) (words : 
   pub kept : KeepsOthers (IsInRow first count) start words
   pub none : (a : ℕ) → IsInRow first n a → slice_get words a ≡ Some 0
 
-pub cleared_more : (first count n : ℕ) (start words : List ℕ) → first + count ≤ length start → n < count
-    → AreCleared first count start n words → AreCleared first count start (n + 1) (slice_set words (first + n) 0)
-cleared_more first count n start words within lt h =
-    let place : ℕ = first + n in
-    let mine : IsInRow first count place = record { low = omega arith; high = omega (arith, lt) } in
-    record {
-      kept = record {
-        count = length-set words place 0 ∙ h.kept.count;
-        same = λ a other. get_set_other words place a 0 (λ e. other (subst (λ z. IsInRow first count z) (sym e) mine)) ∙ h.kept.same a other;
-      };
-      none = λ a mine. dite (ℕ_discrete a place)
-          (λ e. ap (λ z. slice_get (slice_set words place 0) z) e ∙ get_set_same words place 0 (omega (arith, within, lt, h.kept.count)))
-          (λ ne. get_set_other words place a 0 ne ∙ h.none a (record { low = mine.low; high = omega (arith, mine.high, ne) }));
-    }
-
 -- a block of the order is put in front, if those behind it are laid
-pub laid_back : (arena : Arena) (order first : List ℕ) → IsLaidOut arena first → IsDistinct nat_eq order
-    → All (λ b. b < arena.blocks) order → (words : List ℕ) (n : ℕ) → n < length order
+pub laid_back : {arena : Arena} {order first : List ℕ} → IsLaidOut arena first → IsDistinct nat_eq order
+    → All (λ b. b < arena.blocks) order → {words : List ℕ} (n : ℕ) → n < length order
     → IsLaidFrom arena order first (drop (suc n) order) words
     → (let b = get_or order n 0 in
     IsLaidFrom arena order first (drop n order)
     (slice_set (slice_set words (block_at arena b) (get_or words (head_of arena b) 0)) (head_of arena b) (b + 1)))
-laid_back arena order first laid once all words n lt h =
+laid_back {arena} {order} {first} laid once all {words} n lt h =
     let b : ℕ = get_or order n 0 in
     let left : List ℕ = drop (suc n) order in
     let next : drop n order ≡ b ∷ left = drop-cons order n 0 lt in
-    let distinct : IsDistinct nat_eq (b ∷ left) = subst (λ z. IsDistinct nat_eq z) next (rest_once n order once) in
+    let distinct : IsDistinct nat_eq (b ∷ left) = subst (IsDistinct nat_eq) next (rest_once n order once) in
     let among : (c : ℕ) → IsAmong (b ∷ left) c → IsAmong order c = λ c m. rest_among n c order (ap (λ z. set.contains (blocks_of z) c) next ∙ m) in
     let below : (c : ℕ) → IsAmong (b ∷ left) c → c < arena.blocks = λ c m. among_all (λ d. d < arena.blocks) order all c (among c m) in
     let here : IsAmong (b ∷ left) b = in_here (blocks_of left) b in
@@ -222,4 +196,4 @@ of_filter h (b ∷ bs) = dite (ℕ_discrete (b % HEADS) h)
     (λ ne. of_there h b bs ne ∙ of_filter h bs ∙ grind (rules, ne))
 
 pub rising_of : (h : ℕ) (bs : List ℕ) → IsStrictlyIncreasing bs → IsStrictlyIncreasing (of_list h bs)
-rising_of h bs rises = subst (λ z. IsStrictlyIncreasing z) (sym (of_filter h bs)) (IsStrictlyIncreasing-filter (λ b. b % HEADS == h) bs rises)
+rising_of h bs rises = subst IsStrictlyIncreasing (sym (of_filter h bs)) (IsStrictlyIncreasing-filter (λ b. b % HEADS == h) bs rises)

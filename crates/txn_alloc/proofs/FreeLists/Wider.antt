@@ -1,10 +1,7 @@
 -- What a call on the free lists keeps, said in wider words.
-use Rattle.std.proofs.Common.{ℕ, ◌⊎◌, inl, inr, List, Option, Some, None, sym, subst, arith}
-use Rattle.history_model.specs.Traces.{Trace}
-use Rattle.history_model.specs.Fitting.{Leads}
-use Rattle.txn_words.specs.Frames.{KeepsOthers}
-use Rattle.txn_alloc.specs.declared.arena.Arena.{Arena}
-use Rattle.txn_alloc.specs.FreeLists.{IsHead, IsInBlock, IsHeadFor, IsHeadOrFirst, IsWrittenByTake}
+use Rattle.txn_alloc.proofs.Common.{ℕ, ◌⊎◌, inl, inr, List, Option, Some, None, sym, subst, arith, Trace, Leads, KeepsOthers, Arena, IsHead, IsInBlock}
+use Rattle.txn_alloc.proofs.Common.{IsHeadOrFirst, IsWrittenByTake}
+use Rattle.txn_alloc.specs.FreeLists.{IsHeadFor}
 use Rattle.txn_alloc.proofs.FreeLists.Rounds.{is_head}
 
 -- a is a head, or a word of block b
@@ -16,7 +13,7 @@ pub keeps_more : (IsOwn IsWider : ℕ → Type 0) (s t : List ℕ) → ((a : ℕ
 keeps_more IsOwn IsWider s t wider k = record { count = k.count; same = λ a out. k.same a (λ o. out (wider a o)) }
 
 pub head_is : (arena : Arena) (b a : ℕ) → IsHeadFor arena b a → IsHead arena a
-head_is arena b a e = subst (λ z. IsHead arena z) (sym e) (is_head arena b)
+head_is arena b a e = subst (IsHead arena) (sym e) (is_head arena b)
 
 written_head : (arena : Arena) (o : Option ℕ) (a : ℕ) → IsWrittenByTake arena o a → IsHead arena a
 written_head arena None a k = absurd k
@@ -24,7 +21,7 @@ written_head arena (Some b) a k = head_is arena b a k
 
 given_in : (arena : Arena) (b a : ℕ) → IsHeadOrFirst arena b a → IsAnyHeadOrIn arena b a
 given_in arena b a (inl e) = inl (head_is arena b a e)
-given_in arena b a (inr e) = inr (record { low = omega (arith, e); high = omega (arith, e) })
+given_in arena b a (inr e) = inr (omega arith)
 
 pub take_keeps : (arena : Arena) (o : Option ℕ) (n : ℕ) (G : List ℕ → Type 0) (t u : Trace)
     → Leads n G t u (KeepsOthers (IsWrittenByTake arena o)) → Leads n G t u (KeepsOthers (IsHead arena))

@@ -1,12 +1,9 @@
 -- Lists of cells: what they say of a key, which blocks they have, and how often.
-use Rattle.std.proofs.Common.{◌≡◌, ◌≢◌, ℕ, ◌+◌, ◌≤◌, true, false, List, [], ◌∷◌, ◌++◌, Some, None, refl, sym, ap, ◌∙◌, arith, rules, ◌==◌, if◌then◌else◌}
-use mathlib.Core.Bool.{true≢false}
-use mathlib.Core.Logic.{dite}
-use native.Mathlib.Decide.{ℕ_discrete}
-use Rattle.std.specs.List.{AllByRecursion}
-use Rattle.std.specs.FinMap as entry_map
+use Rattle.txn_alloc.proofs.Common.{◌≡◌, ◌≢◌, ℕ, ◌+◌, ◌≤◌, true, false, List, [], ◌∷◌, ◌++◌, Some, None, refl, sym, ap, ◌∙◌, arith, rules, ◌==◌, true≢false}
+use Rattle.txn_alloc.proofs.Common.{dite, ℕ_discrete, AllByRecursion, Cell, Entries, value_of, has_block}
+use Rattle.std.proofs.Common.{if◌then◌else◌}
 use Rattle.std.specs.FinMap.{gets}
-use Rattle.txn_alloc.specs.EntryMaps.{Cell, Entries, value_of, has_block}
+use Rattle.std.specs.FinMap as entry_map
 
 -- what holds of each cell of two lists holds of each of both, and the other way round
 pub all_append : (P : Cell → Type 0) (xs ys : List Cell) → AllByRecursion P xs → AllByRecursion P ys → AllByRecursion P (xs ++ ys)
@@ -88,25 +85,25 @@ times_in b (c ∷ cs) = one_in b c + times_in b cs
 
 pub times-append : (b : ℕ) (xs ys : List Cell) → times_in b (xs ++ ys) ≡ times_in b xs + times_in b ys
 times-append b [] ys = omega arith
-times-append b (x ∷ xs) ys = let e : times_in b (xs ++ ys) ≡ times_in b xs + times_in b ys = times-append b xs ys in omega (arith, e)
+times-append b (x ∷ xs) ys = omega (arith, times-append b xs ys)
 
 pub has_times : (b : ℕ) (cs : List Cell) → has_block b cs ≡ true → 1 ≤ times_in b cs
 has_times b [] h = absurd (true≢false (sym h))
 has_times b (c ∷ cs) h = dite (ℕ_discrete c.block b)
-    (λ e. let one : one_in b c ≡ 1 = one_here b c e in omega (arith, one))
-    (λ e. let rest : 1 ≤ times_in b cs = has_times b cs (sym (later_block b c cs e) ∙ h) in omega (arith, rest))
+    (λ e. omega (arith, one_here b c e))
+    (λ e. let rest : 1 ≤ times_in b cs = has_times b cs (sym (later_block b c cs e) ∙ h) in omega arith)
 
 pub times_has : (b : ℕ) (cs : List Cell) → 1 ≤ times_in b cs → has_block b cs ≡ true
-times_has b [] h = absurd (omega (arith, h))
+times_has b [] h = absurd (omega arith)
 times_has b (c ∷ cs) h = dite (ℕ_discrete c.block b)
-    (λ e. first_block b c cs e)
-    (λ e. let none : one_in b c ≡ 0 = one_there b c e in later_block b c cs e ∙ times_has b cs (omega (arith, none, h)))
+    (first_block b c cs)
+    (λ e. later_block b c cs e ∙ times_has b cs (omega (arith, one_there b c e)))
 
 pub has_not : (b : ℕ) (cs : List Cell) → times_in b cs ≡ 0 → has_block b cs ≡ false
 has_not b [] h = refl
 has_not b (c ∷ cs) h = dite (ℕ_discrete c.block b)
-    (λ e. let one : one_in b c ≡ 1 = one_here b c e in absurd (omega (arith, one, h)))
-    (λ e. later_block b c cs e ∙ has_not b cs (omega (arith, h)))
+    (λ e. absurd (omega (arith, one_here b c e)))
+    (λ e. later_block b c cs e ∙ has_not b cs (omega arith))
 
 -- the entries at a key that comes and goes
 pub insert_same : (f : Entries) (key x : ℕ) → entry_map.get (entry_map.insert f key x) key ≡ Some x

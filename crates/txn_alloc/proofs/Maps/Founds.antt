@@ -1,25 +1,16 @@
 -- What a call of any map on blocks leads to, writes and reads if its search found the key, and if it missed it.
 -- It is said over what the map knows of one word list: what is near a search, and what a key that was found says.
-use Rattle.std.proofs.Common.{◌≡◌, ℕ, ◌+◌, ◌⊎◌, inl, inr, true, List, [], ◌∷◌, ◌++◌, slice_get, slice_set, Some, None, refl, sym, ap, ◌∙◌, subst, arith}
-use Rattle.std.specs.FinSet as set
-use Rattle.std.specs.FinMap as entry_map
-use Rattle.history_model.specs.declared.event.Event.TheVariants.{Read}
-use Rattle.history_model.specs.Traces.{Trace, after, Begins}
-use Rattle.history_model.specs.Fitting.{Fits, InEach, Leads}
-use Rattle.history_model.proofs.Traces.FittingLaws.{fits_begins}
-use Rattle.txn_words.specs.Steps.{EndsWithWrite}
-use Rattle.txn_words.specs.Frames.{AppendsOnly, AppendsReads}
-use Rattle.txn_words.specs.Looks.{Looks}
-use Rattle.txn_words.proofs.Steps.{after_write_end, fits_write_end}
-use Rattle.txn_words.proofs.FrameLaws.{only_more, only_then, only_write}
-use Rattle.txn_words.proofs.ReadLaws.{sees_more, sees_then, sees_write}
-use Rattle.txn_words.proofs.Looks.{leads_back, looks_read, looks_wider, seen_before}
-use Rattle.txn_alloc.specs.declared.put.Put.TheVariants.{New, Old, Full}
-use Rattle.txn_alloc.specs.FreeLists.{block_at, IsInBlock, IsHeadOrFirst, IsNearest, IsWrittenByTake, IsReadByTake}
-use Rattle.txn_alloc.specs.EntryMaps.{Entries, Blocks, Part, HasMap, HoldsApart, HasMapApart, Finds, IsUsedIn, IsMoved, IsSeen, IsOwn, IsValue, Inserts}
-use Rattle.txn_alloc.specs.EntryMaps.{TakesNearest, MayRead, MayReadToInsert, MayReadToRemove}
+use Rattle.txn_alloc.proofs.Common.{◌≡◌, ℕ, ◌+◌, ◌⊎◌, inl, inr, true, List, [], ◌∷◌, ◌++◌, slice_get, slice_set, Some, None, refl, sym, ap, ◌∙◌, subst, arith}
+use Rattle.txn_alloc.proofs.Common.{Read, Trace, after, Begins, Fits, InEach, Leads, fits_begins, EndsWithWrite, AppendsOnly, AppendsReads, Looks}
+use Rattle.txn_alloc.proofs.Common.{after_write_end, fits_write_end, only_more, only_then, only_write, sees_more, sees_then, sees_write, leads_back, looks_read}
+use Rattle.txn_alloc.proofs.Common.{looks_wider, seen_before, New, Old, Full, block_at, IsInBlock, IsHeadOrFirst, IsNearest, IsWrittenByTake, IsReadByTake}
+use Rattle.txn_alloc.proofs.Common.{Entries, Blocks, Part, HasMap, HoldsApart, HasMapApart, Finds, IsUsedIn, IsMoved, IsOwn, IsValue, Inserts, TakesNearest}
+use Rattle.txn_alloc.proofs.Common.{MayReadToInsert}
+use Rattle.txn_alloc.specs.EntryMaps.{IsSeen, MayRead, MayReadToRemove}
 use Rattle.txn_alloc.proofs.Sets.{in_here, in_or}
 use Rattle.txn_alloc.proofs.Maps.Parts.{IsOne, used_of, moved_in, each_held}
+use Rattle.std.specs.FinSet as set
+use Rattle.std.specs.FinMap as entry_map
 
 -- what is near a search for the key is what a look for it may read
 abbrev pub IsOwnNear : Part → ℕ → (List ℕ → ℕ → Type 0) → Type 0
@@ -51,13 +42,13 @@ module _ (part : Part) (key n : ℕ) (G : List ℕ → Type 0) (t u : Trace) {Is
       sees_more (IsNear (after t s)) (MayRead part key (after t s) (after u s)) t u (own (after t s) o.entries o.used o.holds) (l.reads s fit)
 
   -- and heads, if no block was free
-  pub sees_none : {P : List ℕ → Type 0} → Looks n G t u IsNear P → InEach n G t (HasMapApart part) → (v : Trace)
+  pub sees_none : {P : List ℕ → Type 0} → Looks n G t u IsNear P → InEach n G t (HasMapApart part) → {v : Trace}
       → Begins u v → AppendsReads u v (IsReadByTake part.arena key None)
       → (s : List ℕ) → Fits n G v s → AppendsReads t v (MayReadToInsert part key Full (after t s) (after v s))
-  sees_none l order v bv heads s fit =
+  sees_none l order {v} bv heads s fit =
       let may : ℕ → Type 0 = MayReadToInsert part key Full (after t s) (after v s) in
       let fit_u : Fits n G u s = fits_begins n G u v s bv fit in
-      sees_then may t u v (sees_more (MayRead part key (after t s) (after u s)) may t u (λ a k. inl k) (sees_near l (each_held part n G t order) s fit_u))
+      sees_then may t u v (sees_more (MayRead part key (after t s) (after u s)) may t u (λ a k. inl k) (sees_near l (each_held order) s fit_u))
       (sees_more (IsReadByTake part.arena key None) may u v (λ a k. inr k) heads)
 
 -- the key was found, and its value is near too
@@ -77,7 +68,7 @@ module _ (part : Part) (key n : ℕ) (G : List ℕ → Type 0) (t u : Trace) {Is
         let seen = seen_before n G t u l s fit in
         record {
           same = l.same s fit;
-          found = λ f used h. sym (block.value (after t s) f used was seen.0 (ap (λ z. slice_get (after t s) z) (sym is_value) ∙ seen.1) h);
+          found = λ f used h. sym (block.value (after t s) f used was seen.0 (ap (slice_get (after t s)) (sym is_value) ∙ seen.1) h);
         };
   }
 
@@ -120,7 +111,7 @@ module _ (part : Part) (key n : ℕ) (G : List ℕ → Type 0) (t u : Trace) {Is
     pub owns_old : (s : List ℕ) → Fits n G v s → AppendsOnly t v (IsOwn part key (after t s) (after v s))
     owns_old s fit =
         let own : ℕ → Type 0 = IsOwn part key (after t s) (after v s) in
-        let mine : IsInBlock part.arena b q = record { low = omega (arith, is_value); high = omega (arith, is_value) } in
+        let mine : IsInBlock part.arena b q = omega arith in
         only_then own t u v (only_more (λ a. ⊥) own t u (λ a k. absurd k) l.writes) (only_write own u v q x e (inr (inl (b, inl (uses_start s fit), mine))))
 
     -- no other word was written
@@ -134,7 +125,7 @@ module _ (part : Part) (key n : ℕ) (G : List ℕ → Type 0) (t u : Trace) {Is
     sees_old own s fit =
         let may : ℕ → Type 0 = MayRead part key (after t s) (after v s) in
         let o : HasMapApart part (after t s) = order_start s fit in
-        sees_then may t u v (sees_value own (each_held part n G t order) s (fits_u s fit))
+        sees_then may t u v (sees_value own (each_held order) s (fits_u s fit))
         (sees_write may u v q x e (value_seen part key b q own block is_value (after t s) o.entries o.used (found_start s fit) o.holds.map q (inr refl)))
 
 -- a new key is in, in block b, which was free
@@ -153,26 +144,26 @@ module _ (part : Part) (one : IsOne part) (key x n : ℕ) (G : List ℕ → Type
   }
 
   module _ (order : InEach n G t (HasMapApart part)) where
-    order_before : (s : List ℕ) → Fits n G w s → HasMapApart part (after t s)
-    order_before s fit = order.at s (fits_begins n G t w s begins fit)
+    order_before : {s : List ℕ} → Fits n G w s → HasMapApart part (after t s)
+    order_before {s} fit = order.at s (fits_begins n G t w s begins fit)
 
     -- the block that was taken is used afterwards
     pub uses_new : (s : List ℕ) → Fits n G w s → IsUsedIn part (after w s) b
     uses_new s fit =
-        let o = order_before s fit in
+        let o = order_before fit in
         (entry_map.insert o.entries key x, set.insert o.used b, (puts s fit o.entries o.used o.free o.holds).left.map, in_here o.used b)
 
     pub moved_new : (s : List ℕ) → Fits n G w s → IsMoved part (after t s) (after w s) b
     moved_new s fit =
-        let o = order_before s fit in
-        moved_in part one (after t s) (after w s) o.entries o.used o.free b o.holds (puts s fit o.entries o.used o.free o.holds).was_free (uses_new s fit)
+        let o = order_before fit in
+        moved_in part one (after w s) b o.holds (puts s fit o.entries o.used o.free o.holds).was_free (uses_new s fit)
 
     -- and it is the one that a take near the key gives
     pub takes_new : (u v : Trace) {IsNear : List ℕ → ℕ → Type 0} {P : List ℕ → Type 0} → Looks n G t u IsNear P
         → Begins u v → Begins v w → Leads n G u v (λ x y. IsNearest part.arena key b x) → Leads n G t w (TakesNearest part key)
     takes_new u v l bv bw nearest = record {
       at = λ s fit d uses unused.
-          let o = order_before s fit in
+          let o = order_before fit in
           let near : IsNearest part.arena key b (after t s) =
           (leads_back n G t u l v (λ x y. IsNearest part.arena key b x) bv nearest).at s (fits_begins n G v w s bw fit) in
           elim (in_or o.used b d (used_of part one (after w s) (entry_map.insert o.entries key x) (set.insert o.used b)
@@ -200,16 +191,16 @@ module _ (part : Part) (one : IsOne part) (key x n : ℕ) (G : List ℕ → Type
           let fit_u : Fits n G u s = fits_begins n G u v s bv (fits_begins n G v w s bw fit) in
           let moved : IsMoved part (after t s) (after w s) b = moved_new s fit in
           let name : (a : ℕ) → IsReadByTake part.arena key (Some b) a → may a =
-          λ a k. elim k [ inl e ↦ inr (b, moved, inl e) | inr e ↦ inr (b, moved, inr (record { low = omega (arith, e); high = omega (arith, e) })) ] in
+          λ a k. elim k [ inl e ↦ inr (b, moved, inl e) | inr e ↦ inr (b, moved, inr (omega arith)) ] in
           sees_then may t u w (sees_more (MayRead part key (after t s) (after u s)) may t u (λ a k. inl k)
-          (sees_near part key n G t u own l (each_held part n G t order) s fit_u))
+          (sees_near part key n G t u own l (each_held order) s fit_u))
           (sees_then may u v w (sees_more (IsReadByTake part.arena key (Some b)) may u v name names) (sees_more IsPut may v w step put))
 
 -- a block that was used was given back
 module _ (part : Part) (key y b : ℕ) (before after : List ℕ) (used : IsUsedIn part before b) (moved : IsMoved part before after b) where
   pub given_own : (a : ℕ) → IsHeadOrFirst part.arena b a → IsOwn part key before after a
   given_own a (inl head) = inr (inr (b, moved, head))
-  given_own a (inr e) = inr (inl (b, inl used, record { low = omega (arith, e); high = omega (arith, e) }))
+  given_own a (inr e) = inr (inl (b, inl used, omega arith))
 
   pub given_seen : (a : ℕ) → IsHeadOrFirst part.arena b a → MayReadToRemove part key (Some y) before after a
   given_seen a (inl head) = inr (b, moved, head)

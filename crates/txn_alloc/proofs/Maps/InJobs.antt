@@ -1,14 +1,12 @@
 -- Calls of a map within a job: what the job begins with, what holds behind a look, and what a call behind one did.
-use Rattle.std.proofs.Common.{◌≡◌, List, [], ℕ, Option, Result, sym, subst}
+use Rattle.txn_alloc.proofs.Common.{◌≡◌, List, [], ℕ, Option, sym, subst, after, Fits, InEachState, LeadsTo, state_after, Part, Finds, HasMap, HasMapApart}
+use Rattle.std.proofs.Common.{Result}
 use Rattle.history_model.specs.declared.shape.Shape.{Ghosts as Shapes}
-use Rattle.history_model.specs.Traces.{after}
-use Rattle.history_model.specs.Fitting.{Fits}
 use Rattle.history_model.proofs.Traces.FittingLaws.{each_fresh}
 use Rattle.txn_words.specs.declared.words.Stop.{Stop}
 use Rattle.txn_words.specs.declared.words.Words.{Ghosts as AnyWords}
-use Rattle.txn_words.specs.Calls.{GoesOn, InEachState, LeadsTo}
-use Rattle.txn_words.proofs.CallLaws.{leads_from_start, leads_then, state_after}
-use Rattle.txn_alloc.specs.EntryMaps.{Part, Finds, HasMap, HasMapApart}
+use Rattle.txn_words.specs.Calls.{GoesOn}
+use Rattle.txn_words.proofs.CallLaws.{leads_from_start, leads_then}
 use Rattle.txn_alloc.proofs.Maps.Parts.{held, order_found}
 
 module _ {W S O : Type 0} {words : AnyWords W S O} {shapes : Shapes S} {v : W} {shape : S} where

@@ -1,24 +1,15 @@
 -- All that an insert of any map on blocks promises: if the key was there, if it was put in, and if no block was free.
-use Rattle.std.proofs.Common.{◌≡◌, ℕ, ◌+◌, List, slice_get, slice_set, Some, None, refl}
-use Rattle.std.specs.FinMap as entry_map
+use Rattle.txn_alloc.proofs.Common.{◌≡◌, ℕ, ◌+◌, List, slice_get, slice_set, Some, None, refl, Trace, after, Begins, Fits, SomeFits, InEach, Leads}
+use Rattle.txn_alloc.proofs.Common.{EndsWithWrite, AppendsOnly, AppendsReads, InEachState, LeadsTo, WritesWithin, ReadsWithin, Looks, each_plain, leads_plain}
+use Rattle.txn_alloc.proofs.Common.{state_after, only_more, only_then, leads_back, Put, New, Old, Full, block_at, HasNone, IsReadByTake, Entries, Blocks, Part}
+use Rattle.txn_alloc.proofs.Common.{HasMapApart, HoldsApart, Inserts, LacksRoom, TakesNearest, IsOwn, IsValue, MayReadToInsert}
+use Rattle.txn_words.proofs.Common.{WritesOnly}
 use Rattle.history_model.specs.declared.shape.Shape.{Ghosts as Shapes}
-use Rattle.history_model.specs.Traces.{Trace, after, Begins}
-use Rattle.history_model.specs.Fitting.{Fits, SomeFits, InEach, Leads}
 use Rattle.txn_words.specs.declared.words.Words.{Ghosts as AnyWords}
-use Rattle.txn_words.specs.Steps.{EndsWithWrite}
-use Rattle.txn_words.specs.Frames.{AppendsOnly, AppendsReads}
-use Rattle.txn_words.specs.Calls.{InEachState, LeadsTo, WritesOnly, WritesWithin, ReadsWithin}
-use Rattle.txn_words.specs.Looks.{Looks}
-use Rattle.txn_words.proofs.CallLaws.{each_plain, leads_plain, state_after}
-use Rattle.txn_words.proofs.FrameLaws.{only_more, only_then}
-use Rattle.txn_words.proofs.Looks.{leads_back}
-use Rattle.txn_alloc.specs.declared.put.Put.{Put}
-use Rattle.txn_alloc.specs.declared.put.Put.TheVariants.{New, Old, Full}
-use Rattle.txn_alloc.specs.FreeLists.{block_at, HasNone, IsReadByTake}
-use Rattle.txn_alloc.specs.EntryMaps.{Entries, Blocks, Part, HasMapApart, HoldsApart, Inserts, LacksRoom, TakesNearest, IsOwn, IsValue, MayReadToInsert}
 use Rattle.txn_alloc.proofs.Maps.Parts.{order_inserted, lacks_room, not_new, not_old, new_not_old, old_not_new, full_not_new, full_not_old, new_not_full}
 use Rattle.txn_alloc.proofs.Maps.Parts.{old_not_full}
 use Rattle.txn_alloc.proofs.Maps.Founds.{IsOwnNear, IsNearOr, IsKeysBlock, inserts_old, owns_old, owns_value, sees_old, sees_none}
+use Rattle.std.specs.FinMap as entry_map
 
 -- what a call promises that put x at the key, from v to w, and gave this answer
 pub record IsInserted {W S O : Type 0} (words : AnyWords W S O) (shapes : Shapes S) (part : Part) (key x : ℕ) (v w : W)
@@ -69,7 +60,7 @@ module _ {W S O : Type 0} (words : AnyWords W S O) (shapes : Shapes S) (part : P
           put = leads;
           nearest = λ is. absurd (old_not_new was is);
           full = λ is. absurd (old_not_full was is);
-          full_if = λ lacks. not_old part key x count Good (words.trace v) (words.trace w) before begins some (plainly lacks) was
+          full_if = λ lacks. not_old key x before begins some (plainly lacks) was
               (leads_plain words shapes v w (Inserts part key x (Old was)) leads);
           order = in_order (Old was) leads;
           frame = record { at = owns_old part key count Good (words.trace v) u b q was is_value block l before (words.trace w) x e };
@@ -90,7 +81,7 @@ module _ {W S O : Type 0} (words : AnyWords W S O) (shapes : Shapes S) (part : P
     put = record { at = leads.at };
     nearest = λ is. record { at = takes.at };
     full = λ is. absurd (new_not_full is);
-    full_if = λ lacks. not_new part key x count Good (words.trace v) (words.trace w) before begins some (plainly lacks) leads;
+    full_if = λ lacks. not_new key x before begins some (plainly lacks) leads;
     order = in_order New (record { at = leads.at });
     frame = record { at = owns };
     old = λ y is. absurd (new_not_old y is);
@@ -113,11 +104,11 @@ module _ {W S O : Type 0} (words : AnyWords W S O) (shapes : Shapes S) (part : P
         record {
           put = leads;
           nearest = λ is. absurd (full_not_new is);
-          full = λ is. record { at = (lacks_room part key count Good (words.trace v) u absent l (words.trace w) then none).at };
+          full = λ is. record { at = (lacks_room part key count Good (words.trace v) u absent l then none).at };
           full_if = λ lacks. refl;
           order = in_order Full leads;
           frame = record { at = λ s fit. only_more (λ a. ⊥) _ (words.trace v) (words.trace w) (λ a k. absurd k) written };
           old = λ y is. absurd (full_not_old y is);
           full_frame = λ is. record { appended = written };
-          reads = record { at = sees_none part key count Good (words.trace v) u own l before (words.trace w) then heads };
+          reads = record { at = sees_none part key count Good (words.trace v) u own l before then heads };
         }

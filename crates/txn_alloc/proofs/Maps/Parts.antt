@@ -1,19 +1,12 @@
 -- What maps on blocks have in common: lemmas over any map's part of the words.
-use Rattle.std.proofs.Common.{◌≡◌, ℕ, inl, inr, Bool, true, false, List, Option, Some, None, refl, sym, ap, ◌∙◌, subst}
-use mathlib.Core.Bool.{true≢false}
-use Rattle.std.specs.FinSet as set
-use Rattle.std.specs.FinMap as entry_map
-use Rattle.history_model.specs.Traces.{Trace, after, Begins}
-use Rattle.history_model.specs.Fitting.{SomeFits, InEach, Leads}
-use Rattle.history_model.proofs.Traces.FittingLaws.{fits_begins}
-use Rattle.txn_words.specs.Looks.{Looks}
-use Rattle.txn_words.proofs.Looks.{leads_back, seen_before}
-use Rattle.txn_alloc.specs.declared.put.Put.{Put}
-use Rattle.txn_alloc.specs.declared.put.Put.TheVariants.{New, Old, Full}
-use Rattle.txn_alloc.specs.FreeLists.{FreeListsHold, HasNone}
-use Rattle.txn_alloc.specs.EntryMaps.{Entries, Blocks, Part, HasMap, HoldsApart, HasMapApart, Finds, IsUsedIn, IsMoved, Inserts, LacksRoom, Removes}
+use Rattle.txn_alloc.proofs.Common.{◌≡◌, ℕ, inl, inr, Bool, true, false, List, Option, Some, None, refl, sym, ap, ◌∙◌, subst, true≢false, Trace, after, Begins}
+use Rattle.txn_alloc.proofs.Common.{SomeFits, InEach, Leads, fits_begins, Looks, leads_back, seen_before, Put, New, Old, Full, FreeListsHold, HasNone, Entries}
+use Rattle.txn_alloc.proofs.Common.{Blocks, Part, HasMap, HoldsApart, HasMapApart, Finds, IsUsedIn, IsMoved, Inserts, LacksRoom}
+use Rattle.txn_alloc.specs.EntryMaps.{Removes}
 use Rattle.txn_alloc.proofs.FreeLists.Lists.{one_set}
 use Rattle.txn_alloc.proofs.Sets.{out_empty, out_itself}
+use Rattle.std.specs.FinSet as set
+use Rattle.std.specs.FinMap as entry_map
 
 -- the three answers of an insert differ
 pub new_not_old : (was : ℕ) → New ≡ Old was → ⊥
@@ -38,8 +31,8 @@ old_not_full was e = absurd (cc)
 pub held : {part : Part} {s : List ℕ} → HasMapApart part s → HasMap part s
 held o = record { entries = o.entries; used = o.used; holds = o.holds.map }
 
-pub each_held : (part : Part) (n : ℕ) (G : List ℕ → Type 0) (t : Trace) → InEach n G t (HasMapApart part) → InEach n G t (HasMap part)
-each_held part n G t order = record { at = λ s fit. held (order.at s fit) }
+pub each_held : {part : Part} {n : ℕ} {G : List ℕ → Type 0} {t : Trace} → InEach n G t (HasMapApart part) → InEach n G t (HasMap part)
+each_held order = record { at = λ s fit. held (order.at s fit) }
 
 -- a block that is free is not used
 pub free_unused : (part : Part) (s : List ℕ) (f : Entries) (u v : Blocks) (b : ℕ) → HoldsApart part s f u v → set.contains v b ≡ true → set.contains u b ≡ false
@@ -60,10 +53,10 @@ empty_apart part s free map lists = record { map = map; free_lists = lists; apar
 
 -- what a look leaves is held, and in order
 pub held_found : (part : Part) (key : ℕ) (answer : Option ℕ) (x y : List ℕ) → HasMap part x → Finds part key answer x y → HasMap part y
-held_found part key answer x y o f = subst (λ z. HasMap part z) (sym f.same) o
+held_found part key answer x y o f = subst (HasMap part) (sym f.same) o
 
 pub order_found : (part : Part) (key : ℕ) (answer : Option ℕ) (x y : List ℕ) → HasMapApart part x → Finds part key answer x y → HasMapApart part y
-order_found part key answer x y o f = subst (λ z. HasMapApart part z) (sym f.same) o
+order_found part key answer x y o f = subst (HasMapApart part) (sym f.same) o
 
 -- and what an insert or a removal leaves is in order
 pub order_inserted : (part : Part) (key x : ℕ) (put : Put) (s t : List ℕ) → HasMapApart part s → Inserts part key x put s t → HasMapApart part t
@@ -77,7 +70,7 @@ order_inserted part key x (Old was) s t o h = record {
       o.free;
   holds = (h o.entries o.used o.free o.holds).left;
 }
-order_inserted part key x Full s t o h = subst (λ z. HasMapApart part z) (sym h) o
+order_inserted part key x Full s t o h = subst (HasMapApart part) (sym h) o
 
 pub order_removed : (part : Part) (key : ℕ) (answer : Option ℕ) (s t : List ℕ) → HasMapApart part s → Removes part key answer s t → HasMapApart part t
 order_removed part key None s t o h = order_found part key None s t o h
@@ -95,16 +88,16 @@ module _ (part : Part) (one : IsOne part) where
   used_of s f u b hold uses = ap (λ z. set.contains z b) (one s f (uses.0) u (uses.1) hold (uses.2)).1 ∙ uses.3
 
   -- a block that was free and is used was taken
-  pub moved_in : (s t : List ℕ) (f : Entries) (u v : Blocks) (b : ℕ) → HoldsApart part s f u v
+  pub moved_in : {s : List ℕ} (t : List ℕ) {f : Entries} {u v : Blocks} (b : ℕ) → HoldsApart part s f u v
       → set.contains v b ≡ true → IsUsedIn part t b → IsMoved part s t b
-  moved_in s t f u v b hold free uses = inr (uses, λ k. true≢false (sym free ∙ hold.apart b (used_of s f u b hold.map k)))
+  moved_in {s} t {f} {u} b hold free uses = inr (uses, λ k. true≢false (sym free ∙ hold.apart b (used_of s f u b hold.map k)))
 
   -- a block that was used and is used no more was given back
   pub moved_out : (s t : List ℕ) (g : Entries) (u : Blocks) (b : ℕ) → IsUsedIn part s b → part.Holds t g (set.remove u b) → IsMoved part s t b
   moved_out s t g u b uses hold = inl (uses, λ k. true≢false (sym (used_of t g (set.remove u b) b hold k) ∙ out_itself u b))
 
 -- if there was room, not every state had none
-module _ (part : Part) (key x n : ℕ) (G : List ℕ → Type 0) (t w : Trace) (order : InEach n G t (HasMapApart part))
+module _ {part : Part} (key x : ℕ) {n : ℕ} {G : List ℕ → Type 0} {t w : Trace} (order : InEach n G t (HasMapApart part))
     (b : Begins t w) (some : SomeFits n G w) (lacks : Leads n G t w (λ before after. LacksRoom part key before)) where
   pub not_new : {A : Type 0} → Leads n G t w (Inserts part key x New) → A
   not_new h =
@@ -128,9 +121,9 @@ module _ (part : Part) (key n : ℕ) (G : List ℕ → Type 0) (t u : Trace) {Is
   finds_none = record { at = λ s fit. record { same = l.same s fit; found = λ f used h. sym (absent (after t s) f used (seen_before n G t u l s fit) h) } }
 
   -- no block was free
-  pub lacks_room : (v : Trace) → Begins u v → Leads n G u v (λ before after. HasNone part.arena before)
+  pub lacks_room : {v : Trace} → Begins u v → Leads n G u v (λ before after. HasNone part.arena before)
       → Leads n G t v (λ before after. LacksRoom part key before)
-  lacks_room v b none = record {
+  lacks_room {v} b none = record {
     at = λ s fit f used free hold. (
       absent (after t s) f used (seen_before n G t u l s (fits_begins n G u v s b fit)) hold.map,
       one_set part.arena (after t s) free set.empty hold.free_lists ((leads_back n G t u l v (λ before after. HasNone part.arena before) b none).at s fit),

@@ -1,36 +1,18 @@
 -- The words of empty books: zeros, but for the list of the free blocks.
-use Rattle.std.proofs.Common.{◌≡◌, ◌≢◌, ℕ, zero, suc, ◌+◌, ◌*◌, ◌<◌, ◌≤◌, inl, inr, true, false, List, [], ◌++◌, map, length, slice_get, Some, None, nat_eq}
-use Rattle.std.proofs.Common.{replicate, refl, sym, ap, ◌∙◌, arith, rules}
-use mathlib.Core.Bool.{true≢false}
-use mathlib.Core.Logic.{dite}
-use native.Mathlib.Decide.{ℕ_discrete}
-use Rattle.std.specs.declared.cmp.Ordering.{Ordering}
-use Rattle.std.specs.Ordering.{nat_cmp}
-use Rattle.std.specs.List.{All, AllByRecursion, IsDistinct, list_any, range_with_len}
-use Rattle.std.specs.FinSet.{contains-from_list_nat}
-use Rattle.std.specs.FinSet as set
-use Rattle.std.specs.FinMap as entry_map
-use Rattle.std.proofs.lemmas.List.{nil_from_length, length-replicate}
+use Rattle.txn_books.proofs.Common.{◌≡◌, ◌≢◌, ℕ, zero, suc, ◌+◌, ◌*◌, ◌<◌, ◌≤◌, inl, inr, true, false, List, [], ◌++◌, map, length, slice_get, Some, None}
+use Rattle.txn_books.proofs.Common.{nat_eq, replicate, refl, sym, ap, ◌∙◌, arith, rules, true≢false, dite, ℕ_discrete, Ordering, nat_cmp, AllByRecursion}
+use Rattle.txn_books.proofs.Common.{list_any, contains-from_list_nat, nil_from_length, length-replicate, MOST_INSTRUMENTS, position_cmp, empty_books, IsWithin}
+use Rattle.txn_books.proofs.Common.{KeepsOthers, IsHead, FreeListsHold, times_of, out_empty, TreeHolds, Leaf, ChainsHold, QueueHolds, BooksShape, words_of}
+use Rattle.txn_books.proofs.Common.{arena_of, tree_of, chains_of, queue_of, price_key_of, position_key_of, chained, Stands, IsAmong, IsWrittenByLaying}
+use Rattle.txn_books.proofs.Common.{member_one, out_none, three_among}
+use Rattle.std.specs.List.{All, IsDistinct, range_with_len}
 use Rattle.std.proofs.lemmas.List.FromFn.{length-range_with_len, get_or-range_with_len}
 use Rattle.std.proofs.lemmas.Map.Keys.{IsDistinct-cons}
-use Rattle.books_model.specs.declared.limits.TheConstants.{MOST_BLOCKS, MOST_INSTRUMENTS, MOST_RING}
-use Rattle.books_model.specs.Books.{position_cmp, empty_books}
-use Rattle.books_model.specs.Ranges.{IsWithin}
+use Rattle.books_model.specs.declared.limits.TheConstants.{MOST_BLOCKS, MOST_RING}
 use Rattle.books_model.proofs.InRange.{empty_books-in_range}
-use Rattle.txn_words.specs.Frames.{KeepsOthers}
-use Rattle.txn_alloc.specs.FreeLists.{IsHead, IsLaidOut, FreeListsHold}
-use Rattle.txn_alloc.proofs.Maps.Counting.{times_of}
-use Rattle.txn_alloc.proofs.Sets.{out_empty}
 use Rattle.history_model.proofs.ListPlaces.{zero_there}
-use Rattle.txn_tree_map.specs.Trees.{TreeHolds}
-use Rattle.txn_tree_map.specs.Trees.Tree.{Leaf}
-use Rattle.txn_hash_map.specs.Chains.{ChainsHold}
-use Rattle.txn_ring.specs.Queues.{QueueHolds}
-use Rattle.txn_books.specs.declared.shape.BooksShape.{BooksShape}
-use Rattle.txn_books.specs.Layout.{words_of, arena_of, tree_of, chains_of, queue_of, price_key_of, position_key_of, chained}
-use Rattle.txn_books.specs.Standing.{Stands}
-use Rattle.txn_alloc.specs.Laying.{IsAmong, IsWrittenByLaying}
-use Rattle.txn_alloc.proofs.Apart.{member_one, out_none, three_among}
+use Rattle.std.specs.FinSet as set
+use Rattle.std.specs.FinMap as entry_map
 
 -- the numbers of all blocks
 abbrev pub all_blocks : BooksShape → List ℕ
@@ -60,16 +42,6 @@ any_there b a (suc n) le lt = dite (ℕ_discrete a b)
 
 pub all_among : (n b : ℕ) → b < n → IsAmong (range_with_len 0 n) b
 all_among n b lt = contains-from_list_nat (range_with_len 0 n) b ∙ any_there b 0 n (omega arith) (omega (arith, lt))
-
--- where the blocks lie
-pub blocks_lie : (shape : BooksShape) (words : List ℕ) → IsWithin 1 MOST_BLOCKS shape.blocks
-    → IsWithin 1 MOST_RING shape.ring → length words ≡ words_of shape → IsLaidOut (arena_of shape) words
-blocks_lie shape words blocks ring long = record {
-  places = omega (arith, long, blocks.1, ring.1);
-  blocks = λ b lt. omega (arith, long, lt);
-  heads = omega (arith, long);
-  outside = λ b a lt mine head. omega (arith, mine.low, head.high);
-}
 
 pub no_entries : {K : Type 0} (R : K → K → Ordering) → entry_map.entries (entry_map.empty {X = ℕ} {R = R}) ≡ []
 no_entries R = nil_from_length (entry_map.entries entry_map.empty) (sym (entry_map.len-entries entry_map.empty) ∙ entry_map.len-empty R ℕ)

@@ -1,41 +1,25 @@
 -- The list of the free blocks, gone through, and laid anew beside parts that stand.
-use Rattle.std.proofs.Common.{◌≡◌, ◌≢◌, ℕ, zero, suc, ◌+◌, ◌-◌, ◌%◌, ◌<◌, ◌≤◌, ◌⊎◌, inl, inr, Bool, true, false, eqb, nat_eq, List, [], ◌∷◌, ◌++◌, length}
-use Rattle.std.proofs.Common.{slice_get, Some, refl, sym, ap, ◌∙◌, subst, arith, rules, length-append, append_assoc}
-use mathlib.Core.Bool.{true≢false}
-use mathlib.Core.Logic.{dite}
-use native.Mathlib.Decide.{ℕ_discrete}
-use Rattle.std.specs.List.{All, IsDistinct, list_any}
-use Rattle.std.specs.Ordering.{nat_cmp}
-use Rattle.std.specs.Cmp.{nat_cmp_total}
-use Rattle.std.specs.FinSet.{nat_cmp-IsAntisymmetric, contains-from_list_nat}
-use Rattle.std.specs.FinSet as set
+use Rattle.txn_books.proofs.Common.{◌≡◌, ◌≢◌, ℕ, zero, suc, ◌+◌, ◌-◌, ◌%◌, ◌<◌, ◌≤◌, ◌⊎◌, inl, inr, Bool, true, false, nat_eq, List, [], ◌∷◌, ◌++◌, length}
+use Rattle.txn_books.proofs.Common.{slice_get, Some, refl, sym, ap, ◌∙◌, subst, arith, rules, length-append, append_assoc, true≢false, dite, ℕ_discrete}
+use Rattle.txn_books.proofs.Common.{list_any, nat_cmp, nat_cmp_total, contains-from_list_nat, append-nil, same_Some, slice_get_within, ClearingBooks}
+use Rattle.txn_books.proofs.Common.{KeepsOthers, Arena, block_at, IsHead, IsInBlock, HasList, FreeListsHold, in_here, out_empty, Blocks, times_of, free_below}
+use Rattle.txn_books.proofs.Common.{tree_stands, chains_stand, queue_stands, BooksShape, IsBuilt, AreFree, shape_of, arena_of, tree_of, chains_of, queue_of}
+use Rattle.txn_books.proofs.Common.{chained, HasParts, IsAmong, IsWrittenByLaying, times_among, member_one}
+use Rattle.txn_hash_map.proofs.Common.{same_block}
+use Rattle.std.proofs.Common.{eqb}
+use Rattle.std.specs.List.{All, IsDistinct}
+use Rattle.std.specs.FinSet.{nat_cmp-IsAntisymmetric}
 use Rattle.std.specs.List.Sorted.{IsPermutation}
 use Rattle.std.proofs.lemmas.List.Sorted.{All-permutation, list_any-IsPermutation}
 use Rattle.std.proofs.lemmas.Map.Keys.{IsDistinct-IsPermutation, IsDistinct-tail}
-use Rattle.std.proofs.lemmas.List.{append-nil}
-use Rattle.std.proofs.lemmas.Option.{same_Some, slice_get_within}
 use Rattle.std.proofs.lemmas.Map.Steps.{length-le_from_distinct_below}
-use Rattle.books_model.specs.Books.{ClearingBooks}
-use Rattle.txn_words.specs.Frames.{KeepsOthers}
-use Rattle.txn_alloc.specs.declared.arena.Arena.{Arena}
 use Rattle.txn_alloc.specs.declared.arena.TheConstants.{HEADS}
-use Rattle.txn_alloc.specs.FreeLists.{block_at, IsHead, IsInBlock, HasList, FreeListHolds, FreeListsHold}
-use Rattle.txn_alloc.proofs.Sets.{in_here, in_there, in_or, out_empty, out_rest, distinct_more}
-use Rattle.txn_alloc.specs.EntryMaps.{Blocks}
-use Rattle.txn_alloc.proofs.Maps.Counting.{times_of}
-use Rattle.txn_alloc.proofs.FreeLists.Lists.{blocks_of, same_block, one_list, free_below}
-use Rattle.txn_tree_map.proofs.Maps.{tree_stands}
-use Rattle.txn_hash_map.proofs.Stands.{chains_stand}
-use Rattle.txn_ring.proofs.Items.{queue_stands}
-use Rattle.txn_books.specs.declared.shape.BooksShape.{BooksShape}
-use Rattle.txn_books.specs.Inner.Building.{IsBuilt, AreFree}
-use Rattle.txn_books.specs.Layout.{shape_of, arena_of, tree_of, chains_of, queue_of, chained}
-use Rattle.txn_books.specs.Standing.{HasParts}
-use Rattle.txn_alloc.specs.Laying.{IsAmong, IsWrittenByLaying}
-use Rattle.txn_alloc.specs.Blocks.{times_among}
-use Rattle.txn_alloc.proofs.Apart.{member_one}
+use Rattle.txn_alloc.specs.FreeLists.{FreeListHolds}
+use Rattle.txn_alloc.proofs.Sets.{in_there, in_or, out_rest, distinct_more}
+use Rattle.txn_alloc.proofs.FreeLists.Lists.{blocks_of, one_list}
 use Rattle.txn_books.proofs.OneState.Apart.{bucket_apart, ring_apart, block_apart, root_apart}
 use Rattle.txn_books.proofs.OneState.Changes.{at_once, tree_below, chain_below}
+use Rattle.std.specs.FinSet as set
 
 -- the list goes on at a name: the blocks that were gone through, and then those, are all
 pub record GoesThrough (arena : Arena) (words : List ℕ) (name : ℕ) (gone whole : List ℕ) : Type 0 where
@@ -45,16 +29,16 @@ pub record GoesThrough (arena : Arena) (words : List ℕ) (name : ℕ) (gone who
   pub list : HasList arena words place rest
   pub all : gone ++ rest ≡ whole
 
-module _ (arena : Arena) (words gone whole : List ℕ) where
-  pub through_none : (name : ℕ) → name ≡ 0 → GoesThrough arena words name gone whole → gone ≡ whole
-  through_none name none h = at (h.rest) h.list h.all
+module _ {arena : Arena} {words gone whole : List ℕ} {name : ℕ} where
+  pub through_none : name ≡ 0 → GoesThrough arena words name gone whole → gone ≡ whole
+  through_none none h = at (h.rest) h.list h.all
     where
       at : (rest : List ℕ) → HasList arena words h.place rest → gone ++ rest ≡ whole → gone ≡ whole
       at [] list all = sym (append-nil gone) ∙ all
       at (b ∷ bs) list all = let e : name ≡ b + 1 = same_Some name (b + 1) (sym h.named ∙ list.0) in absurd (omega (arith, none, e))
 
-  pub through_below : (name : ℕ) → name ≢ 0 → GoesThrough arena words name gone whole → (name ≤ arena.blocks) × (length gone + 1 ≤ length whole)
-  through_below name some h = at (h.rest) h.list h.all
+  pub through_below : name ≢ 0 → GoesThrough arena words name gone whole → (name ≤ arena.blocks) × (length gone + 1 ≤ length whole)
+  through_below some h = at (h.rest) h.list h.all
     where
       at : (rest : List ℕ) → HasList arena words h.place rest → gone ++ rest ≡ whole → (name ≤ arena.blocks) × (length gone + 1 ≤ length whole)
       at [] list all = absurd (some (same_Some name 0 (sym h.named ∙ list)))
@@ -63,9 +47,9 @@ module _ (arena : Arena) (words gone whole : List ℕ) where
           let long : length gone + length (b ∷ bs) ≡ length whole = sym (length-append gone (b ∷ bs)) ∙ ap length all in
           (omega (arith, e, list.1), omega (arith, long))
 
-  pub through_next : (name next : ℕ) → name ≢ 0 → slice_get words (block_at arena (name - 1)) ≡ Some next
+  pub through_next : (next : ℕ) → name ≢ 0 → slice_get words (block_at arena (name - 1)) ≡ Some next
       → GoesThrough arena words name gone whole → GoesThrough arena words next (gone ++ (name - 1) ∷ []) whole
-  through_next name next some word h = at (h.rest) h.list h.all
+  through_next next some word h = at (h.rest) h.list h.all
     where
       at : (rest : List ℕ) → HasList arena words h.place rest → gone ++ rest ≡ whole → GoesThrough arena words next (gone ++ (name - 1) ∷ []) whole
       at [] list all = absurd (some (same_Some name 0 (sym h.named ∙ list)))
@@ -186,17 +170,20 @@ free_all free n order le h = record {
 module _ (old new : List ℕ) (books : ClearingBooks) (parts : HasParts old books []) (order : List ℕ) (same : set.from_list {R = nat_cmp} order ≡ parts.free)
     (lists : FreeListsHold (arena_of (shape_of books)) new (set.from_list order))
     (kept : KeepsOthers (IsWrittenByLaying (arena_of (shape_of books)) order) old new) where
-  stays : (a : ℕ) → ¬ IsHead (arena_of (shape_of books)) a
-      → ((b : ℕ) → set.contains parts.free b ≡ true → ¬ IsInBlock (arena_of (shape_of books)) b a) → slice_get new a ≡ slice_get old a
+  abbrev shape : BooksShape
+  shape = shape_of books
+
+  stays : (a : ℕ) → ¬ IsHead (arena_of shape) a
+      → ((b : ℕ) → set.contains parts.free b ≡ true → ¬ IsInBlock (arena_of shape) b a) → slice_get new a ≡ slice_get old a
   stays a head out = kept.same a (λ own. elim own [
     | inl is ↦ head is
     | inr k ↦ let e = k.2 in out k.0 (ap (λ s. set.contains s k.0) (sym same) ∙ k.1) (record { low = omega (arith, e); high = omega (arith, e) })
   ])
 
   free_out : (theirs : Blocks) (d a : ℕ) → set.contains theirs d ≡ true → times_of theirs d + times_of parts.free d ≤ 1
-      → IsInBlock (arena_of (shape_of books)) d a → (b : ℕ) → set.contains parts.free b ≡ true → ¬ IsInBlock (arena_of (shape_of books)) b a
+      → IsInBlock (arena_of shape) d a → (b : ℕ) → set.contains parts.free b ≡ true → ¬ IsInBlock (arena_of shape) b a
   free_out theirs d a k once mine b free other =
-      let is : b ≡ d = same_block (arena_of (shape_of books)) b d a other mine in
+      let is : b ≡ d = same_block (arena_of shape) b d a other mine in
       let here : times_of parts.free d ≡ 1 = member_one parts.free d (ap (λ z. set.contains parts.free z) (sym is) ∙ free) in
       let one : times_of theirs d ≡ 1 = member_one theirs d k in
       omega (arith, here, one, once)
@@ -206,16 +193,16 @@ module _ (old new : List ℕ) (books : ClearingBooks) (parts : HasParts old book
     tree_used = parts.tree_used;
     chain_used = parts.chain_used;
     free = set.from_list order;
-    accounts = let k = root_apart (shape_of books) in tree_stands (tree_of (shape_of books)) old new books.accounts parts.tree_used parts.accounts kept.count
-        (stays (tree_of (shape_of books)).root k.0 (λ b free. k.3 b))
-        (λ d a m mine. stays a (block_apart (shape_of books) d a mine).1 (free_out parts.tree_used d a m (let once =
-        at_once old old books [] parts d (tree_below old books [] parts d m) in omega (arith, once)) mine));
-    chains = chains_stand (chains_of (shape_of books)) old new (chained books) parts.chain_used parts.chains kept.count
-        (λ a bucket. let k = bucket_apart (shape_of books) a bucket in stays a k.1 (λ b free. k.2 b))
-        (λ d a m mine. stays a (block_apart (shape_of books) d a mine).1 (free_out parts.chain_used d a m (let once =
-        at_once old old books [] parts d (chain_below old books [] parts d m) in omega (arith, once)) mine));
-    queue = queue_stands (queue_of (shape_of books)) old new books.calls parts.queue kept.count (λ a own. let k =
-        ring_apart (shape_of books) a own in stays a k.1 (λ b free. k.3 b));
+    accounts = let k = root_apart shape in tree_stands (tree_of shape) old new books.accounts parts.tree_used parts.accounts kept.count
+        (stays (tree_of shape).root k.0 (λ b free. k.3 b))
+        (λ d a m mine. stays a (block_apart shape d a mine).1 (free_out parts.tree_used d a m (let once =
+        at_once old old books [] parts d (tree_below parts d m) in omega (arith, once)) mine));
+    chains = chains_stand (chains_of shape) old new (chained books) parts.chain_used parts.chains kept.count
+        (λ a bucket. let k = bucket_apart shape a bucket in stays a k.1 (λ b free. k.2 b))
+        (λ d a m mine. stays a (block_apart shape d a mine).1 (free_out parts.chain_used d a m (let once =
+        at_once old old books [] parts d (chain_below parts d m) in omega (arith, once)) mine));
+    queue = queue_stands (queue_of shape) old new books.calls parts.queue kept.count (λ a own. let k =
+        ring_apart shape a own in stays a k.1 (λ b free. k.3 b));
     free_lists = lists;
     hand_below = parts.hand_below;
     parted = λ b lt. subst (λ s. times_among b (parts.tree_used ∷ parts.chain_used ∷ s ∷ []) + 0 ≡ 1) (sym same) (parts.parted b lt);
@@ -225,7 +212,7 @@ eqb_flips : (x y : ℕ) → nat_eq x y ≡ nat_eq y x
 eqb_flips x y = dite (ℕ_discrete x y) (λ e. grind (rules, e)) (λ ne. let other : y ≢ x = λ e. ne (sym e) in grind (rules, ne, other))
 
 -- words whose free blocks are laid by rising number
-module _ (shape : BooksShape) (words : List ℕ) (books : ClearingBooks) (built : IsBuilt shape words books) where
+module _ {shape : BooksShape} {words : List ℕ} {books : ClearingBooks} (built : IsBuilt shape words books) where
   pub free_held : FreeListsHold (arena_of shape) words built.stands.parts.free
   free_held = subst (λ z. FreeListsHold (arena_of z) words built.stands.parts.free) built.stands.sizes built.stands.parts.free_lists
 

@@ -1,5 +1,5 @@
 -- The size of the books of tests.
-use Rattle.txn_books.specs.declared.shape.BooksShape.{BooksShape}
+use Rattle.txn_books.proofs.Common.{BooksShape}
 
 abbrev pub small : BooksShape
 small = record { blocks = 2; instruments = 1; ring = 1 }

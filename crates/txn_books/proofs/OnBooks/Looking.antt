@@ -1,16 +1,8 @@
 -- Several looks one after another: what the books say all that while, since none changes them.
-use Rattle.std.proofs.Common.{◌≡◌, ℕ, List, refl, sym, ◌∙◌, subst}
+use Rattle.txn_books.proofs.Common.{◌≡◌, ℕ, List, refl, sym, ◌∙◌, subst, Begins, InEachState, LeadsTo, state_after, leads_then, ClearingBooks, AreInRange}
+use Rattle.txn_books.proofs.Common.{BooksShape, shape_of, Stands, IsGoodFor, Tells}
 use Rattle.history_model.specs.declared.shape.Shape.{Ghosts as Shapes}
-use Rattle.history_model.specs.Traces.{Begins}
 use Rattle.txn_words.specs.declared.words.Words.{Ghosts as AnyWords}
-use Rattle.txn_words.specs.Calls.{InEachState, LeadsTo}
-use Rattle.txn_words.proofs.CallLaws.{state_after, state_at, leads_then}
-use Rattle.books_model.specs.Books.{ClearingBooks}
-use Rattle.books_model.specs.Ranges.{AreInRange}
-use Rattle.txn_books.specs.declared.shape.BooksShape.{BooksShape}
-use Rattle.txn_books.specs.Layout.{shape_of}
-use Rattle.txn_books.specs.Standing.{Stands, IsGoodFor}
-use Rattle.txn_words.specs.Access.{OfModel, Tells}
 use Rattle.txn_books.proofs.OnBooks.Calls.{leads_less}
 
 -- books of the shape's sizes, in range
@@ -22,27 +14,27 @@ pub record Saw (shape : BooksShape) (P : ClearingBooks → Type 0) (old new : Li
   pub same : new ≡ old
   pub saw : (books : ClearingBooks) → Stands shape old books → P books
 
-module _ {W S O : Type 0} (words : AnyWords W S O) (shapes : Shapes S) (shape : BooksShape) where
+module _ {W S O : Type 0} {words : AnyWords W S O} {shapes : Shapes S} {shape : BooksShape} where
   -- what was told was seen, and the other way round
-  pub saw_told : {A : Type 0} (v w : W) (says : ClearingBooks → A) (answer : A)
+  pub saw_told : {A : Type 0} {v w : W} {says : ClearingBooks → A} {answer : A}
       → LeadsTo words shapes v w (Tells (Stands shape) says answer) → LeadsTo words shapes v w (Saw shape (λ books. answer ≡ says books))
-  saw_told v w says answer h = leads_less words shapes v w _ _ (λ x y t. record { same = t.same; saw = t.told }) h
+  saw_told h = leads_less (λ x y t. record { same = t.same; saw = t.told }) h
 
-  pub told_saw : {A : Type 0} (v w : W) (says : ClearingBooks → A) (answer : A) (P : ClearingBooks → Type 0)
+  pub told_saw : {A : Type 0} {v w : W} {says : ClearingBooks → A} {answer : A} {P : ClearingBooks → Type 0}
       → ((books : ClearingBooks) → IsSized shape books → P books → answer ≡ says books)
       → LeadsTo words shapes v w (Saw shape P) → LeadsTo words shapes v w (Tells (Stands shape) says answer)
-  told_saw v w says answer P means h =
-      leads_less words shapes v w _ _ (λ x y k. record { same = k.same; told = λ books stand. means books (stand.sizes, stand.range) (k.saw books stand) }) h
+  told_saw means h =
+      leads_less (λ x y k. record { same = k.same; told = λ books stand. means books (stand.sizes, stand.range) (k.saw books stand) }) h
 
   -- before the first look
-  pub saw_first : (v : W) (P : ClearingBooks → Type 0) → ((books : ClearingBooks) → IsSized shape books → P books) → LeadsTo words shapes v v (Saw shape P)
-  saw_first v P first = record { at = λ s fit. record { same = refl; saw = λ books stand. first books (stand.sizes, stand.range) } }
+  pub saw_first : {v : W} {P : ClearingBooks → Type 0} → ((books : ClearingBooks) → IsSized shape books → P books) → LeadsTo words shapes v v (Saw shape P)
+  saw_first first = record { at = λ s fit. record { same = refl; saw = λ books stand. first books (stand.sizes, stand.range) } }
 
   -- one more look
-  pub saw_then : (u v w : W) (P Q R : ClearingBooks → Type 0) → words.shape v ≡ words.shape u
+  pub saw_then : {u v w : W} {P Q R : ClearingBooks → Type 0} → words.shape v ≡ words.shape u
       → Begins (words.trace v) (words.trace w) → ((books : ClearingBooks) → IsSized shape books → P books → Q books → R books)
       → LeadsTo words shapes u v (Saw shape P) → LeadsTo words shapes v w (Saw shape Q) → LeadsTo words shapes u w (Saw shape R)
-  saw_then u v w P Q R e begins both first second = leads_less words shapes u w _ _
+  saw_then {u} {v} {w} {P} {Q} e begins both first second = leads_less
       (λ x z k. record {
         same = k.2.same ∙ k.1.same;
         saw = λ books stand. both books (stand.sizes, stand.range) (k.1.saw books stand)
@@ -51,22 +43,8 @@ module _ {W S O : Type 0} (words : AnyWords W S O) (shapes : Shapes S) (shape : 
       (leads_then words shapes u v w (Saw shape P) (Saw shape Q) e begins first second)
 
   -- books stand after looks
-  pub saw_stands : (u v : W) (P : ClearingBooks → Type 0) → words.shape v ≡ words.shape u
+  pub saw_stands : {u v : W} {P : ClearingBooks → Type 0} → words.shape v ≡ words.shape u
       → Begins (words.trace u) (words.trace v) → InEachState words shapes u (IsGoodFor shape) → LeadsTo words shapes u v (Saw shape P)
       → InEachState words shapes v (IsGoodFor shape)
-  saw_stands u v P e begins stand looks = state_after words shapes u v (IsGoodFor shape) (IsGoodFor shape) (Saw shape P)
+  saw_stands {u} {v} {P} e begins stand looks = state_after words shapes u v (IsGoodFor shape) (IsGoodFor shape) (Saw shape P)
       e begins stand looks (λ x y good k. subst (IsGoodFor shape) (sym k.same) good)
-
-  -- after a look the books say what was told
-  pub each_says : {A : Type 0} (v w : W) (says : ClearingBooks → A) (answer : A) → words.shape w ≡ words.shape v
-      → LeadsTo words shapes v w (Tells (Stands shape) says answer) → InEachState words shapes w (OfModel (Stands shape) (λ books. answer ≡ says books))
-  each_says v w says answer e tells = state_at words shapes v w (OfModel (Stands shape) (λ books. answer ≡ says books)) e
-      (record { at = λ s fit books stand. let t = tells.at s fit in t.told books (subst (λ z. Stands shape z books) t.same stand) })
-
-  -- and what was known of them before it
-  pub still_says : {A : Type 0} (v w : W) (says : ClearingBooks → A) (answer : A) (P : ClearingBooks → Type 0)
-      → words.shape w ≡ words.shape v → Begins (words.trace v) (words.trace w) → LeadsTo words shapes v w (Tells (Stands shape) says answer)
-      → InEachState words shapes v (OfModel (Stands shape) P) → InEachState words shapes w (OfModel (Stands shape) P)
-  still_says v w says answer P e begins tells known =
-      state_after words shapes v w (OfModel (Stands shape) P) (OfModel (Stands shape) P) (Tells (Stands shape) says answer) e begins known tells
-      (λ x y h t books stand. h books (subst (λ z. Stands shape z books) t.same stand))

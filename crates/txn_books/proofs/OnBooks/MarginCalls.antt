@@ -1,17 +1,10 @@
 -- What calls on the queue say of books.
-use Rattle.std.proofs.Common.{◌≡◌, ℕ, ◌<◌, Bool, true, false, ◌==◌, List, [], ◌∷◌, ◌++◌, length, drop, get_or, slice_get, Some, None, refl, sym, ap, ◌∙◌, subst}
-use Rattle.std.proofs.Common.{arith, length-append}
-use Rattle.books_model.specs.Books.{ClearingBooks, put_call}
-use Rattle.books_model.specs.Ranges.{AreInRange, IsCall}
+use Rattle.txn_books.proofs.Common.{◌≡◌, ℕ, ◌<◌, Bool, true, false, ◌==◌, List, [], ◌∷◌, ◌++◌, length, drop, get_or, slice_get, Some, None, refl, sym, ap, ◌∙◌}
+use Rattle.txn_books.proofs.Common.{subst, arith, length-append, ClearingBooks, put_call, AreInRange, IsCall, KeepsOthers, QueueHolds, IsEmpty, Pops, one_queue}
+use Rattle.txn_books.proofs.Common.{BooksShape, queue_of, Stands, IsGoodFor, ChangesWithRoom, TellsAndChanges}
+use Rattle.txn_ring.proofs.Common.{IsInOrder, IsOwn, TakesFront}
 use Rattle.books_model.proofs.InRange.{put_call-in_range}
 use Rattle.books_model.proofs.Drafts.{taken-in_range}
-use Rattle.txn_words.specs.Frames.{KeepsOthers}
-use Rattle.txn_ring.specs.Queues.{QueueHolds, IsInOrder, IsOwn, IsEmpty, Pops, TakesFront}
-use Rattle.txn_ring.proofs.Items.{one_queue}
-use Rattle.txn_books.specs.declared.shape.BooksShape.{BooksShape}
-use Rattle.txn_books.specs.Layout.{queue_of}
-use Rattle.txn_books.specs.Standing.{Stands, IsGoodFor}
-use Rattle.txn_words.specs.Access.{ChangesWithRoom, TellsAndChanges}
 use Rattle.txn_books.proofs.OneState.Changes.{queue_change}
 use Rattle.txn_books.proofs.OneState.States.{queue_held, is_below, is_at}
 use Rattle.txn_books.proofs.OnBooks.Calls.{IsPushed, IsPopped}

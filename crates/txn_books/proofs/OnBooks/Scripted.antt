@@ -1,37 +1,27 @@
 -- The operations of a script one after another on words that stand for books, and what they come to together.
-use Rattle.std.proofs.Common.{◌≡◌, ◌≢◌, ℕ, ◌+◌, Bool, true, false, List, [], ◌∷◌, ◌++◌, length, Result, refl, sym, ap, append-nil, ◌∙◌, subst}
+use Rattle.txn_books.proofs.Common.{◌≡◌, ◌≢◌, ℕ, ◌+◌, Bool, true, false, List, [], ◌∷◌, ◌++◌, length, Result, refl, sym, ap, ◌∙◌, subst, after, Begins, Fits}
+use Rattle.txn_books.proofs.Common.{begins_refl, begins_trans, each_fresh, fits_begins, Op, Reply, ClearingBooks, Stops, Step, Gives, Declines, FindsNoBlock}
+use Rattle.txn_books.proofs.Common.{step_of, after_values, run_from, run_parts, Stop, GoesOn, InEachState, LeadsTo, state_after, leads_then, BooksShape}
+use Rattle.txn_books.proofs.Common.{Outcome, Stands, IsGoodFor, step_of_outcome, MeetsStep, ScriptMeans}
+use Rattle.books_model.proofs.Common.{Run, Ends, after_step, run_part, outcome_from, operations_in}
+use Rattle.std.proofs.Common.{append-nil}
 use Rattle.history_model.specs.declared.shape.Shape.{Ghosts as Shapes}
-use Rattle.history_model.specs.Traces.{after, Begins}
-use Rattle.history_model.specs.Fitting.{Fits}
-use Rattle.history_model.proofs.Traces.TraceLaws.{begins_refl, begins_trans}
-use Rattle.history_model.proofs.Traces.FittingLaws.{each_fresh, fits_begins}
-use Rattle.books_model.specs.declared.script.Op.{Op}
 use Rattle.books_model.specs.declared.script.Part.{Part}
-use Rattle.books_model.specs.declared.script.Part.TheVariants as part
 use Rattle.books_model.specs.declared.reply.Value.{Value}
-use Rattle.books_model.specs.declared.reply.Value.TheVariants as value
 use Rattle.books_model.specs.declared.reply.Decline.{Decline}
-use Rattle.books_model.specs.declared.reply.Reply.{Reply}
-use Rattle.books_model.specs.declared.reply.Reply.TheVariants as reply
-use Rattle.books_model.specs.Books.{ClearingBooks}
-use Rattle.books_model.specs.Interpreter.{Run, Ends, Stops, Step, Gives, Declines, FindsNoBlock, either_of, step_of}
-use Rattle.books_model.specs.Interpreter.{after_step, after_values, run_from, run_part, run_parts, outcome_from, outcome_of}
+use Rattle.books_model.specs.Interpreter.{either_of, outcome_of}
 use Rattle.books_model.specs.Inner.Steps.{run_with}
-use Rattle.books_model.specs.Scripts.{operations_in}
 use Rattle.books_model.proofs.Scripts.Runs.{after_one, goes_on, is_declined, finds_no_block, ends, part_ends, part_stops, parts_end}
-use Rattle.txn_words.specs.declared.words.Stop.{Stop}
 use Rattle.txn_words.specs.declared.words.Words.{Ghosts as AnyWords}
-use Rattle.txn_words.specs.Calls.{GoesOn, InEachState, LeadsTo}
-use Rattle.txn_words.proofs.CallLaws.{state_after, leads_from_start, leads_marked, leads_then}
-use Rattle.txn_books.specs.declared.shape.BooksShape.{BooksShape}
-use Rattle.txn_books.specs.declared.operations.Outcome.{Outcome}
-use Rattle.txn_books.specs.declared.operations.Outcome.TheVariants as outcome
-use Rattle.txn_books.specs.Standing.{Stands, IsGoodFor}
-use Rattle.txn_books.specs.Operating.{step_of_outcome, MeetsStep}
-use Rattle.txn_books.specs.Meaning.{is_done, ScriptMeans}
+use Rattle.txn_words.proofs.CallLaws.{leads_from_start, leads_marked}
+use Rattle.txn_books.specs.Meaning.{is_done}
 use Rattle.txn_books.specs.Inner.Scripts.{Runs, HandsOn}
 use Rattle.txn_books.proofs.OnBooks.Calls.{leads_less}
 use Rattle.txn_books.proofs.OnBooks.Turning.{Turns, Turned, turn_then, turned_less}
+use Rattle.books_model.specs.declared.script.Part.TheVariants as part
+use Rattle.books_model.specs.declared.reply.Value.TheVariants as value
+use Rattle.books_model.specs.declared.reply.Reply.TheVariants as reply
+use Rattle.txn_books.specs.declared.operations.Outcome.TheVariants as outcome
 
 -- the values so far, and the run of what is left on the books as they are now, are the whole run
 abbrev pub SoFar : (ClearingBooks → Run) → List Value → (ClearingBooks → Run) → ClearingBooks → ClearingBooks → Type 0
@@ -94,7 +84,7 @@ module _ {W S O : Type 0} {words : AnyWords W S O} {shapes : Shapes S} {shape : 
   turned_then {u = u} {v = v} {w = w} {R = R} {T = T} first second = record {
     kept = second.kept ∙ first.kept;
     begins = begins_trans _ _ _ first.begins second.begins;
-    turns = leads_less words shapes u w _ _
+    turns = leads_less
         (λ x z k. record {
           at = λ books stand.
               let here = k.1.at books stand in
@@ -108,12 +98,12 @@ module _ {W S O : Type 0} {words : AnyWords W S O} {shapes : Shapes S} {shape : 
   -- what an operation turns
   pub of_steps : {op : Op} {come : Outcome} → LeadsTo words shapes u v (MeetsStep shape op come)
       → LeadsTo words shapes u v (Turns shape (λ books after. step_of op books ≡ step_of_outcome come after))
-  of_steps h = leads_less words shapes u v _ _ (λ x y k. record { at = λ books stand. let last = k.comes books stand in (last.0, last.2, last.1) }) h
+  of_steps h = leads_less (λ x y k. record { at = λ books stand. let last = k.comes books stand in (last.0, last.2, last.1) }) h
 
   -- and what a run does
   of_runs : {run : ClearingBooks → Run} {answer : Reply} → LeadsTo words shapes u v (Runs shape run answer)
       → LeadsTo words shapes u v (Turns shape (λ books after. run books ≡ run_with answer after))
-  of_runs h = leads_less words shapes u v _ _ (λ x y k. record { at = λ books stand. let last = k.comes books stand in (last.0, last.2, last.1) }) h
+  of_runs h = leads_less (λ x y k. record { at = λ books stand. let last = k.comes books stand in (last.0, last.2, last.1) }) h
 
   -- books stand after changes
   pub turned_stands : {R : ClearingBooks → ClearingBooks → Type 0} → Turned words shapes shape u v R
@@ -124,7 +114,7 @@ module _ {W S O : Type 0} {words : AnyWords W S O} {shapes : Shapes S} {shape : 
   -- a run, from what changes came to
   pub turned_runs : {run : ClearingBooks → Run} {answer : Reply} {R : ClearingBooks → ClearingBooks → Type 0} → Turned words shapes shape u v R
       → ((books after : ClearingBooks) → R books after → run books ≡ run_with answer after) → LeadsTo words shapes u v (Runs shape run answer)
-  turned_runs h means = leads_less words shapes u v _ _ (λ x y k. record {
+  turned_runs h means = leads_less (λ x y k. record {
     comes = λ books stand. let last =
         k.at books stand in (last.0, means books last.0 last.2, last.1);
   }) h.turns
@@ -143,7 +133,7 @@ module _ {W S O : Type 0} {words : AnyWords W S O} {shapes : Shapes S} {shape : 
   pub first_done : (k : ℕ) (first second : List Op) (values : List Value)
       → LeadsTo words shapes u v (Runs shape (λ books. after_values (value.First ∷ []) (run_from k first books)) (reply.Done values))
       → LeadsTo words shapes u v (Runs shape (run_part k (part.Either first second)) (reply.Done values))
-  first_done k first second values h = leads_less words shapes u v _ _ (λ x y runs. record {
+  first_done k first second values h = leads_less (λ x y runs. record {
     comes = λ books stand.
         let last = runs.comes books stand in
         (last.0, either_first (run_from k first books) (run_from (k + length first) second books) values last.0 last.1, last.2);
@@ -186,56 +176,53 @@ module _ {W S O : Type 0} {words : AnyWords W S O} {shapes : Shapes S} {shape : 
       sym (either_second (run_from k first books) (run_from (k + length first) second books) h.1.1.0 h.1.1.1)
       ∙ ap (λ b. after_values (value.Second ∷ []) (run_from (k + length first) second b)) (sym h.1.0) ∙ h.2)
 
-module _ {W S O A : Type 0} {words : AnyWords W S O} {shapes : Shapes S} {shape : BooksShape} {u v w : W} {r : Result A
-    Stop} {op : Op} {come : Outcome} (whole : ClearingBooks → Run) (values : List Value) (number : ℕ) (goes : GoesOn words v w r)
-    (steps : LeadsTo words shapes v w (MeetsStep shape op come)) where
-  module _ (rest : List Op) (before : Turned words shapes shape u v (SoFar whole values (run_from number (op ∷ rest)))) where
-    -- one operation more
-    stepped : Turned words shapes shape u w (λ books last. (now : ClearingBooks)
-        × SoFar whole values (run_from number (op ∷ rest)) books now × (step_of op now ≡ step_of_outcome come last))
-    stepped = turn_then goes before (of_steps steps)
+-- what a part of one operation comes to
+one_of : (number : ℕ) (op : Op) (now : ClearingBooks) (step : Step) → step_of op now ≡ step
+    → run_part number (part.One op) now ≡ after_step number step (λ next. run_from (number + 1) [] next)
+one_of number op now step did = ap (λ s. after_step number s (λ next. run_from (number + 1) [] next)) did
 
+module _ {W S O A : Type 0} {words : AnyWords W S O} {shapes : Shapes S} {shape : BooksShape} {u v w : W} {r : Result A Stop} {op : Op}
+    (whole : ClearingBooks → Run) (values : List Value) (number : ℕ) (goes : GoesOn words v w r) where
+  -- one operation more
+  stepped : {come : Outcome} (here : ClearingBooks → Run) → Turned words shapes shape u v (SoFar whole values here)
+      → LeadsTo words shapes v w (MeetsStep shape op come)
+      → Turned words shapes shape u w (λ books last. (now : ClearingBooks) × SoFar whole values here books now × (step_of op now ≡ step_of_outcome come last))
+  stepped here before steps = turn_then goes before (of_steps steps)
+
+  module _ (rest : List Op) (before : Turned words shapes shape u v (SoFar whole values (run_from number (op ∷ rest)))) where
     -- it gives a value
-    pub run_gives : (value : Value) → come ≡ outcome.Gives value
-        → Turned words shapes shape u w (SoFar whole (values ++ value ∷ []) (run_from (number + 1) rest))
-    run_gives value is = turned_less stepped (λ books last sized k. goes_on op rest _ values number k.0 k.1 value last
-        (k.2 ∙ ap (λ o. step_of_outcome o last) is))
+    pub run_gives : {given : Value} → LeadsTo words shapes v w (MeetsStep shape op (outcome.Gives given))
+        → Turned words shapes shape u w (SoFar whole (values ++ given ∷ []) (run_from (number + 1) rest))
+    run_gives {given} steps = turned_less (stepped (run_from number (op ∷ rest)) before steps)
+        (λ books last sized k. goes_on op rest _ values number k.0 k.1 given last k.2)
 
     -- it is declined
-    pub run_declined : (why : Decline) → come ≡ outcome.Declines why → LeadsTo words shapes u w (Runs shape whole (reply.Declined number why))
-    run_declined why is = turned_runs stepped (λ books last k. is_declined op rest _ values number k.0 k.1 why (k.2 ∙ ap (λ o. step_of_outcome o last) is))
+    pub run_declined : {why : Decline} → LeadsTo words shapes v w (MeetsStep shape op (outcome.Declines why))
+        → LeadsTo words shapes u w (Runs shape whole (reply.Declined number why))
+    run_declined {why} steps = turned_runs (stepped (run_from number (op ∷ rest)) before steps)
+        (λ books last k. is_declined op rest _ values number k.0 k.1 why k.2)
 
     -- it finds no block
-    pub run_full : come ≡ outcome.FindsNoBlock → LeadsTo words shapes u w (Runs shape whole (reply.Full number))
-    run_full is = turned_runs stepped (λ books last k. finds_no_block op rest _ values number k.0 k.1 (k.2 ∙ ap (λ o. step_of_outcome o last) is))
+    pub run_full : LeadsTo words shapes v w (MeetsStep shape op outcome.FindsNoBlock) → LeadsTo words shapes u w (Runs shape whole (reply.Full number))
+    run_full steps = turned_runs (stepped (run_from number (op ∷ rest)) before steps) (λ books last k. finds_no_block op rest _ values number k.0 k.1 k.2)
 
   module _ (rest : List Part) (before : Turned words shapes shape u v (SoFar whole values (run_parts number (part.One op ∷ rest)))) where
-    -- one operation of a script more
-    stepped_on : Turned words shapes shape u w (λ books last. (now : ClearingBooks)
-        × SoFar whole values (run_parts number (part.One op ∷ rest)) books now × (step_of op now ≡ step_of_outcome come last))
-    stepped_on = turn_then goes before (of_steps steps)
-
-    -- what its part comes to
-    one_of : (now last : ClearingBooks) (step : Step) → step_of op now ≡ step_of_outcome come last → step_of_outcome come last ≡ step
-        → run_part number (part.One op) now ≡ after_step number step (λ next. run_from (number + 1) [] next)
-    one_of now last step did is = ap (λ s. after_step number s (λ next. run_from (number + 1) [] next)) (did ∙ is)
-
     -- it gives a value
-    pub one_gives : (value : Value) → come ≡ outcome.Gives value
-        → Turned words shapes shape u w (SoFar whole (values ++ value ∷ []) (run_parts (number + 1) rest))
-    one_gives value is = turned_less stepped_on (λ books last sized k.
-        part_ends (part.One op) rest _ values number k.0 k.1 (value ∷ []) last (one_of k.0 last (Gives value last) k.2 (ap (λ o. step_of_outcome o last) is)))
+    pub one_gives : {given : Value} → LeadsTo words shapes v w (MeetsStep shape op (outcome.Gives given))
+        → Turned words shapes shape u w (SoFar whole (values ++ given ∷ []) (run_parts (number + 1) rest))
+    one_gives {given} steps = turned_less (stepped (run_parts number (part.One op ∷ rest)) before steps) (λ books last sized k.
+        part_ends (part.One op) rest _ values number k.0 k.1 (given ∷ []) last (one_of number op k.0 (Gives given last) k.2))
 
     -- it is declined
-    pub one_declined : (why : Decline) → come ≡ outcome.Declines why → LeadsTo words shapes u w (Runs shape whole (reply.Declined number why))
-    one_declined why is = turned_runs stepped_on (λ books last k.
-        part_stops (part.One op) rest _ values number k.0 k.1 (reply.Declined number why)
-        (one_of k.0 last (Declines why) k.2 (ap (λ o. step_of_outcome o last) is)))
+    pub one_declined : {why : Decline} → LeadsTo words shapes v w (MeetsStep shape op (outcome.Declines why))
+        → LeadsTo words shapes u w (Runs shape whole (reply.Declined number why))
+    one_declined {why} steps = turned_runs (stepped (run_parts number (part.One op ∷ rest)) before steps) (λ books last k.
+        part_stops (part.One op) rest _ values number k.0 k.1 (reply.Declined number why) (one_of number op k.0 (Declines why) k.2))
 
     -- it finds no block
-    pub one_full : come ≡ outcome.FindsNoBlock → LeadsTo words shapes u w (Runs shape whole (reply.Full number))
-    one_full is = turned_runs stepped_on (λ books last k.
-        part_stops (part.One op) rest _ values number k.0 k.1 (reply.Full number) (one_of k.0 last FindsNoBlock k.2 (ap (λ o. step_of_outcome o last) is)))
+    pub one_full : LeadsTo words shapes v w (MeetsStep shape op outcome.FindsNoBlock) → LeadsTo words shapes u w (Runs shape whole (reply.Full number))
+    one_full steps = turned_runs (stepped (run_parts number (part.One op ∷ rest)) before steps) (λ books last k.
+        part_stops (part.One op) rest _ values number k.0 k.1 (reply.Full number) (one_of number op k.0 FindsNoBlock k.2))
 
 module _ {W S O A : Type 0} {words : AnyWords W S O} {shapes : Shapes S} {shape : BooksShape} {u v w : W} {r : Result A Stop}
     (whole : ClearingBooks → Run) (values : List Value) (number : ℕ) (p : Part) (rest : List Part) (answer : Reply)

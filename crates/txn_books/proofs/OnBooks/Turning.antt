@@ -1,20 +1,9 @@
 -- Calls on books one after another, first looks and then changes, and what an operation that makes them comes to.
-use Rattle.std.proofs.Common.{◌≡◌, ℕ, Bool, not, List, Result, if◌then◌else◌, refl, sym, ◌∙◌, subst}
+use Rattle.txn_books.proofs.Common.{◌≡◌, ℕ, Bool, not, List, Result, if◌then◌else◌, refl, sym, ◌∙◌, subst, Begins, begins_refl, begins_trans, Op, ClearingBooks}
+use Rattle.txn_books.proofs.Common.{step_of, Stop, GoesOn, InEachState, LeadsTo, state_after, leads_then, BooksShape, Outcome, Stands, IsGoodFor, OfModel}
+use Rattle.txn_books.proofs.Common.{Tells, Changes, ChangesWithRoom, TellsAndChanges, step_of_outcome, MeetsStep}
 use Rattle.history_model.specs.declared.shape.Shape.{Ghosts as Shapes}
-use Rattle.history_model.specs.Traces.{Begins}
-use Rattle.history_model.proofs.Traces.TraceLaws.{begins_refl, begins_trans}
-use Rattle.books_model.specs.declared.script.Op.{Op}
-use Rattle.books_model.specs.Books.{ClearingBooks}
-use Rattle.books_model.specs.Interpreter.{step_of}
-use Rattle.txn_words.specs.declared.words.Stop.{Stop}
 use Rattle.txn_words.specs.declared.words.Words.{Ghosts as AnyWords}
-use Rattle.txn_words.specs.Calls.{GoesOn, InEachState, LeadsTo}
-use Rattle.txn_words.proofs.CallLaws.{state_after, leads_then}
-use Rattle.txn_books.specs.declared.shape.BooksShape.{BooksShape}
-use Rattle.txn_books.specs.declared.operations.Outcome.{Outcome}
-use Rattle.txn_books.specs.Standing.{Stands, IsGoodFor}
-use Rattle.txn_words.specs.Access.{OfModel, Tells, Changes, ChangesWithRoom, TellsAndChanges}
-use Rattle.txn_books.specs.Operating.{step_of_outcome, MeetsStep}
 use Rattle.txn_books.proofs.OnBooks.Calls.{leads_less}
 use Rattle.txn_books.proofs.OnBooks.Looking.{IsSized, Saw, saw_first, saw_told, saw_then, told_saw}
 use Rattle.txn_books.proofs.OneState.Whole.{one_books}
@@ -36,19 +25,20 @@ module _ {W S O : Type 0} (words : AnyWords W S O) (shapes : Shapes S) (shape : 
     pub begins : Begins (words.trace v) (words.trace w)
     pub turns : LeadsTo words shapes v w (Turns shape R)
 
+module _ {W S O : Type 0} {words : AnyWords W S O} {shapes : Shapes S} {shape : BooksShape} {v : W} where
   -- before any call
-  pub unlooked : (v : W) → Looked v v (λ _. Unit {0})
-  unlooked v = record { kept = refl; begins = begins_refl _; saw = saw_first words shapes shape v _ (λ books sized. tt) }
+  pub unlooked : Looked words shapes shape v v (λ _. Unit {0})
+  unlooked = record { kept = refl; begins = begins_refl _; saw = saw_first (λ books sized. tt) }
 
   -- what is known before any call
-  pub known : (v : W) (P : ClearingBooks → Type 0) → InEachState words shapes v (OfModel (Stands shape) P) → Looked v v P
-  known v P each = record { kept = refl; begins = begins_refl _; saw = record { at = λ s fit. record { same = refl; saw = each.at s fit } } }
+  pub known : {P : ClearingBooks → Type 0} → InEachState words shapes v (OfModel (Stands shape) P) → Looked words shapes shape v v P
+  known each = record { kept = refl; begins = begins_refl _; saw = record { at = λ s fit. record { same = refl; saw = each.at s fit } } }
 
 module _ {W S O A : Type 0} {words : AnyWords W S O} {shapes : Shapes S} {shape : BooksShape} {v w : W} {r : Result A Stop} (goes : GoesOn words v w r) where
   -- the first look
   pub looked : {B : Type 0} {says : ClearingBooks → B} {answer : B}
       → LeadsTo words shapes v w (Tells (Stands shape) says answer) → Looked words shapes shape v w (λ books. answer ≡ says books)
-  looked told = record { kept = goes.shape; begins = goes.begins; saw = saw_told words shapes shape v w _ _ told }
+  looked told = record { kept = goes.shape; begins = goes.begins; saw = saw_told told }
 
   -- one look more
   pub look_then : {B : Type 0} {u : W} {P : ClearingBooks → Type 0} {says : ClearingBooks → B} {answer : B}
@@ -57,8 +47,8 @@ module _ {W S O A : Type 0} {words : AnyWords W S O} {shapes : Shapes S} {shape 
   look_then {P = P} {says = says} {answer = answer} before told = record {
     kept = goes.shape ∙ before.kept;
     begins = begins_trans _ _ _ before.begins goes.begins;
-    saw = saw_then words shapes shape _ _ _ P (λ books. answer ≡ says books) _ before.kept goes.begins
-        (λ books sized p q. (p, q)) before.saw (saw_told words shapes shape v w says answer told);
+    saw = saw_then before.kept goes.begins
+        (λ books sized p q. (p, q)) before.saw (saw_told told);
   }
 
   -- a first change
@@ -72,7 +62,7 @@ module _ {W S O A : Type 0} {words : AnyWords W S O} {shapes : Shapes S} {shape 
   look_turn {u = u} {P = P} {R = R} before turns = record {
     kept = goes.shape ∙ before.kept;
     begins = begins_trans _ _ _ before.begins goes.begins;
-    turns = leads_less words shapes u w _ _
+    turns = leads_less
         (λ x z k. record {
           at = λ books stand.
               let last = k.2.at books (subst (λ y. Stands shape y books) (sym k.1.same) stand) in
@@ -87,7 +77,7 @@ module _ {W S O A : Type 0} {words : AnyWords W S O} {shapes : Shapes S} {shape 
   turn_then {u = u} {R = R} {T = T} before turns = record {
     kept = goes.shape ∙ before.kept;
     begins = begins_trans _ _ _ before.begins goes.begins;
-    turns = leads_less words shapes u w _ _
+    turns = leads_less
         (λ x z k. record {
           at = λ books stand.
               let first = k.1.at books stand in
@@ -101,26 +91,36 @@ module _ {W S O : Type 0} {words : AnyWords W S O} {shapes : Shapes S} {shape : 
   -- what each kind of change turns
   pub of_change : {change : ClearingBooks → ClearingBooks} → LeadsTo words shapes v w (Changes (Stands shape) change)
       → LeadsTo words shapes v w (Turns shape (λ books after. after ≡ change books))
-  of_change {change = change} h = leads_less words shapes v w _ _ (λ x y c. record { at = λ books stand. (change books, c books stand, refl) }) h
+  of_change {change = change} h = leads_less (λ x y c. record { at = λ books stand. (change books, c books stand, refl) }) h
 
   pub of_room : {lacks : ClearingBooks → Bool} {change : ClearingBooks → ClearingBooks} {had_room : Bool}
       → LeadsTo words shapes v w (ChangesWithRoom (Stands shape) lacks change had_room)
       → LeadsTo words shapes v w (Turns shape (λ books after. (had_room ≡ not (lacks books)) × (after ≡ (if had_room then change books else books))))
   of_room {change = change} {had_room = had_room} h =
-      leads_less words shapes v w _ _
+      leads_less
       (λ x y c. record { at = λ books stand. ((if had_room then change books else books), c.left books stand, (c.answer books stand, refl)) }) h
 
   pub of_taking : {A : Type 0} {says : ClearingBooks → A} {change : ClearingBooks → ClearingBooks} {answer : A}
       → LeadsTo words shapes v w (TellsAndChanges (Stands shape) says change answer)
       → LeadsTo words shapes v w (Turns shape (λ books after. (answer ≡ says books) × (after ≡ change books)))
   of_taking {change = change} h =
-      leads_less words shapes v w _ _ (λ x y c. record { at = λ books stand. (change books, c.left books stand, (c.told books stand, refl)) }) h
+      leads_less (λ x y c. record { at = λ books stand. (change books, c.left books stand, (c.told books stand, refl)) }) h
 
   -- what looks tell together
   pub tells : {A : Type 0} {says : ClearingBooks → A} {answer : A} {P : ClearingBooks → Type 0}
       → Looked words shapes shape v w P → ((books : ClearingBooks) → IsSized shape books → P books → answer ≡ says books)
       → LeadsTo words shapes v w (Tells (Stands shape) says answer)
-  tells {says = says} {answer = answer} {P = P} h means = told_saw words shapes shape v w says answer P means h.saw
+  tells {says = says} {answer = answer} {P = P} h means = told_saw means h.saw
+
+  -- less of what looks saw
+  pub looked_less : {P Q : ClearingBooks → Type 0} → Looked words shapes shape v w P
+      → ((books : ClearingBooks) → IsSized shape books → P books → Q books) → Looked words shapes shape v w Q
+  looked_less h less = record {
+    kept = h.kept;
+    begins = h.begins;
+    saw = leads_less
+        (λ x y k. record { same = k.same; saw = λ books stand. less books (stand.sizes, stand.range) (k.saw books stand) }) h.saw;
+  }
 
   -- less of what changes did
   pub turned_less : {R T : ClearingBooks → ClearingBooks → Type 0} → Turned words shapes shape v w R
@@ -128,7 +128,7 @@ module _ {W S O : Type 0} {words : AnyWords W S O} {shapes : Shapes S} {shape : 
   turned_less h less = record {
     kept = h.kept;
     begins = h.begins;
-    turns = leads_less words shapes v w _ _
+    turns = leads_less
         (λ x y k. record { at = λ books stand. let last = k.at books stand in (last.0, last.1, less books last.0 (stand.sizes, stand.range) last.2) }) h.turns;
   }
 
@@ -136,7 +136,7 @@ module _ {W S O : Type 0} {words : AnyWords W S O} {shapes : Shapes S} {shape : 
   pub answers : {op : Op} {outcome : Outcome} {P : ClearingBooks → Type 0} → Looked words shapes shape v w P
       → ((books : ClearingBooks) → IsSized shape books → P books → step_of op books ≡ step_of_outcome outcome books)
       → LeadsTo words shapes v w (MeetsStep shape op outcome)
-  answers h means = leads_less words shapes v w _ _
+  answers h means = leads_less
       (λ x y k. record {
         comes = λ books stand. (
           books,
@@ -149,7 +149,7 @@ module _ {W S O : Type 0} {words : AnyWords W S O} {shapes : Shapes S} {shape : 
   pub comes : {op : Op} {outcome : Outcome} {R : ClearingBooks → ClearingBooks → Type 0} → Turned words shapes shape v w R
       → ((books after : ClearingBooks) → IsSized shape books → R books after
       → step_of op books ≡ step_of_outcome outcome after) → LeadsTo words shapes v w (MeetsStep shape op outcome)
-  comes h means = leads_less words shapes v w _ _
+  comes h means = leads_less
       (λ x y k. record { comes = λ books stand. let last = k.at books stand in (last.0, means books last.0 (stand.sizes, stand.range) last.2, last.1) }) h.turns
 
   -- what was seen holds of the books that stand after looks

@@ -1,11 +1,7 @@
 -- The parts of books lie apart, and a block is in one of them alone.
-use Rattle.std.proofs.Common.{◌≢◌, ℕ, arith}
-use Rattle.txn_alloc.specs.FreeLists.{IsHead, IsInBlock}
-use Rattle.txn_hash_map.specs.Chains.{IsBucket}
-use Rattle.txn_ring.specs.Queues as ring
-use Rattle.txn_books.specs.declared.shape.BooksShape.{BooksShape}
+use Rattle.txn_books.proofs.Common.{◌≢◌, ℕ, arith, IsHead, IsInBlock, IsBucket, BooksShape, arena_of, chains_of, queue_of}
 use Rattle.txn_books.specs.declared.layout.TheConstants.{ROOT}
-use Rattle.txn_books.specs.Layout.{arena_of, chains_of, queue_of}
+use Rattle.txn_ring.specs.Queues as ring
 
 module _ (shape : BooksShape) where
   -- a bucket is not the root, no head and in no block

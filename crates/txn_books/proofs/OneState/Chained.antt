@@ -1,23 +1,10 @@
 -- What the chains hold, by keys: the price of each instrument, and each position; and how many entries that are.
-use Rattle.std.proofs.Common.{◌≡◌, ◌≢◌, ℕ, ◌+◌, ◌<◌, ◌≤◌, true, T, List, ◌++◌, map, length, Option, Some, None, IsSome, refl, sym, ap, ◌∙◌, subst, arith}
-use Rattle.std.proofs.Common.{length-append}
-use Rattle.std.specs.declared.cmp.Ordering.{Ordering}
-use Rattle.std.specs.declared.cmp.Ordering.TheVariants.{Less, Equal, Greater}
-use Rattle.std.specs.Cmp.{nat_cmp_total}
-use Rattle.std.specs.Ordering.{nat_cmp, ordering_then}
-use Rattle.std.specs.List.{AllByRecursion}
-use Rattle.std.specs.FinMap as entry_map
-use Rattle.std.specs.FinMap.{nat_cmp-IsAntisymmetric}
-use Rattle.std.specs.FinMap.Entries.{is_sorted}
-use Rattle.std.proofs.lemmas.List.{length-map}
-use Rattle.books_model.specs.declared.limits.TheConstants.{MOST_INSTRUMENTS}
-use Rattle.books_model.specs.Books.{ClearingBooks, position_cmp}
-use Rattle.books_model.specs.Ranges.{AreInRange}
-use Rattle.books_model.specs.Inner.Keys.{positions_total, exact_positions}
-use Rattle.books_model.proofs.Maps.Entries.{All-entries}
-use Rattle.txn_books.specs.Layout.{price_key_of, position_key_of, chained}
-use Rattle.txn_books.specs.Statements.{IsInstrument}
+use Rattle.txn_books.proofs.Common.{◌≡◌, ◌≢◌, ℕ, ◌+◌, ◌<◌, ◌≤◌, true, T, List, ◌++◌, map, length, Option, Some, None, IsSome, refl, sym, ap, ◌∙◌, subst, arith}
+use Rattle.txn_books.proofs.Common.{length-append, Ordering, Less, Equal, Greater, nat_cmp_total, nat_cmp, ordering_then, AllByRecursion}
+use Rattle.txn_books.proofs.Common.{nat_cmp-IsAntisymmetric, is_sorted, length-map, MOST_INSTRUMENTS, ClearingBooks, position_cmp, AreInRange, positions_total}
+use Rattle.txn_books.proofs.Common.{exact_positions, All-entries, price_key_of, position_key_of, chained, IsInstrument}
 use Rattle.txn_books.proofs.OneState.Keyed.{less_than, AreBelow, AreFrom, find_none, find_past, find_front, sorted_append, all_keyed, sorted_keyed, find_keyed}
+use Rattle.std.specs.FinMap as entry_map
 
 -- an account's number and an instrument's
 abbrev pub IsPlace : ℕ × ℕ → Type 0

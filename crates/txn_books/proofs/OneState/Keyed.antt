@@ -1,15 +1,9 @@
 -- Lists of entries whose keys a rising function changes to numbers, and two lists of entries in one.
-use Rattle.std.proofs.Common.{◌≡◌, ◌≢◌, ℕ, ◌<◌, ◌≤◌, Bool, true, false, cond, T, nat_lt, List, [], ◌∷◌, ◌++◌, map, Some, None, refl, sym, ap, ◌∙◌, arith, rules}
-use Rattle.std.specs.declared.cmp.Ordering.{Ordering}
-use Rattle.std.specs.declared.cmp.Ordering.TheVariants.{Less}
-use Rattle.std.specs.Cmp.{IsTotalOrder, tied_itself, both_ways}
-use Rattle.std.specs.Ordering.{nat_cmp, eq_by_cmp, is_eq, is_lt}
-use Rattle.std.specs.List.{AllByRecursion}
-use Rattle.std.specs.FinMap.Entries.{find, is_sorted, below_all}
-use Rattle.std.specs.FinMap.{nat_cmp-IsAntisymmetric}
-use Rattle.std.proofs.lemmas.Map.Lookups.{CmpEqualImpliesEq}
-use Rattle.std.proofs.lemmas.Map.Views.{tells_apart}
-use Rattle.books_model.proofs.Maps.Keys.{below_first, below_rest, sorted_first, sorted_rest, is_lt-nat_cmp}
+use Rattle.txn_books.proofs.Common.{◌≡◌, ◌≢◌, ℕ, ◌<◌, ◌≤◌, Bool, true, false, cond, T, nat_lt, List, [], ◌∷◌, ◌++◌, map, Some, None, refl, sym, ap, ◌∙◌, arith}
+use Rattle.txn_books.proofs.Common.{rules, Ordering, Less, IsTotalOrder, tied_itself, nat_cmp, eq_by_cmp, is_eq, is_lt, AllByRecursion, is_sorted, below_all}
+use Rattle.txn_books.proofs.Common.{nat_cmp-IsAntisymmetric, CmpEqualImpliesEq, tells_apart, below_first, below_rest, sorted_first, sorted_rest, is_lt-nat_cmp}
+use Rattle.std.specs.Cmp.{both_ways}
+use Rattle.std.specs.FinMap.Entries.{find}
 use Rattle.txn_tree_map.proofs.Held.Entries.{lower, tied, untied}
 
 -- what a truth says as a test

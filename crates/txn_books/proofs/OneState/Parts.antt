@@ -1,34 +1,20 @@
--- What words that hold the parts of some books say of each map, and what an insert into the tree leaves.
-use Rattle.std.proofs.Common.{◌≡◌, ℕ, true, false, List, [], ◌∷◌, refl, sym, ◌∙◌, subst, arith}
-use Rattle.std.specs.Ordering.{nat_cmp}
+-- What words that hold the parts of some books say of each map, and what an insert or a removal leaves of a map.
+use Rattle.txn_books.proofs.Common.{◌≡◌, ℕ, true, false, List, [], ◌∷◌, Some, refl, subst, arith, ClearingBooks, Trace, after, each_fresh, Put, New, Old, Full}
+use Rattle.txn_books.proofs.Common.{FreeListsHold, Entries, Blocks, Part, HoldsApart, HasMapApart, Inserts, Removes, times_among, free_unused, two_among}
+use Rattle.txn_books.proofs.Common.{tree_part, chain_part, BooksShape, shape_of, words_of, tree_of, chains_of, chained, HasParts, IsGoodFor, had_room}
+use Rattle.txn_hash_map.proofs.Common.{InEach}
+use Rattle.txn_alloc.proofs.Apart.{moved_block, out_other}
+use Rattle.txn_books.proofs.OneState.Changes.{at_once, tree_below, chain_below}
 use Rattle.std.specs.FinSet as set
 use Rattle.std.specs.FinMap as entry_map
-use Rattle.books_model.specs.Books.{ClearingBooks, position_cmp}
-use Rattle.history_model.specs.Traces.{Trace, after, Begins}
-use Rattle.history_model.specs.Fitting.{Fits, InEach, Leads}
-use Rattle.history_model.proofs.Traces.FittingLaws.{fits_begins, each_fresh}
-use Rattle.txn_words.specs.Frames.{KeepsOthers, AppendsOnly}
-use Rattle.txn_words.proofs.FrameLaws.{only_keeps}
-use Rattle.txn_alloc.specs.declared.put.Put.{Put}
-use Rattle.txn_alloc.specs.declared.put.Put.TheVariants.{New, Old, Full}
-use Rattle.txn_alloc.specs.EntryMaps.{Blocks, HoldsApart, HasMapApart, IsOwn, InsertsNew, InsertsOld, Inserts, RemovesOne}
-use Rattle.txn_alloc.specs.Blocks.{times_among}
-use Rattle.txn_alloc.proofs.Maps.Parts.{free_unused}
-use Rattle.txn_alloc.proofs.Apart.{moved_block, two_among, out_other}
-use Rattle.txn_tree_map.specs.Trees.{tree_part}
-use Rattle.txn_hash_map.specs.Chains.{chain_part}
-use Rattle.txn_books.specs.declared.shape.BooksShape.{BooksShape}
-use Rattle.txn_books.specs.Layout.{shape_of, words_of, tree_of, chains_of, chained}
-use Rattle.txn_books.specs.Standing.{HasParts, IsGoodFor}
-use Rattle.txn_books.proofs.OneState.Changes.{at_once, tree_below, chain_below, tree_change, chain_change}
 
-module _ (words : List ℕ) (books : ClearingBooks) (in_hand : List ℕ) (parts : HasParts words books in_hand) where
+module _ {words : List ℕ} {books : ClearingBooks} {in_hand : List ℕ} (parts : HasParts words books in_hand) where
   -- neither the tree nor the chains use a free block
   pub tree_free : HoldsApart (tree_part (tree_of (shape_of books))) words books.accounts parts.tree_used parts.free
   tree_free = record {
     map = parts.accounts;
     free_lists = parts.free_lists;
-    apart = λ b k. let once = at_once words words books in_hand parts b (tree_below words books in_hand parts b k) in
+    apart = λ b k. let once = at_once words words books in_hand parts b (tree_below parts b k) in
         out_other parts.tree_used parts.free b k (omega (arith, once));
   }
 
@@ -36,7 +22,7 @@ module _ (words : List ℕ) (books : ClearingBooks) (in_hand : List ℕ) (parts 
   chains_free = record {
     map = parts.chains;
     free_lists = parts.free_lists;
-    apart = λ b k. let once = at_once words words books in_hand parts b (chain_below words books in_hand parts b k) in
+    apart = λ b k. let once = at_once words words books in_hand parts b (chain_below parts b k) in
         out_other parts.chain_used parts.free b k (omega (arith, once));
   }
 
@@ -63,95 +49,48 @@ good_parts shape words good = (good.0, good.1.sizes, good.1.parts)
 
 pub some_tree : (shape : BooksShape) (words : List ℕ) → HasSomeParts shape words → HasMapApart (tree_part (tree_of shape)) words
 some_tree shape words some = subst (λ z. HasMapApart (tree_part (tree_of z)) words) some.1
-    (record { entries = some.0.accounts; used = some.2.tree_used; free = some.2.free; holds = tree_free words some.0 [] some.2 })
+    (record { entries = some.0.accounts; used = some.2.tree_used; free = some.2.free; holds = tree_free some.2 })
 
 pub some_chains : (shape : BooksShape) (words : List ℕ) → HasSomeParts shape words → HasMapApart (chain_part (chains_of shape)) words
 some_chains shape words some = subst (λ z. HasMapApart (chain_part (chains_of z)) words) some.1
-    (record { entries = chained some.0; used = some.2.chain_used; free = some.2.free; holds = chains_free words some.0 [] some.2 })
+    (record { entries = chained some.0; used = some.2.chain_used; free = some.2.free; holds = chains_free some.2 })
 
--- an insert into the tree leaves books with one account more, or with other cash, or as they were
-module _ (old new : List ℕ) (books : ClearingBooks) (in_hand : List ℕ) (parts : HasParts old books in_hand) (key x : ℕ) where
-  pub tree_new : InsertsNew (tree_part (tree_of (shape_of books))) key x new books.accounts parts.tree_used parts.free
-      → KeepsOthers (IsOwn (tree_part (tree_of (shape_of books))) key old new) old new
-      → HasParts new (record books { accounts = entry_map.insert books.accounts key x }) in_hand
-  tree_new k kept =
-      let out = free_unused (tree_part (tree_of (shape_of books))) old books.accounts parts.tree_used parts.free k.block
-      (tree_free old books in_hand parts) k.was_free in
-      tree_change old new books in_hand parts (entry_map.insert books.accounts key x)
-      (set.insert parts.tree_used k.block) (set.remove parts.free k.block) key k.left.map k.left.free_lists
-      (moved_block parts.tree_used parts.free k.block out k.was_free) kept
+-- what a call left of a map and of the free blocks: these entries, in blocks that were the map's or free
+pub record Leaves (part : Part) (new : List ℕ) (entries : Entries) (used free : Blocks) : Type 0 where
+  pub after : Blocks
+  pub left : Blocks
+  pub map : part.Holds new entries after
+  pub free_lists : FreeListsHold part.arena new left
+  pub as_many : (b : ℕ) → times_among b (after ∷ left ∷ []) ≡ times_among b (used ∷ free ∷ [])
 
-  pub tree_old : (was : ℕ) → InsertsOld (tree_part (tree_of (shape_of books))) key x was new books.accounts
-      parts.tree_used parts.free → KeepsOthers (IsOwn (tree_part (tree_of (shape_of books))) key old new) old new
-      → HasParts new (record books { accounts = entry_map.insert books.accounts key x }) in_hand
-  tree_old was k kept = tree_change old new books in_hand parts (entry_map.insert books.accounts key x) parts.tree_used
-      parts.free key k.left.map k.left.free_lists (λ b. refl) kept
+module _ (part : Part) (old new : List ℕ) (f : Entries) (used free : Blocks) (hold : HoldsApart part old f used free) (key : ℕ) where
+  -- what an insert leaves that found room
+  pub put_leaves : (x : ℕ) (put : Put) → had_room put ≡ true → Inserts part key x put old new → Leaves part new (entry_map.insert f key x) used free
+  put_leaves x New had inserts =
+      let k = inserts f used free hold in
+      record {
+        after = set.insert used k.block;
+        left = set.remove free k.block;
+        map = k.left.map;
+        free_lists = k.left.free_lists;
+        as_many = moved_block used free k.block (free_unused part old f used free k.block hold k.was_free) k.was_free;
+      }
+  put_leaves x (Old was) had inserts =
+      let k = inserts f used free hold in
+      record { after = used; left = free; map = k.left.map; free_lists = k.left.free_lists; as_many = λ b. refl }
+  put_leaves x Full had inserts = absurd (cc)
 
-  pub tree_inserted : (put : Put) → Inserts (tree_part (tree_of (shape_of books))) key x put old new
-      → KeepsOthers (IsOwn (tree_part (tree_of (shape_of books))) key old new) old new
-      → (after : ClearingBooks) × (shape_of after ≡ shape_of books) × HasParts new after in_hand
-  tree_inserted New inserts kept = (
-    record books { accounts = entry_map.insert books.accounts key x },
-    refl,
-    tree_new (inserts books.accounts parts.tree_used parts.free (tree_free old books in_hand parts)) kept,
-  )
-  tree_inserted (Old was) inserts kept = (
-    record books { accounts = entry_map.insert books.accounts key x },
-    refl,
-    tree_old was (inserts books.accounts parts.tree_used parts.free (tree_free old books in_hand parts)) kept,
-  )
-  tree_inserted Full inserts kept = (books, refl, subst (λ z. HasParts z books in_hand) (sym inserts) parts)
-
--- a removal from the tree leaves books with one account less
-pub tree_cut : (old new : List ℕ) (books : ClearingBooks) (in_hand : List ℕ) (parts : HasParts old books in_hand)
-    (key was : ℕ) → RemovesOne (tree_part (tree_of (shape_of books))) key was new books.accounts parts.tree_used parts.free
-    → KeepsOthers (IsOwn (tree_part (tree_of (shape_of books))) key old new) old new
-    → HasParts new (record books { accounts = entry_map.remove books.accounts key }) in_hand
-tree_cut old new books in_hand parts key was k kept =
-    let out = (tree_free old books in_hand parts).apart k.block k.was_used in
-    tree_change old new books in_hand parts (entry_map.remove books.accounts key) (set.remove parts.tree_used k.block)
-    (set.insert parts.free k.block) key k.left.map k.left.free_lists
-    (back_among parts.tree_used parts.free k.block k.was_used out) kept
-
--- a call on the chains leaves books with other positions and prices, those that the chains then hold
-module _ (old new : List ℕ) (books : ClearingBooks) (in_hand : List ℕ) (parts : HasParts old books in_hand)
-    (positions : entry_map.FinMap position_cmp ℕ) (prices : entry_map.FinMap nat_cmp ℕ) (key : ℕ)
-    (kept : KeepsOthers (IsOwn (chain_part (chains_of (shape_of books))) key old new) old new) where
-  pub chain_new : (x : ℕ) → InsertsNew (chain_part (chains_of (shape_of books))) key x new (chained books) parts.chain_used parts.free
-      → entry_map.insert (chained books) key x ≡ chained (record books { positions = positions; prices = prices })
-      → HasParts new (record books { positions = positions; prices = prices }) in_hand
-  chain_new x k e =
-      let out = free_unused (chain_part (chains_of (shape_of books))) old (chained books) parts.chain_used parts.free
-      k.block (chains_free old books in_hand parts) k.was_free in
-      chain_change old new books in_hand parts (entry_map.insert (chained books) key x) (set.insert parts.chain_used k.block)
-      (set.remove parts.free k.block) key k.left.map (moved_block parts.chain_used parts.free k.block out k.was_free) kept
-      positions prices e k.left.free_lists
-
-  pub chain_old : (x was : ℕ) → InsertsOld (chain_part (chains_of (shape_of books))) key x was new (chained books) parts.chain_used parts.free
-      → entry_map.insert (chained books) key x ≡ chained (record books { positions = positions; prices = prices })
-      → HasParts new (record books { positions = positions; prices = prices }) in_hand
-  chain_old x was k e =
-      chain_change old new books in_hand parts (entry_map.insert (chained books) key x) parts.chain_used parts.free key
-      k.left.map (λ b. refl) kept positions prices e k.left.free_lists
-
-  pub chain_cut : (was : ℕ) → RemovesOne (chain_part (chains_of (shape_of books))) key was new (chained books) parts.chain_used parts.free
-      → entry_map.remove (chained books) key ≡ chained (record books { positions = positions; prices = prices })
-      → HasParts new (record books { positions = positions; prices = prices }) in_hand
-  chain_cut was k e =
-      let out = (chains_free old books in_hand parts).apart k.block k.was_used in
-      chain_change old new books in_hand parts (entry_map.remove (chained books) key) (set.remove parts.chain_used k.block)
-      (set.insert parts.free k.block) key k.left.map (back_among parts.chain_used parts.free k.block k.was_used out) kept
-      positions prices e k.left.free_lists
-
-pub some_inserted : (shape : BooksShape) (old new : List ℕ) (key x : ℕ) (put : Put) → HasSomeParts shape old
-    → Inserts (tree_part (tree_of shape)) key x put old new → KeepsOthers (IsOwn (tree_part (tree_of shape)) key old new) old new
-    → HasSomeParts shape new
-some_inserted shape old new key x put some inserts kept =
-    let back : shape ≡ shape_of some.0 = sym some.1 in
-    let k = tree_inserted old new some.0 [] some.2 key x put
-    (subst (λ z. Inserts (tree_part (tree_of z)) key x put old new) back inserts)
-    (subst (λ z. KeepsOthers (IsOwn (tree_part (tree_of z)) key old new) old new) back kept) in
-    (k.0, k.1 ∙ some.1, k.2)
+  -- and a removal of a key that was there
+  pub cut_leaves : (was : ℕ) → Removes part key (Some was) old new → Leaves part new (entry_map.remove f key) used free
+  cut_leaves was removes =
+      let k = removes f used free hold in
+      record {
+        after = set.remove used k.block;
+        left = set.insert free k.block;
+        map = k.left.map;
+        free_lists = k.left.free_lists;
+        as_many = back_among used free k.block k.was_used (hold.apart k.block k.was_used);
+      }
 
 -- words at which nothing was done yet stand for some books, and hold their parts
 pub fresh_books : (shape other : BooksShape) (t : Trace) → shape ≡ other → t ≡ [] → InEach (words_of shape) (IsGoodFor shape) t (IsGoodFor other)
@@ -159,13 +98,3 @@ fresh_books shape other t e is = record { at = λ s fit. subst (λ z. IsGoodFor 
 
 pub fresh_parts : (shape other : BooksShape) (t : Trace) → shape ≡ other → t ≡ [] → InEach (words_of shape) (IsGoodFor shape) t (HasSomeParts other)
 fresh_parts shape other t e is = record { at = λ s fit. good_parts other (after t s) ((fresh_books shape other t e is).at s fit) }
-
--- after an insert into the tree each state holds the parts of some books
-pub each_inserted : (shape : BooksShape) (n : ℕ) (G : List ℕ → Type 0) (t u : Trace) (key x : ℕ) (put : Put) → Begins t u → InEach n G t (HasSomeParts shape)
-    → Leads n G t u (Inserts (tree_part (tree_of shape)) key x put)
-    → ((s : List ℕ) → Fits n G u s → AppendsOnly t u (IsOwn (tree_part (tree_of shape)) key (after t s) (after u s))) → InEach n G u (HasSomeParts shape)
-each_inserted shape n G t u key x put begins some inserts own = record {
-  at = λ s fit.
-      some_inserted shape (after t s) (after u s) key x put (some.at s (fits_begins n G t u s begins fit)) (inserts.at s fit)
-      (only_keeps (IsOwn (tree_part (tree_of shape)) key (after t s) (after u s)) t u s (own s fit));
-}

@@ -1,37 +1,20 @@
 -- The books that words stand for are one, and use the blocks that are neither free nor in hand.
-use Rattle.std.proofs.Common.{◌≡◌, ◌≢◌, ℕ, suc, ◌+◌, ◌<◌, ◌≤◌, Bool, true, false, cond, List, [], ◌∷◌, ◌++◌, ◌==◌, length, Option, Some, None, refl, sym, ap}
-use Rattle.std.proofs.Common.{◌∙◌, subst, arith, rules}
-use mathlib.Core.Logic.{dite}
-use native.Mathlib.Decide.{ℕ_discrete}
-use Rattle.std.specs.Cmp.{nat_cmp_total}
-use Rattle.std.specs.Ordering.{nat_cmp}
-use Rattle.std.specs.List.{All, sum_by, count_by}
-use Rattle.std.specs.FinSet as set
+use Rattle.txn_books.proofs.Common.{◌≡◌, ◌≢◌, ℕ, suc, ◌+◌, ◌<◌, ◌≤◌, Bool, true, false, cond, List, [], ◌∷◌, ◌++◌, ◌==◌, length, refl, sym, ap, ◌∙◌, subst}
+use Rattle.txn_books.proofs.Common.{arith, rules, dite, ℕ_discrete, nat_cmp, count_by, ClearingBooks, used, AreInRange, Blocks, times_among, times_of}
+use Rattle.txn_books.proofs.Common.{free_below, out_none, three_among, TreeHolds, ChainsHold, QueueHolds, one_queue, BooksShape, shape_of, arena_of, tree_of}
+use Rattle.txn_books.proofs.Common.{chains_of, queue_of, chained, HasParts, Stands}
+use Rattle.std.specs.List.{All, sum_by}
 use Rattle.std.specs.FinSet.{members}
-use Rattle.std.specs.FinMap as entry_map
-use Rattle.std.specs.FinMap.{nat_cmp-IsAntisymmetric}
 use Rattle.std.proofs.lemmas.List.Sums.{sum_by-cons, sum_by-append}
-use Rattle.books_model.specs.Books.{ClearingBooks, used}
-use Rattle.books_model.specs.Ranges.{AreInRange}
-use Rattle.books_model.specs.Inner.Keys.{positions_total, exact_positions}
-use Rattle.txn_alloc.specs.EntryMaps.{Blocks}
-use Rattle.txn_alloc.specs.Blocks.{times_among}
-use Rattle.txn_alloc.proofs.Maps.Counting.{times_of, lengths_sum}
-use Rattle.txn_alloc.proofs.FreeLists.Lists.{free_below}
-use Rattle.txn_alloc.proofs.Apart.{out_none, three_among}
-use Rattle.txn_tree_map.specs.Trees.{TreeHolds}
+use Rattle.txn_alloc.proofs.Maps.Counting.{lengths_sum}
+use Rattle.txn_books.proofs.OneState.Chained.{len_chained}
+use Rattle.txn_books.proofs.OneState.ChainedChanges.{prices, positions, Alike, alike_one, prices_alike, positions_alike}
+use Rattle.txn_books.proofs.OneState.Changes.{tree_below, chain_below}
+use Rattle.std.specs.FinSet as set
 use Rattle.txn_tree_map.proofs.Maps as trees
 use Rattle.txn_tree_map.proofs.Held.Numbers as tree_numbers
-use Rattle.txn_hash_map.specs.Chains.{ChainsHold}
 use Rattle.txn_hash_map.proofs.OneMap as chains
 use Rattle.txn_hash_map.proofs.Numbers as chain_numbers
-use Rattle.txn_ring.specs.Queues.{QueueHolds}
-use Rattle.txn_ring.proofs.Items.{one_queue}
-use Rattle.txn_books.specs.declared.shape.BooksShape.{BooksShape}
-use Rattle.txn_books.specs.Layout.{shape_of, arena_of, tree_of, chains_of, queue_of, price_key_of, position_key_of, chained}
-use Rattle.txn_books.specs.Standing.{HasParts, Stands}
-use Rattle.txn_books.proofs.OneState.Chained.{price_in, position_in, get_price, get_position, len_chained}
-use Rattle.txn_books.proofs.OneState.Changes.{tree_below, chain_below}
 
 -- books of the same parts are one
 same_books : (b c : ClearingBooks) → shape_of b ≡ shape_of c → b.accounts ≡ c.accounts → b.positions ≡ c.positions
@@ -47,51 +30,20 @@ same_books b c s p q r t = λ i. record {
   calls = t i;
 }
 
--- what the chains say of the prices and the positions
-module _ (books others : ClearingBooks) (range : AreInRange books) (their_range : AreInRange others) (same : chained books ≡ chained others) where
-  price_same : (i : ℕ) (o p : Option ℕ) → entry_map.get books.prices i ≡ o → entry_map.get others.prices i ≡ p
-      → entry_map.get books.prices i ≡ entry_map.get others.prices i
-  price_same i (Some x) p e f =
-      let is = price_in books range i x e in
-      sym (get_price books range i is) ∙ ap (λ m. entry_map.get m (price_key_of i)) same ∙ get_price others their_range i is
-  price_same i None (Some x) e f =
-      let is = price_in others their_range i x f in
-      sym (get_price books range i is) ∙ ap (λ m. entry_map.get m (price_key_of i)) same ∙ get_price others their_range i is
-  price_same i None None e f = e ∙ sym f
-
-  position_same : (q : ℕ × ℕ) (o p : Option ℕ) → entry_map.get books.positions q ≡ o
-      → entry_map.get others.positions q ≡ p → entry_map.get books.positions q ≡ entry_map.get others.positions q
-  position_same q (Some x) p e f =
-      let is = position_in books range q x e in
-      sym (get_position books range q.0 q.1 is.0 is.1) ∙ ap (λ m. entry_map.get m (position_key_of q.0 q.1)) same
-      ∙ get_position others their_range q.0 q.1 is.0 is.1
-  position_same q None (Some x) e f =
-      let is = position_in others their_range q x f in
-      sym (get_position books range q.0 q.1 is.0 is.1) ∙ ap (λ m. entry_map.get m (position_key_of q.0 q.1)) same
-      ∙ get_position others their_range q.0 q.1 is.0 is.1
-  position_same q None None e f = e ∙ sym f
-
-  same_prices : books.prices ≡ others.prices
-  same_prices = entry_map.same_map nat_cmp_total nat_cmp-IsAntisymmetric books.prices others.prices
-      (λ i. price_same i (entry_map.get books.prices i) (entry_map.get others.prices i) refl refl)
-
-  same_positions : books.positions ≡ others.positions
-  same_positions = entry_map.same_map positions_total exact_positions books.positions others.positions
-      (λ q. position_same q (entry_map.get books.positions q) (entry_map.get others.positions q) refl refl)
-
 pub one_books : (shape : BooksShape) (words : List ℕ) (books others : ClearingBooks) → Stands shape words books → Stands shape words others → books ≡ others
 one_books shape words books others h k =
     let sizes : shape_of books ≡ shape_of others = h.sizes ∙ sym k.sizes in
-    let tree : TreeHolds (tree_of (shape_of books)) words others.accounts k.parts.tree_used =
-    subst (λ z. TreeHolds (tree_of z) words others.accounts k.parts.tree_used) (sym sizes) k.parts.accounts in
-    let chain : ChainsHold (chains_of (shape_of books)) words (chained others) k.parts.chain_used =
-    subst (λ z. ChainsHold (chains_of z) words (chained others) k.parts.chain_used) (sym sizes) k.parts.chains in
-    let queue : QueueHolds (queue_of (shape_of books)) words others.calls = subst (λ z. QueueHolds (queue_of z) words others.calls) (sym sizes) k.parts.queue in
+    let tree = subst (λ z. TreeHolds (tree_of z) words others.accounts k.parts.tree_used) (sym sizes) k.parts.accounts in
+    let chain = subst (λ z. ChainsHold (chains_of z) words (chained others) k.parts.chain_used) (sym sizes) k.parts.chains in
+    let queue = subst (λ z. QueueHolds (queue_of z) words others.calls) (sym sizes) k.parts.queue in
     let same : chained books ≡ chained others =
     (chains.one_map (chains_of (shape_of books)) words (chained books) (chained others) h.parts.chain_used k.parts.chain_used h.parts.chains chain).0 in
     same_books books others sizes
     (trees.one_map (tree_of (shape_of books)) words books.accounts others.accounts h.parts.tree_used k.parts.tree_used h.parts.accounts tree).0
-    (same_positions books others h.range k.range same) (same_prices books others h.range k.range same)
+    (alike_one positions
+    (subst (λ f. Alike positions f books.positions) same (positions_alike h.range)) (positions_alike k.range))
+    (alike_one prices
+    (subst (λ f. Alike prices f books.prices) same (prices_alike h.range)) (prices_alike k.range))
     (one_queue (queue_of (shape_of books)) words books.calls others.calls h.parts.queue queue)
 
 -- the blocks in hand, each as a set of its own
@@ -151,19 +103,24 @@ counted words books in_hand parts range =
     let all : sum_by (λ s. set.len s) (three ++ singles in_hand) ≡ books.blocks = lengths_sum books.blocks (three ++ singles in_hand)
     (λ b lt. split b ∙ parts.parted b lt)
     (λ b le. split b ∙ (
-    let tree = out_above parts.tree_used books.blocks b (tree_below words books in_hand parts) le in
-    let chain = out_above parts.chain_used books.blocks b (chain_below words books in_hand parts) le in
+    let tree = out_above parts.tree_used books.blocks b (tree_below parts) le in
+    let chain = out_above parts.chain_used books.blocks b (chain_below parts) le in
     let free = out_above parts.free books.blocks b (λ d k. free_below (arena_of (shape_of books)) words parts.free d parts.free_lists k) le in
     let hand = hand_none books.blocks b in_hand le parts.hand_below in
     omega (arith, tree, chain, free, hand, three_among b parts.tree_used parts.chain_used parts.free))) in
     let lens : sum_by (λ s. set.len s) (three ++ singles in_hand) ≡ sum_by (λ s. set.len s) three
     + sum_by (λ s. set.len s) (singles in_hand) = sum_by-append (λ s. set.len s) three (singles in_hand) in
-    let tree_len : set.len parts.tree_used ≡ entry_map.len books.accounts =
-    tree_numbers.as_many_blocks (tree_of (shape_of books)) words books.accounts parts.tree_used parts.accounts in
-    let chain_len : set.len parts.chain_used ≡ entry_map.len (chained books) =
-    chain_numbers.as_many_blocks (chains_of (shape_of books)) words (chained books) parts.chain_used parts.chains in
     let each : sum_by (λ s. set.len s) three ≡ set.len parts.tree_used + set.len parts.chain_used + set.len parts.free = omega arith in
-    omega (arith, all, lens, each, tree_len, chain_len, len_chained books range, singles_len in_hand)
+    omega (
+      arith,
+      all,
+      lens,
+      each,
+      tree_numbers.as_many_blocks (tree_of (shape_of books)) words books.accounts parts.tree_used parts.accounts,
+      chain_numbers.as_many_blocks (chains_of (shape_of books)) words (chained books) parts.chain_used parts.chains,
+      len_chained books range,
+      singles_len in_hand,
+    )
   where
     split : (b : ℕ) → times_among b ((parts.tree_used ∷ parts.chain_used ∷ parts.free ∷ []) ++ singles in_hand)
         ≡ times_among b (parts.tree_used ∷ parts.chain_used ∷ parts.free ∷ []) + count_by (λ c. c == b) in_hand

@@ -1,17 +1,10 @@
 -- Entries that are put into a map one after another.
-use Rattle.std.proofs.Common.{◌≡◌, ◌≢◌, ℕ, ◌+◌, List, [], ◌∷◌, ◌++◌, length, Option, Some, None, refl, sym, ap, ◌∙◌, subst, arith}
-use mathlib.Core.Logic.{dite}
-use native.Mathlib.Decide.{ℕ_discrete}
-use Rattle.std.specs.declared.cmp.Ordering.{Ordering}
-use Rattle.std.specs.Cmp.{IsTotalOrder, nat_cmp_total}
-use Rattle.std.specs.FinMap.{nat_cmp-IsAntisymmetric}
-use Rattle.std.specs.FinMap as entry_map
-use Rattle.std.proofs.lemmas.Map.Lookups.{CmpEqualImpliesEq}
+use Rattle.txn_books.proofs.Common.{◌≡◌, ◌≢◌, ℕ, ◌+◌, List, [], ◌∷◌, ◌++◌, length, Option, Some, None, refl, sym, ap, ◌∙◌, subst, arith, dite, ℕ_discrete}
+use Rattle.txn_books.proofs.Common.{Ordering, IsTotalOrder, nat_cmp_total, nat_cmp-IsAntisymmetric, CmpEqualImpliesEq, Cell, Entries, value_of, HasKeysOnce}
+use Rattle.txn_books.proofs.Common.{value_first, value_later, insert_same, insert_other, AddsUp, entries_in}
 use Rattle.books_model.proofs.Maps.Trees.{len_after_insert}
 use Rattle.txn_books.proofs.OneState.ChainedChanges.{put_here, put_there}
-use Rattle.txn_alloc.specs.EntryMaps.{Cell, Entries, value_of, HasKeysOnce}
-use Rattle.txn_alloc.proofs.Maps.Cells.{value_first, value_later, insert_same, insert_other}
-use Rattle.txn_books.specs.Inner.Reading.{AddsUp, entries_in}
+use Rattle.std.specs.FinMap as entry_map
 
 module _ {K : Type 0} {R : K → K → Ordering} (o : IsTotalOrder R) (exact : CmpEqualImpliesEq R) where
   -- what was there stays
@@ -32,11 +25,6 @@ module _ {K : Type 0} {R : K → K → Ordering} (o : IsTotalOrder R) (exact : C
       let rest : entry_map.len (entry_map.insert f e.0 e.1) + length es ≡ entry_map.len g = adds_length es (entry_map.insert f e.0 e.1) g a.1 in
       let more : entry_map.len (entry_map.insert f e.0 e.1) ≡ entry_map.len f + 1 = len_after_insert o f e.0 e.1 a.0 in
       omega (arith, rest, more)
-
-  -- and the whole is one
-  pub adds_one : (es : List (K × ℕ)) (f g h : entry_map.FinMap R ℕ) → AddsUp f es g → AddsUp f es h → g ≡ h
-  adds_one [] f g h a b = sym a ∙ b
-  adds_one (e ∷ es) f g h a b = adds_one es (entry_map.insert f e.0 e.1) g h a.1 b.1
 
   -- one list after another
   pub adds_append : (es ds : List (K × ℕ)) (f g h : entry_map.FinMap R ℕ) → AddsUp f es g → AddsUp g ds h → AddsUp f (es ++ ds) h

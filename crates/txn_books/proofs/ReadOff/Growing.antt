@@ -1,33 +1,31 @@
 -- Books that grow entry by entry, in the order of a walk over others.
-use Rattle.std.proofs.Common.{◌≡◌, ℕ, ◌+◌, ◌<◌, List, [], ◌∷◌, ◌++◌, length, take, slice_get, nat_lt, Option, Some, None, refl, sym, ap, ◌∙◌, subst, arith}
-use Rattle.std.specs.List.{find}
+use Rattle.txn_books.proofs.Common.{◌≡◌, ℕ, ◌+◌, ◌<◌, List, [], ◌∷◌, ◌++◌, length, take, slice_get, nat_lt, Option, Some, None, refl, sym, ap, ◌∙◌, subst}
+use Rattle.txn_books.proofs.Common.{arith, find, nat_cmp_total, nat_cmp, is_lt, ordering_then, nat_cmp-IsAntisymmetric, same_Some, get_or_from_slice_get}
+use Rattle.txn_books.proofs.Common.{slice_get_within, ClearingBooks, position_cmp, AreInRange, IsCall, positions_total, exact_positions, is_lt-nat_cmp, Entries}
+use Rattle.txn_books.proofs.Common.{AddsUp, nothing_yet, with_accounts, with_prices, with_positions, above}
 use Rattle.std.specs.Option.{option_map}
-use Rattle.std.specs.Cmp.{nat_cmp_total}
-use Rattle.std.specs.Ordering.{nat_cmp, is_lt, ordering_then}
-use Rattle.std.specs.FinMap.{nat_cmp-IsAntisymmetric}
-use Rattle.std.specs.FinMap as entry_map
 use Rattle.std.proofs.lemmas.List.{take_more, length-take-le}
-use Rattle.std.proofs.lemmas.Option.{same_Some, get_or_from_slice_get, slice_get_within}
-use Rattle.books_model.specs.Books.{ClearingBooks, position_cmp}
-use Rattle.books_model.specs.Ranges.{AreInRange, IsCall}
-use Rattle.books_model.specs.Inner.Keys.{positions_total, exact_positions}
-use Rattle.books_model.proofs.Maps.Keys.{is_lt-nat_cmp}
-use Rattle.txn_alloc.specs.EntryMaps.{Entries}
-use Rattle.txn_books.specs.Inner.Reading.{AddsUp, nothing_yet, with_accounts, with_prices, with_positions}
-use Rattle.txn_books.specs.Inner.Building.{above}
 use Rattle.txn_books.proofs.OneState.Chained.{price_in, position_in}
 use Rattle.txn_books.proofs.ReadOff.Filling.{NextAccount, account_next, NewPrice, new_price, NewPosition, new_position}
 use Rattle.txn_books.proofs.ReadOff.Stages.{accounts_range, prices_range, positions_range}
 use Rattle.txn_books.proofs.ReadOff.Walking.{above_next, above_end, walk_all, above_zero}
+use Rattle.std.specs.FinMap as entry_map
 
--- the first entry above a number, and none
+-- the first entry above a number
 pub number_next : (k : ℕ) (e : ℕ × ℕ) (m : Entries) → Some e ≡ find (λ d. nat_lt k d.0) (entry_map.entries m)
     → above nat_cmp k (entry_map.entries m) ≡ e ∷ above nat_cmp e.0 (entry_map.entries m)
 number_next k e m f = above_next nat_cmp_total k e (entry_map.entries m) (entry_map.entries_sorted m)
     ((λ i. find (λ d. sym (is_lt-nat_cmp k d.0) i) (entry_map.entries m)) ∙ sym f)
 
-pub number_end : (k : ℕ) (m : Entries) → None ≡ find (λ d. nat_lt k d.0) (entry_map.entries m) → above nat_cmp k (entry_map.entries m) ≡ []
-number_end k m f = above_end nat_cmp_total k (entry_map.entries m) ((λ i. find (λ d. sym (is_lt-nat_cmp k d.0) i) (entry_map.entries m)) ∙ sym f)
+-- a map of numbers into which the entries up to a number were put
+module _ (m done : Entries) (last : ℕ) (left : AddsUp done (above nat_cmp last (entry_map.entries m)) m) where
+  pub number_more : (e : ℕ × ℕ) → Some e ≡ find (λ d. nat_lt last d.0) (entry_map.entries m)
+      → AddsUp done (e ∷ above nat_cmp e.0 (entry_map.entries m)) m
+  number_more e f = subst (λ es. AddsUp done es m) (number_next last e m f) left
+
+  pub number_done : None ≡ find (λ d. nat_lt last d.0) (entry_map.entries m) → done ≡ m
+  number_done f = subst (λ es. AddsUp done es m) (above_end nat_cmp_total last (entry_map.entries m)
+      ((λ i. find (λ d. sym (is_lt-nat_cmp last d.0) i) (entry_map.entries m)) ∙ sym f)) left
 
 -- one entry more than those above it
 pub one_less : {K : Type 0} (e : K × ℕ) (xs ys : List (K × ℕ)) → xs ≡ e ∷ ys → length ys < length xs
@@ -46,7 +44,7 @@ flat_is a i quantity = Some (a, i, quantity)
 abbrev pub none_flat : Option (ℕ × ℕ × ℕ)
 none_flat = None
 
-module _ (books : ClearingBooks) (range : AreInRange books) where
+module _ {books : ClearingBooks} (range : AreInRange books) where
   pub accounts_first : AddsUp entry_map.empty (above nat_cmp 0 (entry_map.entries books.accounts)) books.accounts
   accounts_first = walk_all nat_cmp_total nat_cmp-IsAntisymmetric books.accounts 0 (λ a cash there. above_zero a (range.accounts a cash there).0.0)
 
@@ -57,40 +55,23 @@ module _ (books : ClearingBooks) (range : AreInRange books) where
   positions_first = walk_all positions_total exact_positions books.positions (0, 0)
       (λ p quantity there. ap (λ r. ordering_then r (nat_cmp 0 p.1)) (above_zero p.0 (position_in books range p quantity there).0))
 
-  module _ (done : Entries) (last : ℕ) (left : AddsUp done (above nat_cmp last (entry_map.entries books.accounts)) books.accounts) where
-    pub account_step : (e : ℕ × ℕ) → Some e ≡ find (λ d. nat_lt last d.0) (entry_map.entries books.accounts)
-        → NextAccount e (above nat_cmp e.0 (entry_map.entries books.accounts)) (record (nothing_yet books) { accounts = done }) (with_accounts books)
-    account_step e f = account_next e (above nat_cmp e.0 (entry_map.entries books.accounts))
-        (record (nothing_yet books) { accounts = done }) (with_accounts books)
-        (record {
-          adds = subst (λ es. AddsUp done es books.accounts) (number_next last e books.accounts f) left;
-          same =
-              refl;
-          range = accounts_range books range;
-        })
+  pub account_step : (done : Entries) (last : ℕ) → AddsUp done (above nat_cmp last (entry_map.entries books.accounts)) books.accounts → (e : ℕ × ℕ)
+      → Some e ≡ find (λ d. nat_lt last d.0) (entry_map.entries books.accounts)
+      → NextAccount e (above nat_cmp e.0 (entry_map.entries books.accounts)) (record (nothing_yet books) { accounts = done }) (with_accounts books)
+  account_step done last left e f = account_next e (above nat_cmp e.0 (entry_map.entries books.accounts))
+      (record (nothing_yet books) { accounts = done }) (with_accounts books)
+      (record { adds = number_more books.accounts done last left e f; same = refl; range = accounts_range books range })
 
-    pub accounts_done : None ≡ find (λ d. nat_lt last d.0) (entry_map.entries books.accounts) → done ≡ books.accounts
-    accounts_done f = subst (λ es. AddsUp done es books.accounts) (number_end last books.accounts f) left
-
-  module _ (done : Entries) (last : ℕ) (left : AddsUp done (above nat_cmp last (entry_map.entries books.prices)) books.prices) where
-    price_more : (e : ℕ × ℕ) → Some e ≡ find (λ d. nat_lt last d.0) (entry_map.entries books.prices)
-        → AddsUp done (e ∷ above nat_cmp e.0 (entry_map.entries books.prices)) books.prices
-    price_more e f = subst (λ es. AddsUp done es books.prices) (number_next last e books.prices f) left
-
-    pub price_step : (e : ℕ × ℕ) → Some e ≡ find (λ d. nat_lt last d.0) (entry_map.entries books.prices)
-        → NewPrice e.0 e.1 (record (with_accounts books) { prices = done })
-        × AddsUp (entry_map.insert done e.0 e.1) (above nat_cmp e.0 (entry_map.entries books.prices)) books.prices
-    price_step e f =
-        let more = price_more e f in (
-          new_price e.0 e.1 (above nat_cmp e.0 (entry_map.entries books.prices)) (record (with_accounts books) {
-            prices =
-                done;
-          }) (with_prices books) more refl (prices_range books range),
-          more.1,
-        )
-
-    pub prices_done : None ≡ find (λ d. nat_lt last d.0) (entry_map.entries books.prices) → done ≡ books.prices
-    prices_done f = subst (λ es. AddsUp done es books.prices) (number_end last books.prices f) left
+  pub price_step : (done : Entries) (last : ℕ) → AddsUp done (above nat_cmp last (entry_map.entries books.prices)) books.prices → (e : ℕ × ℕ)
+      → Some e ≡ find (λ d. nat_lt last d.0) (entry_map.entries books.prices)
+      → NewPrice e.0 e.1 (record (with_accounts books) { prices = done })
+      × AddsUp (entry_map.insert done e.0 e.1) (above nat_cmp e.0 (entry_map.entries books.prices)) books.prices
+  price_step done last left e f =
+      let more = number_more books.prices done last left e f in (
+        new_price e.0 e.1 (above nat_cmp e.0 (entry_map.entries books.prices)) (record (with_accounts books) { prices = done })
+            (with_prices books) more refl (prices_range books range),
+        more.1,
+      )
 
   module _ (done : entry_map.FinMap position_cmp ℕ) (last : ℕ
       × ℕ) (left : AddsUp done (above position_cmp last (entry_map.entries books.positions)) books.positions) where

@@ -1,25 +1,14 @@
 -- A tree whose nodes are visited from the top down, with the names of the subtrees that are left on a list.
-use Rattle.std.proofs.Common.{◌≡◌, ◌≢◌, ℕ, ◌+◌, ◌-◌, ◌<◌, ◌≤◌, List, [], ◌∷◌, ◌++◌, length, slice_get, Option, Some, None, refl, sym, ap, ◌∙◌, subst, arith}
-use Rattle.std.proofs.Common.{length-append, append_assoc}
-use mathlib.Core.Logic.{dite}
-use native.Mathlib.Decide.{ℕ_discrete}
-use Rattle.std.specs.List.{AllByRecursion}
-use Rattle.std.specs.FinMap as entry_map
-use Rattle.std.specs.Ordering.{nat_cmp}
-use Rattle.std.proofs.lemmas.List.{append-nil, length-map}
-use Rattle.std.proofs.lemmas.Option.{same_Some}
-use Rattle.txn_alloc.specs.declared.arena.Arena.{Arena}
-use Rattle.txn_alloc.specs.FreeLists.{block_at}
-use Rattle.txn_alloc.specs.EntryMaps.{Cell, Entries, Blocks, value_of, HasKeysOnce}
-use Rattle.txn_alloc.proofs.Maps.Cells.{all_first, all_last, all_map, value_first, value_later, value_less, value_none}
-use Rattle.txn_tree_map.specs.declared.map.TreeMap.{TreeMap}
-use Rattle.txn_tree_map.specs.Trees.{Tree, name_of, cells_of, HasNode, IsSpelled, IsRising, IsAbove, TreeHolds}
-use Rattle.txn_tree_map.specs.Trees.Tree.{Leaf, Node}
-use Rattle.txn_tree_map.specs.Paths.{IsBelow}
+use Rattle.txn_books.proofs.Common.{◌≡◌, ◌≢◌, ℕ, ◌+◌, ◌-◌, ◌<◌, ◌≤◌, List, [], ◌∷◌, ◌++◌, length, slice_get, Option, Some, None, refl, sym, ap, ◌∙◌, subst}
+use Rattle.txn_books.proofs.Common.{arith, length-append, append_assoc, dite, ℕ_discrete, AllByRecursion, nat_cmp, append-nil, length-map, same_Some, Arena}
+use Rattle.txn_books.proofs.Common.{block_at, Cell, Entries, Blocks, value_of, HasKeysOnce, value_first, value_later, TreeMap, Tree, name_of, TreeHolds, Leaf}
+use Rattle.txn_books.proofs.Common.{AddsUp, entries_in}
+use Rattle.txn_tree_map.proofs.Common.{all_first, all_last, all_map, value_less, cells_of, HasNode, IsSpelled, IsRising, IsAbove, Node, IsBelow}
+use Rattle.txn_alloc.proofs.Maps.Cells.{value_none}
 use Rattle.txn_tree_map.proofs.Held.Rising.{rising_first, rising_last, rising_below, rising_above, above_other, below_other, above_more, value_there}
 use Rattle.txn_tree_map.proofs.Held.Places.{at_tree, at_room}
-use Rattle.txn_books.specs.Inner.Reading.{AddsUp, entries_in}
 use Rattle.txn_books.proofs.ReadOff.Adding.{or_else, or_none, adds_cells}
+use Rattle.std.specs.FinMap as entry_map
 
 -- the cells of a tree, each before those below it, and then others
 abbrev pub down : Tree → List Cell → List Cell
@@ -47,33 +36,43 @@ pub record Visits (arena : Arena) (words names : List ℕ) (listed whole : List 
   pub spelled : AreSpelled arena words trees
   pub all : listed ++ entries_in (down_all trees) ≡ whole
 
+-- a list with a last element has some
+no_end : {A : Type 0} (xs : List ℕ) (a : ℕ) → xs ++ a ∷ [] ≡ [] → A
+no_end [] a e = absurd (cc)
+no_end (x ∷ xs) a e = absurd (cc)
+
 -- a list and its last element
 one_end : (xs ys : List ℕ) (a b : ℕ) → xs ++ a ∷ [] ≡ ys ++ b ∷ [] → (xs ≡ ys) × (a ≡ b)
 one_end [] [] a b e = (refl, cc)
-one_end [] (y ∷ ys) a b e =
-    let long : length (ys ++ b ∷ []) ≡ length ys + 1 = length-append ys (b ∷ []) in
-    let same : length (a ∷ []) ≡ length (y ∷ (ys ++ b ∷ [])) = ap length e in
-    absurd (omega (arith, long, same))
-one_end (x ∷ xs) [] a b e =
-    let long : length (xs ++ a ∷ []) ≡ length xs + 1 = length-append xs (a ∷ []) in
-    let same : length (x ∷ (xs ++ a ∷ [])) ≡ length (b ∷ []) = ap length e in
-    absurd (omega (arith, long, same))
+one_end [] (y ∷ ys) a b e = no_end ys b (let none : ys ++ b ∷ [] ≡ [] = cc in none)
+one_end (x ∷ xs) [] a b e = no_end xs a (let none : xs ++ a ∷ [] ≡ [] = cc in none)
 one_end (x ∷ xs) (y ∷ ys) a b e =
     let first : x ≡ y = cc in
     let rest = one_end xs ys a b (let tails : xs ++ a ∷ [] ≡ ys ++ b ∷ [] = cc in tails) in
     ((λ i. first i ∷ rest.0 i), rest.1)
 
-module _ (arena : Arena) (words names : List ℕ) (listed whole : List (ℕ × ℕ)) where
+-- what a name of some block tells, after which these names are left
+pub record Tops (arena : Arena) (words rest : List ℕ) (name : ℕ) (listed whole : List (ℕ × ℕ)) : Type 0 where
+  pub left : Tree
+  pub right : Tree
+  pub cell : Cell
+  pub trees : List Tree
+  pub block : cell.block ≡ name - 1
+  pub node : HasNode arena words cell (name_of left) (name_of right)
+  pub spelled_left : IsSpelled arena words left
+  pub spelled_right : IsSpelled arena words right
+  pub others : rest ≡ names_of trees
+  pub spelled : AreSpelled arena words trees
+  pub all : listed ++ entries_in (cell ∷ down left (down right (down_all trees))) ≡ whole
+
+module _ {arena : Arena} {words names : List ℕ} {listed whole : List (ℕ × ℕ)} where
   -- if no name is left, all are listed
   pub visits_end : names ≡ [] → Visits arena words names listed whole → listed ≡ whole
   visits_end none h = at (h.trees) h.named h.all
     where
       at : (trees : List Tree) → names ≡ names_of trees → listed ++ entries_in (down_all trees) ≡ whole → listed ≡ whole
       at [] named all = sym (append-nil listed) ∙ all
-      at (tree ∷ trees) named all =
-          let long : length (names_of trees ++ name_of tree ∷ []) ≡ length (names_of trees) + 1 = length-append (names_of trees) (name_of tree ∷ []) in
-          let same : length (names_of trees ++ name_of tree ∷ []) ≡ length {A = ℕ} [] = ap length (sym named ∙ none) in
-          absurd (omega (arith, long, same))
+      at (tree ∷ trees) named all = no_end (names_of trees) (name_of tree) (sym named ∙ none)
 
   module _ (rest : List ℕ) (name : ℕ) (last : names ≡ rest ++ name ∷ []) where
     -- a name of none is dropped
@@ -82,10 +81,7 @@ module _ (arena : Arena) (words names : List ℕ) (listed whole : List (ℕ × �
       where
         at : (trees : List Tree) → names ≡ names_of trees → AreSpelled arena words trees
             → listed ++ entries_in (down_all trees) ≡ whole → Visits arena words rest listed whole
-        at [] named spelled all =
-            let long : length (rest ++ name ∷ []) ≡ length rest + 1 = length-append rest (name ∷ []) in
-            let same : length (rest ++ name ∷ []) ≡ length {A = ℕ} [] = ap length (sym last ∙ named) in
-            absurd (omega (arith, long, same))
+        at [] named spelled all = no_end rest name (sym last ∙ named)
         at (Leaf ∷ trees) named spelled all = record {
           trees = trees;
           named = (one_end rest (names_of trees) name 0 (sym last ∙ named)).0;
@@ -96,28 +92,12 @@ module _ (arena : Arena) (words names : List ℕ) (listed whole : List (ℕ × �
             let e : name ≡ c.block + 1 = (one_end rest (names_of trees) name (c.block + 1) (sym last ∙ named)).1 in
             absurd (omega (arith, e, none))
 
-    -- what a name of some block tells
-    pub record Tops : Type 0 where
-      pub left : Tree
-      pub right : Tree
-      pub cell : Cell
-      pub trees : List Tree
-      pub block : cell.block ≡ name - 1
-      pub node : HasNode arena words cell (name_of left) (name_of right)
-      pub spelled_left : IsSpelled arena words left
-      pub spelled_right : IsSpelled arena words right
-      pub others : rest ≡ names_of trees
-      pub spelled : AreSpelled arena words trees
-      pub all : listed ++ entries_in (cell ∷ down left (down right (down_all trees))) ≡ whole
-
-    tops : name ≢ 0 → Visits arena words names listed whole → Tops
+    tops : name ≢ 0 → Visits arena words names listed whole → Tops arena words rest name listed whole
     tops some h = at (h.trees) h.named h.spelled h.all
       where
-        at : (trees : List Tree) → names ≡ names_of trees → AreSpelled arena words trees → listed ++ entries_in (down_all trees) ≡ whole → Tops
-        at [] named spelled all =
-            let long : length (rest ++ name ∷ []) ≡ length rest + 1 = length-append rest (name ∷ []) in
-            let same : length (rest ++ name ∷ []) ≡ length {A = ℕ} [] = ap length (sym last ∙ named) in
-            absurd (omega (arith, long, same))
+        at : (trees : List Tree) → names ≡ names_of trees → AreSpelled arena words trees → listed ++ entries_in (down_all trees) ≡ whole
+            → Tops arena words rest name listed whole
+        at [] named spelled all = no_end rest name (sym last ∙ named)
         at (Leaf ∷ trees) named spelled all = absurd (some (one_end rest (names_of trees) name 0 (sym last ∙ named)).1)
         at (Node left c right ∷ trees) named spelled all =
             let e = one_end rest (names_of trees) name (c.block + 1) (sym last ∙ named) in
@@ -138,7 +118,7 @@ module _ (arena : Arena) (words names : List ℕ) (listed whole : List (ℕ × �
 
     pub visits_below : name ≢ 0 → Visits arena words names listed whole → (name ≤ arena.blocks) × (length listed + 1 ≤ length whole)
     visits_below some h =
-        let t : Tops = tops some h in
+        let t = tops some h in
         let below : t.cell.block < arena.blocks = t.node.below in
         let block : t.cell.block ≡ name - 1 = t.block in
         let cs : List Cell = t.cell ∷ down t.left (down t.right (down_all t.trees)) in
@@ -151,7 +131,7 @@ module _ (arena : Arena) (words names : List ℕ) (listed whole : List (ℕ × �
         → slice_get words (block_at arena (name - 1) + 2) ≡ Some left → slice_get words (block_at arena (name - 1) + 3) ≡ Some right
         → Visits arena words names listed whole → Visits arena words ((rest ++ right ∷ []) ++ left ∷ []) (listed ++ (key, value) ∷ []) whole
     visits_node key value left right some first second third fourth h =
-        let t : Tops = tops some h in
+        let t = tops some h in
         let back : name - 1 ≡ t.cell.block = sym t.block in
         let at : (j : ℕ) → slice_get words (block_at arena t.cell.block + j)
         ≡ slice_get words (block_at arena (name - 1) + j) = λ j. ap (λ b. slice_get words (block_at arena b + j)) (sym back) in
@@ -241,7 +221,7 @@ none_apart : (xs : List Cell) → AllByRecursion (λ d. value_of d.key [] ≡ No
 none_apart [] = tt
 none_apart (x ∷ xs) = (refl, none_apart xs)
 
-module _ (map : TreeMap) (words : List ℕ) (entries : Entries) (used : Blocks) (h : TreeHolds map words entries used) where
+module _ {map : TreeMap} {words : List ℕ} {entries : Entries} {used : Blocks} (h : TreeHolds map words entries used) where
   -- so they are the entries of the map
   pub down_adds : AddsUp entry_map.empty (entries_in (down h.tree [])) entries
   down_adds = adds_cells (down h.tree []) entry_map.empty entries

@@ -1,25 +1,14 @@
 -- Trees and chains that are walked block by block.
-use Rattle.std.proofs.Common.{◌≡◌, ◌≢◌, ℕ, zero, suc, ◌+◌, ◌-◌, ◌<◌, ◌≤◌, List, [], ◌∷◌, ◌++◌, length, get_or, slice_get, Some, None}
-use Rattle.std.proofs.Common.{refl, sym, ap, ◌∙◌, subst, arith}
-use Rattle.std.proofs.Common.{length-append, append_assoc}
-use Rattle.std.proofs.lemmas.List.{append-nil}
-use Rattle.std.proofs.lemmas.Option.{slice_get-get_or, slice_get_within, same_Some}
-use Rattle.txn_alloc.specs.declared.arena.Arena.{Arena}
-use Rattle.txn_alloc.specs.FreeLists.{block_at}
-use mathlib.Core.Logic.{dite}
-use native.Mathlib.Decide.{ℕ_discrete}
-use Rattle.std.specs.Cmp.{nat_cmp_total}
-use Rattle.std.specs.Ordering.{nat_cmp}
-use Rattle.std.specs.FinMap.{nat_cmp-IsAntisymmetric}
-use Rattle.std.specs.FinMap as entry_map
-use Rattle.txn_alloc.specs.EntryMaps.{Cell, Entries, Blocks, value_of}
-use Rattle.txn_hash_map.specs.declared.map.ChainMap.{ChainMap}
+use Rattle.txn_books.proofs.Common.{◌≡◌, ◌≢◌, ℕ, zero, suc, ◌+◌, ◌-◌, ◌<◌, ◌≤◌, List, [], ◌∷◌, ◌++◌, length, get_or, slice_get, Some, None, refl, sym, ap, ◌∙◌}
+use Rattle.txn_books.proofs.Common.{subst, arith, length-append, append_assoc, append-nil, slice_get-get_or, slice_get_within, same_Some, Arena, block_at, dite}
+use Rattle.txn_books.proofs.Common.{ℕ_discrete, nat_cmp_total, nat_cmp, nat_cmp-IsAntisymmetric, Cell, Entries, Blocks, value_of, ChainMap, HasChain}
+use Rattle.txn_books.proofs.Common.{ChainsHold, AddsUp, entries_in}
+use Rattle.txn_hash_map.proofs.Common.{HasKeysIn, bucket_of}
 use Rattle.txn_hash_map.specs.declared.map.TheConstants.{BUCKETS}
-use Rattle.txn_hash_map.specs.Chains.{HasChain, HasKeysIn, bucket_of, ChainsHold}
 use Rattle.txn_hash_map.proofs.Cells.{bucket_below, key_own, chain_short}
-use Rattle.txn_books.specs.Inner.Reading.{AddsUp, entries_in}
 use Rattle.txn_books.proofs.ReadOff.Adding.{or_else, or_none, put_all, get_all, adds_cells, adds_append}
 use Rattle.txn_hash_map.proofs.Numbers.{absent_in}
+use Rattle.std.specs.FinMap as entry_map
 
 -- four words in a row
 pub four_words : (ws : List ℕ) (p j : ℕ) → p + 4 ≤ length ws → j ≤ 3
@@ -43,18 +32,18 @@ pub chain_there : (arena : Arena) (words : List ℕ) (place : ℕ) (cells : List
 chain_there arena words place [] h = slice_get_within words place 0 h
 chain_there arena words place (c ∷ cs) h = slice_get_within words place (c.block + 1) h.0
 
-module _ (arena : Arena) (words : List ℕ) (listed whole : List (ℕ × ℕ)) where
+module _ {arena : Arena} {words : List ℕ} {name : ℕ} {listed whole : List (ℕ × ℕ)} where
   -- if the name is none, all are listed
-  pub follows_none : (name : ℕ) → name ≡ 0 → Follows arena words name listed whole → listed ≡ whole
-  follows_none name none h = at (h.rest) h.chain h.all
+  pub follows_none : name ≡ 0 → Follows arena words name listed whole → listed ≡ whole
+  follows_none none h = at (h.rest) h.chain h.all
     where
       at : (rest : List Cell) → HasChain arena words h.place rest → listed ++ entries_in rest ≡ whole → listed ≡ whole
       at [] chain all = sym (append-nil listed) ∙ all
       at (c ∷ cs) chain all = let e : name ≡ c.block + 1 = same_Some name (c.block + 1) (sym h.named ∙ chain.0) in absurd (omega (arith, none, e))
 
   -- else it names a block, whose entry is one more
-  pub follows_below : (name : ℕ) → name ≢ 0 → Follows arena words name listed whole → (name ≤ arena.blocks) × (length listed + 1 ≤ length whole)
-  follows_below name some h = at (h.rest) h.chain h.all
+  pub follows_below : name ≢ 0 → Follows arena words name listed whole → (name ≤ arena.blocks) × (length listed + 1 ≤ length whole)
+  follows_below some h = at (h.rest) h.chain h.all
     where
       at : (rest : List Cell) → HasChain arena words h.place rest → listed ++ entries_in rest ≡ whole
           → (name ≤ arena.blocks) × (length listed + 1 ≤ length whole)
@@ -64,11 +53,11 @@ module _ (arena : Arena) (words : List ℕ) (listed whole : List (ℕ × ℕ)) w
           let long : length listed + length (entries_in (c ∷ cs)) ≡ length whole = sym (length-append listed (entries_in (c ∷ cs))) ∙ ap length all in
           (omega (arith, e, chain.1), omega (arith, long))
 
-  pub follows_next : (name key value next : ℕ) → name ≢ 0 → slice_get words (block_at arena (name - 1)) ≡ Some key
+  pub follows_next : (key value next : ℕ) → name ≢ 0 → slice_get words (block_at arena (name - 1)) ≡ Some key
       → slice_get words (block_at arena (name - 1) + 1) ≡ Some value
       → slice_get words (block_at arena (name - 1) + 2) ≡ Some next → Follows arena words name listed whole
       → Follows arena words next (listed ++ (key, value) ∷ []) whole
-  follows_next name key value next some first second third h = at (h.rest) h.chain h.all
+  follows_next key value next some first second third h = at (h.rest) h.chain h.all
     where
       at : (rest : List Cell) → HasChain arena words h.place rest → listed ++ entries_in rest ≡ whole
           → Follows arena words next (listed ++ (key, value) ∷ []) whole
@@ -101,7 +90,7 @@ gathers_none entries = record {
   high = λ key le. entry_map.get-empty nat_cmp key;
 }
 
-module _ (map : ChainMap) (words : List ℕ) (entries : Entries) (used : Blocks) (h : ChainsHold map words entries used) where
+module _ {map : ChainMap} {words : List ℕ} {entries : Entries} {used : Blocks} (h : ChainsHold map words entries used) where
   pub gathers_more : (n : ℕ) (listed : List (ℕ × ℕ)) → n < BUCKETS → Gathers n entries listed → Gathers (n + 1) entries (listed ++ entries_in (h.cells n))
   gathers_more n listed lt k =
       let cs : List Cell = h.cells n in

@@ -1,22 +1,15 @@
 -- A walk over the entries of a map, from key to key.
-use Rattle.std.proofs.Common.{◌≡◌, ◌≢◌, ℕ, ◌≤◌, Bool, true, false, cond, T, ◌&&◌, List, [], ◌∷◌, Option, Some, None, refl, sym, ap, ◌∙◌, subst, arith}
-use Rattle.std.specs.declared.cmp.Ordering.{Ordering}
-use Rattle.std.specs.declared.cmp.Ordering.TheVariants.{Less, Equal, Greater}
-use Rattle.std.specs.Cmp.{IsTotalOrder, tied_itself, nat_cmp_is}
-use Rattle.std.specs.Ordering.{nat_cmp, is_lt, is_eq, eq_by_cmp, ordering_reverse}
-use Rattle.std.specs.List.{AllByRecursion, find}
-use Rattle.std.specs.FinMap as entry_map
-use Rattle.std.specs.FinMap.Entries as sorted
-use Rattle.std.specs.FinMap.Entries.{below_all, is_sorted}
-use Rattle.std.proofs.lemmas.Option.{same_Some}
-use Rattle.std.proofs.lemmas.Map.Lookups.{CmpEqualImpliesEq}
-use Rattle.std.proofs.lemmas.Map.Views.{tells_apart}
-use Rattle.books_model.proofs.Maps.Keys.{below_first, below_rest, sorted_first, sorted_rest, below_less}
-use Rattle.books_model.proofs.Maps.Entries.{All-entries}
-use Rattle.txn_books.specs.Inner.Reading.{AddsUp}
-use Rattle.txn_books.specs.Inner.Building.{above}
+use Rattle.txn_books.proofs.Common.{◌≡◌, ◌≢◌, ℕ, ◌≤◌, Bool, true, false, cond, T, ◌&&◌, List, [], ◌∷◌, Option, Some, None, refl, sym, ap, ◌∙◌, subst, arith}
+use Rattle.txn_books.proofs.Common.{Ordering, Less, Equal, Greater, IsTotalOrder, tied_itself, nat_cmp, is_lt, is_eq, eq_by_cmp, AllByRecursion, find}
+use Rattle.txn_books.proofs.Common.{below_all, is_sorted, same_Some, CmpEqualImpliesEq, tells_apart, below_first, below_rest, sorted_first, sorted_rest}
+use Rattle.txn_books.proofs.Common.{All-entries, AddsUp, above}
+use Rattle.std.specs.Cmp.{nat_cmp_is}
+use Rattle.std.specs.Ordering.{ordering_reverse}
+use Rattle.books_model.proofs.Maps.Keys.{below_less}
 use Rattle.txn_books.proofs.ReadOff.Adding.{or_else}
 use Rattle.txn_books.proofs.OneState.ChainedChanges.{put_here, put_there}
+use Rattle.std.specs.FinMap as entry_map
+use Rattle.std.specs.FinMap.Entries as sorted
 
 module _ {K : Type 0} {R : K → K → Ordering} (o : IsTotalOrder R) where
   all_above : (k : K) (es : List (K × ℕ)) → T (below_all R k es) → above R k es ≡ es

@@ -1,13 +1,9 @@
 -- What stands at places, each of which stands among them once.
-use Rattle.std.proofs.Common.{◌≡◌, ◌≢◌, ℕ, zero, suc, ◌+◌, ◌<◌, List, [], ◌∷◌, ◌++◌, All, AllPairs, map, length, length-append, get_or, slice_get}
-use Rattle.std.proofs.Common.{slice_set, Option, Some, None, refl, sym, ap, ◌∙◌, subst, arith}
-use mathlib.Core.Logic.{dite}
-use native.Mathlib.Decide.{dec_lt}
-use Rattle.std.proofs.lemmas.List.{length-map, length-set}
-use Rattle.std.proofs.lemmas.Option.{get_or_from_slice_get, slice_get-get_or, slice_get_within}
-use Rattle.history_model.specs.Legal.{IsIn}
-use Rattle.history_model.proofs.ListPlaces.{at_map, get_first, get_last}
-use Rattle.txn_commit.specs.Ordered.{AreAt}
+use Rattle.txn_commit.proofs.Common.{◌≡◌, ◌≢◌, ℕ, zero, suc, ◌+◌, ◌<◌, List, [], ◌∷◌, ◌++◌, All, AllPairs, length, length-append, get_or, slice_get, slice_set}
+use Rattle.txn_commit.proofs.Common.{Option, Some, None, refl, sym, ap, ◌∙◌, subst, arith, dite, dec_lt, get_or_from_slice_get, slice_get-get_or}
+use Rattle.txn_commit.proofs.Common.{slice_get_within, IsIn, AreAt}
+use Rattle.order_rebuild.proofs.Common.{get_first, get_last}
+use Rattle.std.proofs.lemmas.List.{length-set}
 
 -- all places below n, each once
 pub record AreAllPlaces (n : ℕ) (places : List ℕ) : Type 0 where
@@ -52,14 +48,6 @@ pub record IsArranging {X : Type 0} (given : List X) (places : List ℕ) (k : �
   pub count : length arranged ≡ k
   pub each : (i p : ℕ) → i < k → slice_get places i ≡ Some p → slice_get arranged i ≡ slice_get given p
   pub still : (p : ℕ) (x : X) → slice_get given p ≡ Some x → ((i : ℕ) → i < k → slice_get places i ≡ Some p → ⊥) → slice_get left p ≡ Some (Some x)
-
-pub arranged_none : {X : Type 0} (given : List X) (places : List ℕ) (left : List (Option X)) → left ≡ map Some given → IsArranging given places 0 left []
-arranged_none given places left is = record {
-  long = ap (λ l. length l) is ∙ length-map given Some;
-  count = refl;
-  each = λ i p lt e. absurd (omega arith);
-  still = λ p x e none. ap (λ l. slice_get l p) is ∙ at_map Some given p x e;
-}
 
 pub arranged_all : {X : Type 0} (given : List X) (places : List ℕ) (left : List (Option X)) (arranged : List X)
     → IsArranging given places (length places) left arranged → AreAt given places arranged

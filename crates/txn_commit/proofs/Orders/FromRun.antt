@@ -1,12 +1,7 @@
 -- What was run, put in the order that is rebuilt from what it used.
-use Rattle.std.proofs.Common.{◌≡◌, ℕ, Bool, List, All, map, length, get_or, sym, subst, arith}
-use Rattle.std.proofs.lemmas.Option.{slice_get-get_or}
-use Rattle.history_model.specs.Traces.{IsLegalTrace, after}
-use Rattle.order_rebuild.specs.Order.{IsOrder, Orderable}
-use Rattle.word_table.specs.Closing.{AreRecords, ClosedView, IsCoherent, IsLegalInEachOrder}
-use Rattle.txn_commit.specs.declared.lists.Done.{Done}
-use Rattle.txn_commit.specs.Lists.{AreOnceInOrder, HaveRecords, IsEntryOf}
-use Rattle.txn_commit.specs.Ordered.{spot_of, AreAt, AreRecorded, IsRunInOrder}
+use Rattle.txn_commit.proofs.Common.{◌≡◌, ℕ, Bool, List, All, map, length, get_or, sym, subst, arith, slice_get-get_or, IsLegalTrace, after, IsOrder, Orderable}
+use Rattle.txn_commit.proofs.Common.{AreRecords, ClosedView, IsCoherent, IsLegalInEachOrder, Done, AreOnceInOrder, HaveRecords, IsEntryOf, spot_of, AreAt}
+use Rattle.txn_commit.proofs.Common.{AreRecorded, IsRunInOrder}
 use Rattle.txn_commit.proofs.Orders.Arranged.{all_arranged, AreAllPlaces}
 use Rattle.txn_commit.proofs.Orders.Once.{once_there}
 use Rattle.txn_commit.proofs.Orders.Rebuilt.{all_places, apart_places, apart_there, as_many_there, can_be_ordered, entries, legal_there, made_there, rebuilt}

@@ -1,17 +1,8 @@
 -- What stands at the places of an order stands in that order itself.
-use Rattle.std.proofs.Common.{◌≡◌, ℕ, ◌<◌, List, map, length, take, get_or, slice_get, Some, sym, ap, ◌∙◌, subst, arith}
-use Rattle.std.specs.List.{range_with_len}
-use Rattle.std.proofs.lemmas.List.{length-map}
-use Rattle.std.proofs.lemmas.List.FromFn.{get_or-range_with_len, length-range_with_len}
-use Rattle.std.proofs.lemmas.Option.{get_or_from_slice_get, slice_get-get_or, slice_get_within}
-use mathlib.Core.Logic.{dite}
-use native.Mathlib.Decide.{dec_lt}
-use Rattle.history_model.specs.declared.placed.Spot.{Spot}
-use Rattle.history_model.specs.Legal.{IsIn}
-use Rattle.history_model.proofs.ListPlaces.{at_map, front-get, get-front, map_at}
-use Rattle.order_rebuild.specs.Order.{IsNext, IsOrder, MayCome, Orderable, Precedes}
-use Rattle.order_rebuild.proofs.Stuck.{order_keeps}
-use Rattle.txn_commit.specs.Ordered.{AreAt, IsRebuilt}
+use Rattle.txn_commit.proofs.Common.{◌≡◌, ℕ, ◌<◌, List, map, length, take, get_or, slice_get, Some, sym, ap, ◌∙◌, subst, arith, range_with_len, length-map}
+use Rattle.txn_commit.proofs.Common.{get_or-range_with_len, length-range_with_len, get_or_from_slice_get, slice_get-get_or, slice_get_within, dite, dec_lt}
+use Rattle.txn_commit.proofs.Common.{Spot, IsIn, at_map, map_at, IsOrder, Orderable, order_keeps, AreAt, IsRebuilt}
+use Rattle.order_rebuild.proofs.Common.{front-get, get-front, IsNext, MayCome, Precedes}
 use Rattle.txn_commit.proofs.Orders.Arranged.{place_of_done, AreAllPlaces}
 
 -- the places of a list one after another

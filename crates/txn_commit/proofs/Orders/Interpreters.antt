@@ -1,6 +1,6 @@
 -- An interpreter, down the jobs that were run.
+use Rattle.txn_commit.proofs.Common.{Done}
 use Rattle.std.specs.Prelude.{◌≡◌, ℕ, Bool, true, false, List, [], ◌∷◌}
-use Rattle.txn_commit.specs.declared.lists.Done.{Done}
 
 -- what an interpreter answers down jobs, each on the state that those before it leave
 unfoldable pub answers_down : {A X : Type 0} → (ℕ → ℕ → X → A) → (ℕ → ℕ → X → X) → List (Done A) → X → List A

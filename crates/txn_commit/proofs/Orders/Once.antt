@@ -1,19 +1,13 @@
 -- Each caller's jobs once and in their order, in another order of what was run in which those of a caller rise.
-use Rattle.std.proofs.Common.{◌≡◌, ℕ, zero, suc, ◌+◌, ◌<◌, ◌≤◌, ◌==◌, Bool, true, false, cond, List, [], ◌∷◌, AllPairs, map, length, get_or}
-use Rattle.std.proofs.Common.{slice_get, Some}
-use Rattle.std.proofs.Common.{refl, sym, ap, ◌∙◌, subst, arith, eq-eqb, zero-add}
-use Rattle.std.specs.List.{filter, range_with_len}
+use Rattle.txn_commit.proofs.Common.{◌≡◌, ℕ, zero, suc, ◌+◌, ◌<◌, ◌≤◌, ◌==◌, Bool, true, false, cond, List, [], ◌∷◌, AllPairs, map, length, get_or, slice_get}
+use Rattle.txn_commit.proofs.Common.{Some, refl, sym, ap, ◌∙◌, subst, arith, eq-eqb, filter, range_with_len, get_or-range_with_len, length-range_with_len}
+use Rattle.txn_commit.proofs.Common.{AllPairs-cons, get_or_from_slice_get, slice_get-get_or, slice_get_within, IsIn, at_map, map_at, Done, indexes_of}
+use Rattle.txn_commit.proofs.Common.{AreOnceInOrder, spot_of, AreAt}
+use Rattle.std.proofs.Common.{zero-add}
 use Rattle.std.proofs.lemmas.Bool.Decides.{nat_tests}
 use Rattle.std.proofs.lemmas.List.Elements.{All-map, filter_passes}
-use Rattle.std.proofs.lemmas.List.FromFn.{get_or-range_with_len, length-range_with_len}
-use Rattle.std.proofs.lemmas.List.Kept.{AllPairs-cons, AllPairs-filter}
-use Rattle.std.proofs.lemmas.Option.{get_or_from_slice_get, slice_get-get_or, slice_get_within}
-use Rattle.history_model.specs.Legal.{IsIn}
-use Rattle.history_model.proofs.ListPlaces.{at_map, map_at}
+use Rattle.std.proofs.lemmas.List.Kept.{AllPairs-filter}
 use Rattle.word_table.proofs.Joined.Counting.{filter_in, in_filter}
-use Rattle.txn_commit.specs.declared.lists.Done.{Done}
-use Rattle.txn_commit.specs.Lists.{indexes_of, AreOnceInOrder}
-use Rattle.txn_commit.specs.Ordered.{spot_of, AreAt}
 use Rattle.txn_commit.proofs.Orders.Arranged.{all_arranged, by_place, place_of_done, AreAllPlaces}
 
 -- the pairs of a list of images

@@ -1,33 +1,24 @@
 -- What was run over a closed table, in the order that is rebuilt from what it used, beside the entries of its calls.
-use Rattle.std.proofs.Common.{◌≡◌, ◌≢◌, ◌↔◌, ℕ, zero, suc, ◌+◌, ◌<◌, inl, inr, ⊎_elim, true, false, List, [], ◌∷◌, AllPairs, map, length, take, get_or}
-use Rattle.std.proofs.Common.{slice_get, Some, refl, sym, ap, ◌∙◌, subst, arith}
-use Rattle.std.proofs.lemmas.List.{length-map, take-map, take_all}
-use Rattle.std.proofs.lemmas.Option.{get_or_from_slice_get, slice_get-get_or, slice_get_within}
+use Rattle.txn_commit.proofs.Common.{◌≡◌, ◌≢◌, ◌↔◌, ℕ, zero, suc, ◌+◌, ◌<◌, inl, inr, ⊎_elim, true, false, List, [], ◌∷◌, AllPairs, map, length, take, get_or}
+use Rattle.txn_commit.proofs.Common.{slice_get, Some, refl, sym, ap, ◌∙◌, subst, arith, length-map, take_all, get_or_from_slice_get, slice_get-get_or}
+use Rattle.txn_commit.proofs.Common.{slice_get_within, dite, dec_lt, Entry, Item, LockUse, Spot, replay, replay_items, IsIn, IsLegalTrace, map_at, at_map}
+use Rattle.txn_commit.proofs.Common.{item_of_entry, items_of_entry, entry_from, in_flat_map, IsAttemptOf, IsOrder, Orderable, order_keeps, ListsUses}
+use Rattle.txn_commit.proofs.Common.{items_of_closed, AreRecords, ClosedView, IsCoherent, IsLegalInEachOrder, AreAt, IsRebuilt}
+use Rattle.history_model.proofs.Common.{KeepsUses}
+use Rattle.values_rule.proofs.Common.{arranged}
+use Rattle.order_rebuild.proofs.Common.{entries_at}
+use Rattle.word_table.proofs.Common.{writes_of}
+use Rattle.std.proofs.lemmas.List.{take-map}
 use Rattle.std.proofs.Math.ListN.{get_or-map}
 use mathlib.Core.List.{map-map}
-use mathlib.Core.Logic.{dite}
-use native.Mathlib.Decide.{dec_lt}
-use Rattle.history_model.specs.declared.entry.Entry.{Entry}
-use Rattle.history_model.specs.declared.item.Item.{Item}
-use Rattle.history_model.specs.declared.item.LockUse.{LockUse}
-use Rattle.history_model.specs.declared.placed.Spot.{Spot}
 use Rattle.history_model.specs.Arrangements.{WasSeenBefore}
-use Rattle.history_model.specs.Histories.{replay, replay_effects}
-use Rattle.history_model.specs.Items.{item_effect, replay_items, KeepsUses}
-use Rattle.history_model.specs.Legal.{IsIn}
-use Rattle.history_model.specs.Traces.{IsLegalTrace}
-use Rattle.history_model.proofs.ListPlaces.{map_at, at_map}
-use Rattle.history_model.proofs.Items.ItemEnds.{arranged}
+use Rattle.history_model.specs.Histories.{replay_effects}
+use Rattle.history_model.specs.Items.{item_effect}
 use Rattle.history_model.proofs.Items.ItemOrders.{end_good, is_legal, same_end}
-use Rattle.values_rule.specs.History.{item_of_entry, items_of_entry}
-use Rattle.values_rule.proofs.Told.ItemsIn.{entry_from, entry_into, flat_map_in, in_flat_map, IsAttemptOf}
-use Rattle.order_rebuild.specs.Legal.{AreEntries, entries_at, SameUses}
-use Rattle.order_rebuild.specs.Order.{IsOrder, Orderable}
+use Rattle.values_rule.proofs.Told.ItemsIn.{entry_into, flat_map_in}
+use Rattle.order_rebuild.specs.Legal.{AreEntries, SameUses}
 use Rattle.order_rebuild.proofs.Legal.{entries_ordered, orderable}
-use Rattle.order_rebuild.proofs.Stuck.{order_keeps, order_once}
-use Rattle.txn_commit.specs.Uses.{ListsUses}
-use Rattle.word_table.specs.Closing.{items_of_closed, writes_of, AreRecords, ClosedView, IsCoherent, IsLegalInEachOrder}
-use Rattle.txn_commit.specs.Ordered.{AreAt, IsRebuilt}
+use Rattle.order_rebuild.proofs.Stuck.{order_once}
 use Rattle.txn_commit.proofs.Orders.Arranged.{by_place, place_of_done, AreAllPlaces}
 use Rattle.txn_commit.proofs.Orders.InPlace.{in_place}
 

@@ -1,15 +1,8 @@
 -- What was run in order was run as if one job after another.
-use Rattle.std.proofs.Common.{◌≡◌, ℕ, ◌+◌, ◌<◌, Bool, List, [], ◌∷◌, ◌++◌, Some, length, take, slice_get, sym, ap, ◌∙◌, arith}
-use Rattle.std.proofs.lemmas.List.{take_all, take_more}
-use Rattle.std.proofs.lemmas.Option.{get_or_from_slice_get, slice_get_within}
-use Rattle.history_model.specs.declared.entry.Entry.{Entry}
-use Rattle.history_model.specs.Histories.{replay}
-use Rattle.history_model.specs.Traces.{after}
-use Rattle.history_model.proofs.Histories.ReplayLaws.{replay_nothing, replay_kept, replay_reverted}
-use Rattle.history_model.proofs.ListPlaces.{below_get}
-use Rattle.word_table.specs.Closing.{ClosedView}
-use Rattle.txn_commit.specs.declared.lists.Done.{Done}
-use Rattle.txn_commit.specs.Ordered.{HasRunOn, IsRunInOrder, IsSerial}
+use Rattle.txn_commit.proofs.Common.{◌≡◌, ℕ, ◌+◌, ◌<◌, Bool, List, [], ◌∷◌, ◌++◌, Some, length, take, slice_get, sym, ap, ◌∙◌, arith, take_all, take_more}
+use Rattle.txn_commit.proofs.Common.{get_or_from_slice_get, slice_get_within, Entry, replay, after, replay_nothing, replay_kept, replay_reverted, below_get}
+use Rattle.txn_commit.proofs.Common.{ClosedView, Done, IsRunInOrder}
+use Rattle.txn_commit.specs.Ordered.{HasRunOn, IsSerial}
 
 module _ {A S : Type 0} (good : List ℕ → Type 0) (means : ℕ → ℕ → List ℕ → Bool → A → List ℕ → Type 0) (closed : ClosedView S)
     (done : List (Done A)) (run : IsRunInOrder good means closed done) where

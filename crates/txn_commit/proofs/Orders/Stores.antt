@@ -1,18 +1,10 @@
 -- One lemma for every store: if a state stands for words, and a job's meaning is one step of an interpreter on that
 -- state, the interpreter, run down the jobs in their order, gives every answer, and the words before and after each stand
 -- for its states.
-use Rattle.std.proofs.Common.{◌≡◌, ℕ, zero, suc, ◌+◌, ◌<◌, ◌≤◌, Bool, true, false, List, [], ◌∷◌, ◌++◌, map, length, take, get_or}
-use Rattle.std.proofs.Common.{refl, sym, ap, ◌∙◌, subst, arith}
-use Rattle.std.proofs.lemmas.List.{take_more, take_all, map_push}
-use Rattle.std.proofs.lemmas.Option.{slice_get-get_or}
-use Rattle.history_model.specs.declared.entry.Entry.{Entry}
-use Rattle.history_model.specs.Histories.{replay}
-use Rattle.history_model.specs.Traces.{after}
-use Rattle.history_model.proofs.Histories.ReplayLaws.{replay_nothing, replay_kept, replay_reverted}
-use Rattle.word_table.specs.Closing.{ClosedView}
-use Rattle.txn_commit.specs.declared.lists.Done.{Done}
+use Rattle.txn_commit.proofs.Common.{◌≡◌, ℕ, zero, suc, ◌+◌, ◌<◌, ◌≤◌, Bool, true, false, List, [], ◌∷◌, ◌++◌, map, length, take, get_or, refl, sym, ap, ◌∙◌}
+use Rattle.txn_commit.proofs.Common.{subst, arith, take_more, take_all, map_push, slice_get-get_or, Entry, replay, after, replay_nothing, replay_kept}
+use Rattle.txn_commit.proofs.Common.{replay_reverted, ClosedView, Done, IsRunInOrder}
 use Rattle.txn_commit.proofs.Orders.Interpreters.{answers_down, state_down, IsInterpreterStep}
-use Rattle.txn_commit.specs.Ordered.{IsRunInOrder}
 
 -- what was answered, with one job more
 answers_push : {A X : Type 0} (reply : ℕ → ℕ → X → A) (left : ℕ → ℕ → X → X) (jobs : List (Done A)) (job : Done A) (x : X)

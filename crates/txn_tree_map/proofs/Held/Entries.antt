@@ -1,16 +1,13 @@
 -- The entries of the map, in the order of their keys: the tree's cells from left to right.
-use Rattle.std.proofs.Common.{◌≡◌, ◌≢◌, ℕ, ◌<◌, ◌≤◌, Bool, true, false, nat_lt, List, [], ◌∷◌, refl, sym, ap, ◌∙◌, subst, arith, rules, T}
-use mathlib.Core.Logic.{dite}
-use native.Mathlib.Decide.{ℕ_discrete}
-use Rattle.std.specs.Cmp.{nat_cmp_total, nat_cmp_is}
-use Rattle.std.specs.Ordering.{nat_cmp, is_lt, is_eq, eq_by_cmp}
+use Rattle.txn_tree_map.proofs.Common.{◌≡◌, ◌≢◌, ℕ, ◌<◌, ◌≤◌, Bool, true, false, nat_lt, List, [], ◌∷◌, refl, sym, ap, ◌∙◌, subst, arith, rules, dite}
+use Rattle.txn_tree_map.proofs.Common.{ℕ_discrete, nat_cmp_total, nat_cmp, Cell, Entries, Blocks, value_of, TreeMap, cells_of, IsAbove, IsRising, TreeHolds}
+use Rattle.std.proofs.Common.{T}
+use Rattle.std.specs.Cmp.{nat_cmp_is}
+use Rattle.std.specs.Ordering.{is_lt, is_eq, eq_by_cmp}
 use Rattle.std.specs.declared.cmp.Ordering.TheVariants.{Less, Equal, Greater}
 use Rattle.std.specs.FinMap.{nat_cmp-IsAntisymmetric}
-use Rattle.std.specs.FinMap as entry_map
 use Rattle.std.specs.FinMap.Entries.{is_sorted, below_all, find}
-use Rattle.txn_alloc.specs.EntryMaps.{Cell, Entries, Blocks, value_of}
-use Rattle.txn_tree_map.specs.declared.map.TreeMap.{TreeMap}
-use Rattle.txn_tree_map.specs.Trees.{cells_of, IsAbove, IsRising, TreeHolds}
+use Rattle.std.specs.FinMap as entry_map
 
 -- the keys and values of cells
 abbrev pub pairs_of : List Cell → List (ℕ × ℕ)
@@ -28,7 +25,7 @@ untied x y ne = at (nat_lt x y) refl
   where
     at : (b : Bool) → nat_lt x y ≡ b → eq_by_cmp nat_cmp x y ≡ false
     at true e = ap is_eq (sym (nat_cmp_is x y Less (grind (arith, rules, e))))
-    at false e = ap is_eq (sym (nat_cmp_is x y Greater (let le : y ≤ x = grind (arith, rules, e) in omega (arith, le, ne))))
+    at false e = ap is_eq (sym (nat_cmp_is x y Greater (let le : y ≤ x = grind (arith, rules, e) in omega arith)))
 
 below_pairs : (k : ℕ) (cs : List Cell) → IsAbove k cs → below_all nat_cmp k (pairs_of cs) ≡ true
 below_pairs k [] h = refl
@@ -44,8 +41,8 @@ find_pairs key (c ∷ cs) = dite (ℕ_discrete c.key key)
     (λ e. grind (rules, tied key c.key (sym e), e))
     (λ ne. grind (rules, untied key c.key (λ e. ne (sym e)), ne, find_pairs key cs))
 
-pub entries_cells : (map : TreeMap) (s : List ℕ) (f : Entries) (u : Blocks) (h : TreeHolds map s f u) → entry_map.entries f ≡ pairs_of (cells_of h.tree)
-entries_cells map s f u h =
+pub entries_cells : {map : TreeMap} {s : List ℕ} {f : Entries} {u : Blocks} (h : TreeHolds map s f u) → entry_map.entries f ≡ pairs_of (cells_of h.tree)
+entries_cells {f} h =
     let cs : List Cell = cells_of h.tree in
     let sorted : T (is_sorted nat_cmp (pairs_of cs)) = subst T (sym (sorted_pairs cs h.search)) tt in
     let g : Entries = entry_map.from_sorted (pairs_of cs) in

@@ -1,24 +1,17 @@
 -- A place in the map's tree, and what the whole says there.
-use Rattle.std.proofs.Common.{◌≡◌, ℕ, ◌+◌, ◌^◌, ◌<◌, ◌≤◌, Bool, true, false, List, [], ◌∷◌, ◌++◌, length, slice_get, Some, sym, ap, ◌∙◌, subst, arith}
-use Rattle.std.proofs.Common.{if◌then◌else◌}
-use Rattle.std.proofs.lemmas.List.{append-nil}
-use Rattle.std.proofs.lemmas.Option.{slice_get_within, same_Some}
-use Rattle.std.specs.FinSet as set
-use Rattle.std.specs.FinMap as entry_map
-use Rattle.std.specs.List.{AllByRecursion}
-use Rattle.txn_alloc.specs.declared.arena.Arena.{Arena}
-use Rattle.txn_alloc.specs.FreeLists.{block_at, IsInBlock}
-use Rattle.txn_alloc.specs.EntryMaps.{Cell, Entries, Blocks, value_of, has_block}
-use Rattle.txn_alloc.proofs.Maps.Cells.{all_append, times_in, has_times, times_has}
-use Rattle.txn_tree_map.specs.declared.map.TreeMap.{TreeMap}
-use Rattle.txn_tree_map.specs.Trees.{Tree, priority_of, name_of, rank_of, cells_of, HasNode, IsSpelled, IsRising, IsHeap, TreeHolds}
-use Rattle.txn_tree_map.specs.Trees.Tree.{Leaf, Node}
+use Rattle.txn_tree_map.proofs.Common.{◌≡◌, ℕ, ◌+◌, ◌^◌, ◌<◌, ◌≤◌, Bool, true, false, List, [], ◌∷◌, ◌++◌, length, slice_get, Some, sym, ap, ◌∙◌, subst, arith}
+use Rattle.txn_tree_map.proofs.Common.{if◌then◌else◌, append-nil, slice_get_within, same_Some, AllByRecursion, Arena, block_at, IsInBlock, Cell, Entries}
+use Rattle.txn_tree_map.proofs.Common.{Blocks, value_of, has_block, all_append, times_in, has_times, times_has, TreeMap, Tree, name_of, rank_of, cells_of}
+use Rattle.txn_tree_map.proofs.Common.{HasNode, IsSpelled, IsRising, IsHeap, TreeHolds, Leaf, Node, Step, Path, place_at_end, before_of, after_of, IsHung}
+use Rattle.txn_tree_map.proofs.Common.{IsHigh, HangsAt, length_below}
+use Rattle.txn_tree_map.specs.Trees.{priority_of}
 use Rattle.txn_tree_map.proofs.Plugs.{whole_of, plug}
-use Rattle.txn_tree_map.specs.Paths.{Step, Path, place_at_end, before_of, after_of, IsHung, IsHigh, HangsAt}
-use Rattle.txn_alloc.proofs.Maps.Counting.{times_all, length_below}
+use Rattle.txn_alloc.proofs.Maps.Counting.{times_all}
 use Rattle.txn_tree_map.proofs.Held.Rising.{rising_once}
 use Rattle.txn_tree_map.proofs.Held.Trees.{count_in, count_on, times_cells, cells_step, cells_plug, count_plug, all_tree, all_before, all_after, spelled_whole}
 use Rattle.txn_tree_map.proofs.Held.Trees.{name_whole, whole_spelled, hung_plug, one_tree}
+use Rattle.std.specs.FinSet as set
+use Rattle.std.specs.FinMap as entry_map
 
 pub priority_small : (key : ℕ) → priority_of key < 2 ^ 64
 unfolding priority_of
@@ -73,7 +66,7 @@ high_plug top (st ∷ path) tree high heap =
 
 -- what hangs lower is high enough
 pub high_lower : (top : ℕ) (path : Path) (m n : ℕ) → m ≤ n → IsHigh top path n → IsHigh top path m
-high_lower top [] m n le h = omega (arith, h)
+high_lower top [] m n le h = omega arith
 high_lower top (st ∷ path) m n le h = (omega (arith, h.0), h.1, h.2, h.3)
 
 module _ (map : TreeMap) (s : List ℕ) where
@@ -83,25 +76,26 @@ module _ (map : TreeMap) (s : List ℕ) where
     laid = hold.laid;
     hung = hold.spelled.0;
     spelled = hold.spelled.1;
-    search = subst (λ cs. IsRising cs) (sym (append-nil (cells_of hold.tree))) hold.search;
+    search = subst IsRising (sym (append-nil (cells_of hold.tree))) hold.search;
     high = rank_small hold.tree;
     heap = hold.heap;
   }
 
+module _ {map : TreeMap} {s : List ℕ} where
   -- one step up
-  pub at_up : (st : Step) (path : Path) (tree : Tree) → HangsAt map (st ∷ path) tree s → HangsAt map path (whole_of st tree) s
-  at_up st path tree m =
+  pub at_up : (st : Step) (path : Path) {tree : Tree} → HangsAt map (st ∷ path) tree s → HangsAt map path (whole_of st tree) s
+  at_up st path {tree} m =
       let heaps = whole_high (2 ^ 64) st path tree m.high m.heap in
       record {
         laid = m.laid;
-        hung = subst (λ n. IsHung map.arena s map.root path n) (sym (name_whole map.arena s st tree)) m.hung.2;
+        hung = subst (IsHung map.arena s map.root path) (sym (name_whole map.arena s st tree)) m.hung.2;
         spelled = whole_spelled map.arena s st tree m.hung.0 m.hung.1 m.spelled;
-        search = subst (λ cs. IsRising cs) (sym (cells_step st path tree)) m.search;
+        search = subst IsRising (sym (cells_step st path tree)) m.search;
         high = heaps.0;
         heap = heaps.1;
       }
 
-  module _ (path : Path) (tree : Tree) (m : HangsAt map path tree s) where
+  module _ {path : Path} {tree : Tree} (m : HangsAt map path tree s) where
     abbrev pub all_cells : List Cell
     all_cells = before_of path ++ (cells_of tree ++ after_of path)
 
@@ -109,13 +103,13 @@ module _ (map : TreeMap) (s : List ℕ) where
     pub at_step : (st : Step) (below : Tree) → tree ≡ whole_of st below → HangsAt map (st ∷ path) below s
     at_step st below e =
         let hung : IsHung map.arena s map.root path (name_of (whole_of st below)) = subst (λ t. IsHung map.arena s map.root path (name_of t)) e m.hung in
-        let parts = spelled_whole map.arena s st below (subst (λ t. IsSpelled map.arena s t) e m.spelled) in
-        let heaps = high_whole (2 ^ 64) st path below (subst (λ t. IsHigh (2 ^ 64) path (rank_of t)) e m.high) (subst (λ t. IsHeap t) e m.heap) in
+        let parts = spelled_whole map.arena s st below (subst (IsSpelled map.arena s) e m.spelled) in
+        let heaps = high_whole (2 ^ 64) st path below (subst (λ t. IsHigh (2 ^ 64) path (rank_of t)) e m.high) (subst IsHeap e m.heap) in
         record {
           laid = m.laid;
-          hung = (parts.0, parts.1, subst (λ n. IsHung map.arena s map.root path n) (name_whole map.arena s st below) hung);
+          hung = (parts.0, parts.1, subst (IsHung map.arena s map.root path) (name_whole map.arena s st below) hung);
           spelled = parts.2;
-          search = subst (λ cs. IsRising cs) (ap (λ t. before_of path ++ (cells_of t ++ after_of path)) e ∙ cells_step st path below) m.search;
+          search = subst IsRising (ap (λ t. before_of path ++ (cells_of t ++ after_of path)) e ∙ cells_step st path below) m.search;
           high = heaps.0;
           heap = heaps.1;
         }
@@ -128,27 +122,20 @@ module _ (map : TreeMap) (s : List ℕ) where
 
     pub at_times : (b : ℕ) → times_in b all_cells ≡ count_on b path + count_in b tree
     at_times b =
-        let whole : times_in b (cells_of (plug path tree)) ≡ count_in b (plug path tree) = times_cells b (plug path tree) in
-        let parts : count_in b (plug path tree) ≡ count_on b path + count_in b tree = count_plug b path tree in
-        let same : times_in b (cells_of (plug path tree)) ≡ times_in b all_cells = ap (λ cs. times_in b cs) (cells_plug path tree) in
-        omega (arith, whole, parts, same)
+        let same : times_in b (cells_of (plug path tree)) ≡ times_in b all_cells = ap (times_in b) (cells_plug path tree) in
+        omega (arith, times_cells b (plug path tree), count_plug b path tree)
 
     -- each block stands once
     pub at_once : (b : ℕ) → count_on b path + count_in b tree ≤ 1
     at_once b =
         let once : times_in b all_cells ≤ 1 =
         rising_once map.arena s b all_cells (at_all (λ c. slice_get s (block_at map.arena c.block) ≡ Some c.key) (λ c x y n. n.key)) m.search in
-        omega (arith, once, at_times b)
+        omega (arith, at_times b)
 
     -- and is one of the arena's
     pub at_below : (b : ℕ) → 1 ≤ count_on b path + count_in b tree → b < map.arena.blocks
     at_below b k = times_all (λ d. d < map.arena.blocks) b all_cells
-        (at_all (λ c. c.block < map.arena.blocks) (λ c x y n. n.below)) (omega (arith, k, at_times b))
-
-    pub at_room : length all_cells ≤ map.arena.blocks
-    at_room = length_below map.arena.blocks all_cells
-        (λ b. rising_once map.arena s b all_cells (at_all (λ c. slice_get s (block_at map.arena c.block) ≡ Some c.key) (λ c x y n. n.key)) m.search)
-        (at_all (λ c. c.block < map.arena.blocks) (λ c x y n. n.below))
+        (at_all (λ c. c.block < map.arena.blocks) (λ c x y n. n.below)) (omega (arith, at_times b))
 
     -- no block of the tree has the root
     pub at_outside : (b : ℕ) → 1 ≤ count_on b path + count_in b tree → ¬ IsInBlock map.arena b map.root
@@ -161,7 +148,7 @@ module _ (map : TreeMap) (s : List ℕ) where
     at_within = slice_get_within s (place_at_end map.arena map.root path) (name_of tree) at_name
 
     -- what a map that is held there says of it
-    module _ (f : Entries) (u : Blocks) (hold : TreeHolds map s f u) where
+    module _ {f : Entries} {u : Blocks} (hold : TreeHolds map s f u) where
       same_cells : cells_of hold.tree ≡ all_cells
       same_cells =
           let whole = hung_plug map.arena s map.root path tree m.hung m.spelled in
@@ -172,18 +159,18 @@ module _ (map : TreeMap) (s : List ℕ) where
           same_Some' e = cc
 
       pub at_value : (key : ℕ) → entry_map.get f key ≡ value_of key all_cells
-      at_value key = hold.entries_are key ∙ ap (λ cs. value_of key cs) same_cells
+      at_value key = hold.entries_are key ∙ ap (value_of key) same_cells
 
       pub at_used : (b : ℕ) → set.contains u b ≡ has_block b all_cells
-      at_used b = hold.used_are b ∙ ap (λ cs. has_block b cs) same_cells
+      at_used b = hold.used_are b ∙ ap (has_block b) same_cells
 
       -- a used block is one of the tree's
       pub used_count : (b : ℕ) → set.contains u b ≡ true → 1 ≤ count_on b path + count_in b tree
-      used_count b k = let t : 1 ≤ times_in b all_cells = has_times b all_cells (sym (at_used b) ∙ k) in omega (arith, t, at_times b)
+      used_count b k = let t : 1 ≤ times_in b all_cells = has_times b all_cells (sym (at_used b) ∙ k) in omega (arith, at_times b)
 
       -- and the other way round
       pub used_from : (b : ℕ) → 1 ≤ count_on b path + count_in b tree → set.contains u b ≡ true
-      used_from b k = at_used b ∙ times_has b all_cells (omega (arith, k, at_times b))
+      used_from b k = at_used b ∙ times_has b all_cells (omega (arith, at_times b))
 
     -- the whole, from the root
     pub at_root : HangsAt map [] (plug path tree) s
@@ -193,17 +180,25 @@ module _ (map : TreeMap) (s : List ℕ) where
           laid = m.laid;
           hung = whole.0;
           spelled = whole.1;
-          search = subst (λ cs. IsRising cs) (sym (append-nil (cells_of (plug path tree)) ∙ cells_plug path tree)) m.search;
+          search = subst IsRising (sym (append-nil (cells_of (plug path tree)) ∙ cells_plug path tree)) m.search;
           high = rank_small (plug path tree);
           heap = (high_plug (2 ^ 64) path tree m.high m.heap).1;
         }
 
     -- another place in the same list is in the same tree
-    pub at_cells : (other_path : Path) (other : Tree) → HangsAt map other_path other s
+    pub at_cells : {other_path : Path} {other : Tree} → HangsAt map other_path other s
         → before_of other_path ++ (cells_of other ++ after_of other_path) ≡ all_cells
-    at_cells other_path other k =
+    at_cells {other_path} {other} k =
         let one = hung_plug map.arena s map.root path tree m.hung m.spelled in
         let two = hung_plug map.arena s map.root other_path other k.hung k.spelled in
         sym (cells_plug other_path other)
         ∙ ap cells_of (one_tree map.arena s (plug other_path other) (plug path tree)
         (same_Some (name_of (plug other_path other)) (name_of (plug path tree)) (sym two.0 ∙ one.0)) two.1 one.1) ∙ cells_plug path tree
+
+-- the tree has no more cells than there are blocks
+pub at_room : (map : TreeMap) (s : List ℕ) (path : Path) (tree : Tree) (m : HangsAt map path tree s)
+    → length (before_of path ++ (cells_of tree ++ after_of path)) ≤ map.arena.blocks
+at_room map s path tree m = length_below map.arena.blocks (all_cells m)
+    (λ b. rising_once map.arena s b (all_cells m)
+    (at_all m (λ c. slice_get s (block_at map.arena c.block) ≡ Some c.key) (λ c x y n. n.key)) m.search)
+    (at_all m (λ c. c.block < map.arena.blocks) (λ c x y n. n.below))

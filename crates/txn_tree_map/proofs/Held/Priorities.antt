@@ -1,5 +1,6 @@
 -- Different keys have different priorities, since the multiplier has an inverse.
-use Rattle.std.proofs.Common.{◌≡◌, ℕ, ◌+◌, ◌*◌, ◌/◌, ◌%◌, ◌^◌, ◌<◌, refl, sym, ap, ◌∙◌, arith}
+use Rattle.txn_tree_map.proofs.Common.{◌≡◌, ℕ, ◌+◌, ◌*◌, ◌/◌, ◌^◌, ◌<◌, refl, sym, ap, ◌∙◌, arith}
+use Rattle.std.proofs.Common.{◌%◌}
 use Rattle.std.proofs.Math.Nat.{add-mul-mod_self_left, mod-add-div', mod-eq_of_lt}
 use Rattle.txn_alloc.specs.declared.spread.TheConstants.{MULTIPLIER}
 use Rattle.txn_tree_map.specs.Trees.{priority_of}
@@ -12,7 +13,7 @@ undone n m i k a inverse low =
     let split : r + q * n ≡ a * m = mod-add-div' (a * m) n in
     let left : (r + q * n) * i ≡ a * m * i = ap (λ z. z * i) split in
     let right : a * (m * i) ≡ a * (n * k + 1) = ap (λ z. a * z) inverse in
-    let same : r * i + n * (q * i) ≡ a + n * (a * k) = omega (arith, left, right) in
+    let same : r * i + n * (q * i) ≡ a + n * (a * k) = omega arith in
     let small : a % n ≡ a = mod-eq_of_lt low in
     sym (add-mul-mod_self_left (r * i) n (q * i)) ∙ ap (λ z. z % n) same ∙ add-mul-mod_self_left a n (a * k) ∙ small
 

@@ -1,12 +1,9 @@
 -- Cells whose keys rise: their parts, and that a key and a block stand once among them.
-use Rattle.std.proofs.Common.{◌≡◌, ◌≢◌, ℕ, ◌<◌, ◌≤◌, List, [], ◌∷◌, ◌++◌, Some, None, ◌∙◌, arith}
-use Rattle.std.specs.List.{AllByRecursion}
-use Rattle.txn_alloc.specs.declared.arena.Arena.{Arena}
-use Rattle.txn_alloc.specs.EntryMaps.{Cell, value_of, HasKeysOnce}
-use Rattle.txn_alloc.proofs.Maps.Cells.{all_append, all_first, all_last, all_map, value_none, value_past, value_first, times_in}
+use Rattle.txn_tree_map.proofs.Common.{◌≡◌, ◌≢◌, ℕ, ◌<◌, ◌≤◌, List, [], ◌∷◌, ◌++◌, Some, None, ◌∙◌, arith, AllByRecursion, Arena, Cell, value_of, all_append}
+use Rattle.txn_tree_map.proofs.Common.{all_first, all_last, all_map, times_in, IsAbove, IsRising, IsBelow}
+use Rattle.txn_alloc.specs.EntryMaps.{HasKeysOnce}
+use Rattle.txn_alloc.proofs.Maps.Cells.{value_none, value_past, value_first}
 use Rattle.txn_alloc.proofs.Maps.Counting.{AreKeyed, keyed_once}
-use Rattle.txn_tree_map.specs.Trees.{IsAbove, IsRising}
-use Rattle.txn_tree_map.specs.Paths.{IsBelow}
 
 pub above_more : (j k : ℕ) (cs : List Cell) → j ≤ k → IsAbove k cs → IsAbove j cs
 above_more j k cs le h = all_map (λ c. k < c.key) (λ c. j < c.key) cs (λ c m. omega arith) h

@@ -1,17 +1,9 @@
 -- Trees and paths in one word list: what stays of them while words stay, and how often a block stands in them.
-use Rattle.std.proofs.Common.{◌≡◌, ◌≢◌, ℕ, ◌+◌, ◌<◌, ◌≤◌, Bool, true, false, List, [], ◌∷◌, ◌++◌, slice_get, Some, refl, sym, ap, ◌∙◌, subst, arith}
-use Rattle.std.proofs.Common.{if◌then◌else◌, append_assoc}
-use Rattle.std.proofs.lemmas.List.{append-nil}
-use Rattle.std.proofs.lemmas.Option.{same_Some}
-use Rattle.std.specs.List.{AllByRecursion}
-use Rattle.txn_alloc.specs.declared.arena.Arena.{Arena}
-use Rattle.txn_alloc.specs.FreeLists.{block_at, IsInBlock}
-use Rattle.txn_alloc.specs.EntryMaps.{Cell}
-use Rattle.txn_alloc.proofs.Maps.Cells.{all_append, one_in, one_here, times_in, times-append}
-use Rattle.txn_tree_map.specs.Trees.{Tree, name_of, cells_of, HasNode, IsSpelled}
-use Rattle.txn_tree_map.specs.Trees.Tree.{Leaf, Node}
+use Rattle.txn_tree_map.proofs.Common.{◌≡◌, ◌≢◌, ℕ, ◌+◌, ◌<◌, ◌≤◌, Bool, true, false, List, [], ◌∷◌, ◌++◌, slice_get, Some, refl, sym, ap, ◌∙◌, subst, arith}
+use Rattle.txn_tree_map.proofs.Common.{if◌then◌else◌, append_assoc, append-nil, same_Some, AllByRecursion, Arena, block_at, IsInBlock, Cell, all_append, one_in}
+use Rattle.txn_tree_map.proofs.Common.{one_here, times_in, times-append, Tree, name_of, cells_of, HasNode, IsSpelled, Leaf, Node, Step, Path, place_at_end}
+use Rattle.txn_tree_map.proofs.Common.{before_of, after_of, IsHung}
 use Rattle.txn_tree_map.proofs.Plugs.{whole_of, plug}
-use Rattle.txn_tree_map.specs.Paths.{Step, Path, place_at_end, before_of, after_of, IsHung}
 
 -- how often a block stands in a tree, and on a path
 abbrev pub count_in : ℕ → Tree → ℕ
@@ -25,11 +17,7 @@ count_on b (st ∷ path) = one_in b st.cell + count_in b st.other + count_on b p
 pub times_cells : (b : ℕ) (tree : Tree) → times_in b (cells_of tree) ≡ count_in b tree
 times_cells b Leaf = refl
 times_cells b (Node left c right) =
-    let whole : times_in b (cells_of left ++ c ∷ cells_of right) ≡ times_in b (cells_of left)
-    + (one_in b c + times_in b (cells_of right)) = times-append b (cells_of left) (c ∷ cells_of right) in
-    let l : times_in b (cells_of left) ≡ count_in b left = times_cells b left in
-    let r : times_in b (cells_of right) ≡ count_in b right = times_cells b right in
-    omega (arith, whole, l, r)
+    omega (arith, times-append b (cells_of left) (c ∷ cells_of right), times_cells b left, times_cells b right)
 
 -- a node of a step has as much as its parts
 pub count_whole : (b : ℕ) (st : Step) (tree : Tree) → count_in b (whole_of st tree) ≡ one_in b st.cell + count_in b st.other + count_in b tree
@@ -66,9 +54,7 @@ cells_plug (st ∷ path) tree = cells_plug path (whole_of st tree) ∙ cells_ste
 pub count_plug : (b : ℕ) (path : Path) (tree : Tree) → count_in b (plug path tree) ≡ count_on b path + count_in b tree
 count_plug b [] tree = omega arith
 count_plug b (st ∷ path) tree =
-    let whole : count_in b (plug path (whole_of st tree)) ≡ count_on b path + count_in b (whole_of st tree) = count_plug b path (whole_of st tree) in
-    let parts : count_in b (whole_of st tree) ≡ one_in b st.cell + count_in b st.other + count_in b tree = count_whole b st tree in
-    omega (arith, whole, parts)
+    omega (arith, count_plug b path (whole_of st tree), count_whole b st tree)
 
 module _ (arena : Arena) (s : List ℕ) where
   -- what holds of each cell with a node holds of each cell of a spelled tree and of a hung path
@@ -128,16 +114,16 @@ module _ (arena : Arena) (s : List ℕ) where
       → IsSpelled arena s tree → (slice_get s root ≡ Some (name_of (plug path tree))) × IsSpelled arena s (plug path tree)
   hung_plug root [] tree hung spelled = (hung, spelled)
   hung_plug root (st ∷ path) tree hung spelled =
-      hung_plug root path (whole_of st tree) (subst (λ n. IsHung arena s root path n) (sym (name_whole st tree)) hung.2)
+      hung_plug root path (whole_of st tree) (subst (IsHung arena s root path) (sym (name_whole st tree)) hung.2)
       (whole_spelled st tree hung.0 hung.1 spelled)
 
   -- a name heads one tree
   pub one_tree : (t u : Tree) → name_of t ≡ name_of u → IsSpelled arena s t → IsSpelled arena s u → t ≡ u
   one_tree Leaf Leaf e h k = refl
-  one_tree Leaf (Node left c right) e h k = absurd (omega (arith, e))
-  one_tree (Node left c right) Leaf e h k = absurd (omega (arith, e))
+  one_tree Leaf (Node left c right) e h k = absurd (omega arith)
+  one_tree (Node left c right) Leaf e h k = absurd (omega arith)
   one_tree (Node left c right) (Node left' d right') e h k =
-      let same : c.block ≡ d.block = omega (arith, e) in
+      let same : c.block ≡ d.block = omega arith in
       let at : (j : ℕ) → slice_get s (block_at arena c.block + j) ≡ slice_get s (block_at arena d.block + j) =
       λ j. ap (λ b. slice_get s (block_at arena b + j)) same in
       let keys : c.key ≡ d.key = same_Some c.key d.key (sym h.0.key ∙ ap (λ b. slice_get s (block_at arena b)) same ∙ k.0.key) in
@@ -148,13 +134,13 @@ module _ (arena : Arena) (s : List ℕ) where
 
 -- words that stay keep what they spell
 module _ (arena : Arena) (s t : List ℕ) where
-  pub node_stays : (c : Cell) (x y : ℕ) → ((a : ℕ) → IsInBlock arena c.block a → slice_get t a ≡ slice_get s a) → HasNode arena s c x y → HasNode arena t c x y
-  node_stays c x y same h = record {
+  pub node_stays : {c : Cell} {x y : ℕ} → ((a : ℕ) → IsInBlock arena c.block a → slice_get t a ≡ slice_get s a) → HasNode arena s c x y → HasNode arena t c x y
+  node_stays {c} same h = record {
     below = h.below;
-    key = same (block_at arena c.block) (record { low = omega arith; high = omega arith }) ∙ h.key;
-    value = same (block_at arena c.block + 1) (record { low = omega arith; high = omega arith }) ∙ h.value;
-    left_there = same (block_at arena c.block + 2) (record { low = omega arith; high = omega arith }) ∙ h.left_there;
-    right_there = same (block_at arena c.block + 3) (record { low = omega arith; high = omega arith }) ∙ h.right_there;
+    key = same (block_at arena c.block) (omega arith) ∙ h.key;
+    value = same (block_at arena c.block + 1) (omega arith) ∙ h.value;
+    left_there = same (block_at arena c.block + 2) (omega arith) ∙ h.left_there;
+    right_there = same (block_at arena c.block + 3) (omega arith) ∙ h.right_there;
   }
 
   -- the words of each block of a tree, or of a path
@@ -164,38 +150,37 @@ module _ (arena : Arena) (s t : List ℕ) where
   pub spelled_stays : (tree : Tree) → SameIn (λ b. count_in b tree) → IsSpelled arena s tree → IsSpelled arena t tree
   spelled_stays Leaf same h = tt
   spelled_stays (Node left c right) same h = (
-    node_stays c (name_of left) (name_of right) (λ a k. same c.block a (let one : one_in c.block c ≡ 1 = one_here c.block c refl in omega (arith, one)) k) h.0,
-    spelled_stays left (λ b a m k. same b a (omega (arith, m)) k) h.1,
-    spelled_stays right (λ b a m k. same b a (omega (arith, m)) k) h.2,
+    node_stays (λ a k. same c.block a (omega (arith, one_here c.block c refl)) k) h.0,
+    spelled_stays left (λ b a m k. same b a (omega arith) k) h.1,
+    spelled_stays right (λ b a m k. same b a (omega arith) k) h.2,
   )
 
   pub hung_stays : (root : ℕ) (path : Path) (name : ℕ) → slice_get t root ≡ slice_get s root
       → SameIn (λ b. count_on b path) → IsHung arena s root path name → IsHung arena t root path name
   hung_stays root [] name at same h = at ∙ h
   hung_stays root (st ∷ path) name at same h = (
-    node_stays st.cell _ _ (λ a k. same st.cell.block a (let one : one_in st.cell.block st.cell ≡ 1 =
-        one_here st.cell.block st.cell refl in omega (arith, one)) k) h.0,
-    spelled_stays st.other (λ b a m k. same b a (omega (arith, m)) k) h.1,
-    hung_stays root path (st.cell.block + 1) at (λ b a m k. same b a (omega (arith, m)) k) h.2,
+    node_stays (λ a k. same st.cell.block a (omega (arith, one_here st.cell.block st.cell refl)) k) h.0,
+    spelled_stays st.other (λ b a m k. same b a (omega arith) k) h.1,
+    hung_stays root path (st.cell.block + 1) at (λ b a m k. same b a (omega arith) k) h.2,
   )
 
   -- a node with another name on one side
-  node_again : (left : Bool) (c : Cell) (n m o : ℕ)
+  node_again : (left : Bool) {c : Cell} (n m o : ℕ)
       → ((a : ℕ) → IsInBlock arena c.block a → a ≢ block_at arena c.block + (if left then 2 else 3) → slice_get t a ≡ slice_get s a)
       → slice_get t (block_at arena c.block + (if left then 2 else 3)) ≡ Some m
       → HasNode arena s c (if left then n else o) (if left then o else n) → HasNode arena t c (if left then m else o) (if left then o else m)
-  node_again true c n m o same there h = record {
+  node_again true {c} n m o same there h = record {
     below = h.below;
-    key = same (block_at arena c.block) (record { low = omega arith; high = omega arith }) (λ e. omega (arith, e)) ∙ h.key;
-    value = same (block_at arena c.block + 1) (record { low = omega arith; high = omega arith }) (λ e. omega (arith, e)) ∙ h.value;
+    key = same (block_at arena c.block) (omega arith) (λ e. omega arith) ∙ h.key;
+    value = same (block_at arena c.block + 1) (omega arith) (λ e. omega arith) ∙ h.value;
     left_there = there;
-    right_there = same (block_at arena c.block + 3) (record { low = omega arith; high = omega arith }) (λ e. omega (arith, e)) ∙ h.right_there;
+    right_there = same (block_at arena c.block + 3) (omega arith) (λ e. omega arith) ∙ h.right_there;
   }
-  node_again false c n m o same there h = record {
+  node_again false {c} n m o same there h = record {
     below = h.below;
-    key = same (block_at arena c.block) (record { low = omega arith; high = omega arith }) (λ e. omega (arith, e)) ∙ h.key;
-    value = same (block_at arena c.block + 1) (record { low = omega arith; high = omega arith }) (λ e. omega (arith, e)) ∙ h.value;
-    left_there = same (block_at arena c.block + 2) (record { low = omega arith; high = omega arith }) (λ e. omega (arith, e)) ∙ h.left_there;
+    key = same (block_at arena c.block) (omega arith) (λ e. omega (arith, e)) ∙ h.key;
+    value = same (block_at arena c.block + 1) (omega arith) (λ e. omega (arith, e)) ∙ h.value;
+    left_there = same (block_at arena c.block + 2) (omega arith) (λ e. omega (arith, e)) ∙ h.left_there;
     right_there = there;
   }
 
@@ -212,17 +197,16 @@ module _ (arena : Arena) (s t : List ℕ) where
   hung_again root [] n m once outside at same there h = there
   hung_again root (st ∷ path) n m once outside at same there h =
       let c : Cell = st.cell in
-      let low : (if st.left then 2 else 3) < 4 = side_low st.left in
+      let low = side_low st.left in
       let one : one_in c.block c ≡ 1 = one_here c.block c refl in
-      let whole : one_in c.block c + count_in c.block st.other + count_on c.block path ≤ 1 = once c.block in
       let elsewhere : (b a : ℕ) → 1 ≤ count_in b st.other + count_on b path → IsInBlock arena b a
       → a ≢ block_at arena c.block + (if st.left then 2 else 3) = λ b a k mine e.
-      let same_block : b ≡ c.block = omega (arith, e, low, mine.low, mine.high) in
+      let same_block : b ≡ c.block = omega (arith, mine.low, mine.high) in
       let again : 1 ≤ count_in c.block st.other + count_on c.block path = subst (λ d. 1 ≤ count_in d st.other + count_on d path) same_block k in
-      omega (arith, again, whole, one) in (
-        node_again st.left c n m (name_of st.other) (λ a k ne. same c.block a (omega (arith, one)) k ne) there h.0,
-        spelled_stays st.other (λ b a k mine. same b a (omega (arith, k)) mine (elsewhere b a (omega (arith, k)) mine)) h.1,
+      omega (arith, once c.block) in (
+        node_again st.left n m (name_of st.other) (λ a k ne. same c.block a (omega arith) k ne) there h.0,
+        spelled_stays st.other (λ b a k mine. same b a (omega arith) mine (elsewhere b a (omega arith) mine)) h.1,
         hung_stays root path (c.block + 1)
-            (at (λ e. outside c.block (omega (arith, one)) (record { low = omega (arith, e, low); high = omega (arith, e, low) })))
-            (λ b a k mine. same b a (omega (arith, k)) mine (elsewhere b a (omega (arith, k)) mine)) h.2,
+            (at (λ e. outside c.block (omega arith) (omega arith)))
+            (λ b a k mine. same b a (omega arith) mine (elsewhere b a (omega arith) mine)) h.2,
       )

@@ -1,35 +1,21 @@
 -- The steps of a walk through the nodes in the order of their keys, in one word list.
-use Rattle.std.proofs.Common.{◌≡◌, ℕ, ◌+◌, ◌^◌, ◌<◌, ◌≤◌, Bool, true, false, nat_lt, nat_le}
-use Rattle.std.proofs.Common.{List, [], ◌∷◌, ◌++◌, length, slice_get, Some, None, inl, inr, refl, sym, ap, ◌∙◌, subst}
-use Rattle.std.proofs.Common.{arith, rules, ◌/◌, ◌==◌, take, drop, if◌then◌else◌, append_assoc, length-append}
-use mathlib.Core.Bool.{true≢false}
-use Rattle.std.proofs.lemmas.List.{append-nil, same_from_push, take-append-drop, length-take, length-drop}
-use Rattle.std.proofs.lemmas.Bool.Decides.{nat_tests}
-use Rattle.std.proofs.lemmas.Option.{same_Some}
-use Rattle.txn_alloc.specs.FreeLists.{block_at}
-use Rattle.txn_alloc.specs.EntryMaps.{Cell}
-use Rattle.txn_alloc.proofs.Maps.Cells.{all_append, all_map}
-use Rattle.txn_tree_map.specs.declared.map.TreeMap.{TreeMap}
-use Rattle.txn_tree_map.specs.declared.find.Named.{Named}
-use Rattle.txn_tree_map.specs.declared.walk.Walk.{Walk}
-use Rattle.txn_tree_map.specs.declared.walk.TheConstants.{KEPT}
-use Rattle.txn_tree_map.specs.Trees.{Tree, name_of, rank_of, cells_of, IsRising, IsHeap}
-use Rattle.txn_tree_map.specs.Trees.Tree.{Leaf, Node}
+use Rattle.txn_tree_map.proofs.Common.{◌≡◌, ℕ, ◌+◌, ◌<◌, ◌≤◌, Bool, true, false, nat_lt, nat_le, List, [], ◌∷◌, ◌++◌, length, slice_get, Some, None, inl, inr}
+use Rattle.txn_tree_map.proofs.Common.{refl, sym, ap, ◌∙◌, subst, arith, rules, ◌/◌, drop, if◌then◌else◌, append_assoc, length-append, true≢false, append-nil}
+use Rattle.txn_tree_map.proofs.Common.{length-drop, nat_tests, same_Some, block_at, Cell, all_map, TreeMap, Named, Walk, KEPT, Tree, name_of, cells_of, Leaf}
+use Rattle.txn_tree_map.proofs.Common.{Node, Path, before_of, after_of, HangsAt, HasTop, IsNamed, IsPlace, IsPlaceOrKey, IsLink, IsFirstFrom, IsWalk}
+use Rattle.std.proofs.Common.{◌==◌, take}
+use Rattle.std.proofs.lemmas.List.{same_from_push, take-append-drop, length-take}
 use Rattle.txn_tree_map.proofs.Plugs.{whole_of, plug}
-use Rattle.txn_tree_map.specs.Paths.{Step, Path, before_of, after_of, IsHung, IsHigh, HangsAt}
-use Rattle.txn_tree_map.specs.Searches.{HasTop, IsNamed, IsPlace, IsPlaceOrKey, IsLink}
-use Rattle.txn_tree_map.specs.Sums.{IsFirstFrom}
-use Rattle.txn_tree_map.specs.Walks.{lefts_of, Keeps, IsWalk}
+use Rattle.txn_tree_map.specs.Walks.{lefts_of, Keeps}
 use Rattle.txn_tree_map.proofs.Held.Rising.{below_more}
-use Rattle.txn_tree_map.proofs.Held.Trees.{cells_plug, cells_step, name_whole, whole_spelled}
-use Rattle.txn_tree_map.proofs.Held.Places.{at_step, at_room, at_name, at_root}
-use Rattle.txn_tree_map.proofs.Searches.SearchSteps.{IsNode, NodeOrder, node_order, node_named, node_whole, child_shorter, leaf_named, leaf_short, step_down}
-use Rattle.txn_tree_map.proofs.Searches.SearchSteps.{low_down}
+use Rattle.txn_tree_map.proofs.Held.Trees.{cells_plug}
+use Rattle.txn_tree_map.proofs.Held.Places.{at_up, at_room, at_name, at_root}
+use Rattle.txn_tree_map.proofs.Searches.SearchSteps.{IsNode, node_named, leaf_named, leaf_short, step_down, steps_down, from_down, low_down}
 use Rattle.txn_tree_map.proofs.Searches.Links.{at_link, node_link}
 
 -- a list that ends in an element is not empty
 no_end : (ns : List Named) (n : Named) → ns ++ n ∷ [] ≡ [] → ⊥
-no_end ns n e = let long : length (ns ++ n ∷ []) ≡ 0 = ap length e in omega (arith, long, length-append ns (n ∷ []))
+no_end ns n e = let long : length (ns ++ n ∷ []) ≡ 0 = ap length e in omega (arith, length-append ns (n ∷ []))
 
 -- a walk that makes room, and then keeps a node
 pub keeps_one : (node : Named) (old mid new : Walk)
@@ -47,7 +33,7 @@ keeps_one node old mid new kept whole put same = go (length old.kept.items == KE
           near = drop (KEPT / 2) old.kept.items;
           before = sym (take-append-drop (KEPT / 2) old.kept.items);
           after = put ∙ ap (λ z. z ++ node ∷ []) k;
-          half = inr (omega (arith, long, length-take (KEPT / 2) old.kept.items), omega (arith, long, length-drop (KEPT / 2) old.kept.items));
+          half = inr (omega (arith, length-take (KEPT / 2) old.kept.items), omega (arith, length-drop (KEPT / 2) old.kept.items));
           whole = λ q. absurd (true≢false (sym q ∙ same ∙ w));
         }
     go false e k w = record {
@@ -93,53 +79,33 @@ kept_on dropped gone near node there lefts old new e before after same =
     ∙ append_assoc (dropped ++ gone) near (there ∷ [])
     ∙ ap (λ z. (dropped ++ gone) ++ (near ++ z ∷ [])) same ∙ ap (λ z. (dropped ++ gone) ++ z) (sym after)
 
-module _ (map : TreeMap) (s : List ℕ) where
-  -- one step up
-  at_up : (st : Step) (path : Path) (tree : Tree) → HangsAt map (st ∷ path) tree s → HangsAt map path (whole_of st tree) s
-  at_up st path tree m = record {
-    laid = m.laid;
-    hung = subst (λ n. IsHung map.arena s map.root path n) (sym (name_whole map.arena s st tree)) m.hung.2;
-    spelled = whole_spelled map.arena s st tree m.hung.0 m.hung.1 m.spelled;
-    search = subst (λ cs. IsRising cs) (sym (cells_step st path tree)) m.search;
-    high = high st.left;
-    heap = heap st.left;
-  }
-    where
-      high : (left : Bool) → IsHigh (2 ^ 64) path (rank_of (if left then Node tree st.cell st.other else Node st.other st.cell tree))
-      high true = m.high.3
-      high false = m.high.3
+-- the lowest node at which a path goes to the left: what is above it, and the cells from it on
+record IsTurn (map : TreeMap) (s : List ℕ) (highs : List Cell) (ns : List Named) (n : Named) : Type 0 where
+  pub above : Path
+  pub left : Tree
+  pub cell : Cell
+  pub right : Tree
+  pub is_at : HangsAt map above (Node left cell right) s
+  pub is_block : cell.block ≡ n.block
+  pub is_key : cell.key ≡ n.key
+  pub lefts : lefts_of above ≡ ns
+  pub cells : highs ≡ cell ∷ (cells_of right ++ after_of above)
 
-      heap : (left : Bool) → IsHeap (if left then Node tree st.cell st.other else Node st.other st.cell tree)
-      heap true = (m.high.0, m.high.1, m.heap, m.high.2)
-      heap false = (m.high.1, m.high.0, m.high.2, m.heap)
+module _ {map : TreeMap} {s : List ℕ} where
+  room_below : {path : Path} {tree : Tree} → HangsAt map path tree s → length (cells_of tree) ≤ map.arena.blocks
+  room_below {path} {tree} m =
+      omega (arith, at_room map s path tree m, length-append (before_of path) (cells_of tree ++ after_of path), length-append (cells_of tree) (after_of path))
 
-  room_below : (path : Path) (tree : Tree) → HangsAt map path tree s → length (cells_of tree) ≤ map.arena.blocks
-  room_below path tree m =
-      let room : length (before_of path ++ (cells_of tree ++ after_of path)) ≤ map.arena.blocks = at_room map s path tree m in
-      omega (arith, room, length-append (before_of path) (cells_of tree ++ after_of path), length-append (cells_of tree) (after_of path))
-
-  -- the lowest node at which a path goes to the left: what is above it, and the cells from it on
-  record IsTurn (highs : List Cell) (ns : List Named) (n : Named) : Type 0 where
-    pub above : Path
-    pub left : Tree
-    pub cell : Cell
-    pub right : Tree
-    pub is_at : HangsAt map above (Node left cell right) s
-    pub is_block : cell.block ≡ n.block
-    pub is_key : cell.key ≡ n.key
-    pub lefts : lefts_of above ≡ ns
-    pub cells : highs ≡ cell ∷ (cells_of right ++ after_of above)
-
-  turn : (path : Path) (tree : Tree) (ns : List Named) (n : Named) → HangsAt map path tree s → lefts_of path ≡ ns ++ n ∷ [] → IsTurn (after_of path) ns n
+  turn : (path : Path) (tree : Tree) (ns : List Named) (n : Named) → HangsAt map path tree s → lefts_of path ≡ ns ++ n ∷ [] → IsTurn map s (after_of path) ns n
   turn [] tree ns n m e = absurd (no_end ns n (sym e))
-  turn (st ∷ path) tree ns n m e = go st.left (at_up st path tree m) e (turn path (whole_of st tree) ns n (at_up st path tree m))
+  turn (st ∷ path) tree ns n m e = go st.left (at_up st path m) e (turn path (whole_of st tree) ns n (at_up st path m))
     where
       named : Named
       named = record { block = st.cell.block; key = st.cell.key }
 
       go : (left : Bool) → HangsAt map path (if left then Node tree st.cell st.other else Node st.other st.cell tree) s
-          → lefts_of path ++ (if left then named ∷ [] else []) ≡ ns ++ n ∷ [] → (lefts_of path ≡ ns ++ n ∷ [] → IsTurn (after_of path) ns n)
-          → IsTurn ((if left then st.cell ∷ cells_of st.other else []) ++ after_of path) ns n
+          → lefts_of path ++ (if left then named ∷ [] else []) ≡ ns ++ n ∷ [] → (lefts_of path ≡ ns ++ n ∷ [] → IsTurn map s (after_of path) ns n)
+          → IsTurn map s ((if left then st.cell ∷ cells_of st.other else []) ++ after_of path) ns n
       go true up k rest =
           let same = same_from_push (lefts_of path) ns named n k in
           record {
@@ -157,8 +123,8 @@ module _ (map : TreeMap) (s : List ℕ) where
 
   module _ (walk : Walk) (least : ℕ) where
     -- at the root
-    pub walk_root : (tree : Tree) → HangsAt map [] tree s → walk.place ≡ map.root → walk.kept.items ≡ [] → IsWalk map walk least 0 s
-    walk_root tree m place none = record {
+    pub walk_root : {tree : Tree} → HangsAt map [] tree s → walk.place ≡ map.root → walk.kept.items ≡ [] → IsWalk map walk least 0 s
+    walk_root {tree} m place none = record {
       path = [];
       rest = tree;
       is_at = m;
@@ -168,33 +134,33 @@ module _ (map : TreeMap) (s : List ℕ) where
       dropped = [];
       kept = sym none;
       whole = λ w. refl;
-      count = let room : length (cells_of tree) ≤ map.arena.blocks = room_below [] tree m in omega (arith, room);
+      count = omega (arith, room_below m);
     }
 
-    module _ (n : ℕ) (h : IsWalk map walk least n s) where
+    module _ {n : ℕ} (h : IsWalk map walk least n s) where
       pub walk_tree : HangsAt map [] (plug h.path h.rest) s
-      walk_tree = at_root map s h.path h.rest h.is_at
+      walk_tree = at_root h.is_at
 
       pub walk_top : HasTop map walk.place s
       walk_top = record {
         laid = h.is_at.laid;
         tree = h.rest;
-        head = (ap (λ q. slice_get s q) h.at ∙ at_name map s h.path h.rest h.is_at, h.is_at.spelled);
+        head = (ap (slice_get s) h.at ∙ at_name h.is_at, h.is_at.spelled);
       }
 
       walk_name : (m : ℕ) → slice_get s walk.place ≡ Some m → name_of h.rest ≡ m
-      walk_name m e = same_Some (name_of h.rest) m (sym (at_name map s h.path h.rest h.is_at) ∙ ap (λ q. slice_get s q) (sym h.at) ∙ e)
+      walk_name m e = same_Some (name_of h.rest) m (sym (at_name h.is_at) ∙ ap (slice_get s) (sym h.at) ∙ e)
 
       -- the words that are read at its place
       pub walk_place : (a : ℕ) → IsPlace walk.place s a → IsLink map s a
-      walk_place a e = subst (IsLink map s) (sym (e ∙ h.at)) (at_link map s h.path h.rest h.is_at)
+      walk_place a e = subst (IsLink map s) (sym (e ∙ h.at)) (at_link h.is_at)
 
       walk_node : (b k : ℕ) → IsNamed map walk.place b k s → IsNode h.rest b k
       walk_node b k named = node_named map.arena s h.rest b k (walk_name (b + 1) named.0) h.is_at.spelled named.1
 
       pub walk_near : (b k : ℕ) → IsNamed map walk.place b k s → (a : ℕ) → IsPlaceOrKey map walk.place b s a → IsLink map s a
       walk_near b k named a (inl e) = walk_place a e
-      walk_near b k named a (inr e) = subst (IsLink map s) (sym e) (node_link map s h.path h.rest h.is_at b k (walk_node b k named))
+      walk_near b k named a (inr e) = subst (IsLink map s) (sym e) (node_link h.is_at (walk_node b k named))
 
       -- nothing is left below it
       walk_over : map.arena.blocks + length (cells_of h.rest) ≤ map.arena.blocks → IsWalk map walk least map.arena.blocks s
@@ -214,66 +180,52 @@ module _ (map : TreeMap) (s : List ℕ) where
       pub walk_end : slice_get s walk.place ≡ Some 0 → IsWalk map walk least map.arena.blocks s
       walk_end e =
           let none : length (cells_of h.rest) ≡ 0 = ap (λ t. length (cells_of t)) (leaf_named h.rest (walk_name 0 e)) in
-          walk_over (omega (arith, none))
+          walk_over (omega arith)
 
       pub walk_all : map.arena.blocks ≤ n → IsWalk map walk least map.arena.blocks s
-      walk_all le = walk_over (omega (arith, h.count, le))
+      walk_all le = walk_over (omega (arith, h.count))
 
       -- down one node
       pub walk_down : (mid next : Walk) (b k : ℕ) → IsNamed map walk.place b k s → mid.kept ≡ walk.kept → mid.whole ≡ walk.whole
           → next.place ≡ block_at map.arena b + (if nat_le least k then 2 else 3)
           → (k < least → next ≡ mid) → (least ≤ k → Keeps (record { block = b; key = k }) mid next) → IsWalk map next least (n + 1) s
       walk_down mid next b k named mid_kept mid_whole place lower keeps =
-          let node : IsNode h.rest b k = walk_node b k named in
-          let order : NodeOrder h.path node.left node.right node.cell = node_order h.path node.left node.right node.cell
-          (subst (λ t. IsRising (before_of h.path ++ (cells_of t ++ after_of h.path))) node.is h.is_at.search) in
-          let whole : length (cells_of h.rest) ≡ length (cells_of (Node node.left node.cell node.right)) = ap (λ t. length (cells_of t)) node.is in
-          go (nat_le least k) refl node order whole
+          go (nat_le least k) refl (walk_node b k named)
         where
-          go : (t : Bool) → nat_le least k ≡ t → (node : IsNode h.rest b k) → NodeOrder h.path node.left node.right node.cell
-              → length (cells_of h.rest) ≡ length (cells_of (Node node.left node.cell node.right)) → IsWalk map next least (n + 1) s
-          go true e node order whole =
-              let c : Cell = node.cell in
-              let l = node.left in
-              let r = node.right in
+          go : (t : Bool) → nat_le least k ≡ t → IsNode h.rest b k → IsWalk map next least (n + 1) s
+          go true e node =
               let le : least ≤ k = grind (arith, rules, e) in
-              let key_high : least ≤ c.key = omega (arith, le, node.is_key) in
               let keep = keeps le in
+              let d = steps_down true h.is_at node in
               record {
-                path = step_down true l c r ∷ h.path;
-                rest = l;
-                is_at = at_step map s h.path h.rest h.is_at (step_down true l c r) l (node.is ∙ node_whole true l r c);
-                at = place ∙ ap (λ t. block_at map.arena b + (if t then 2 else 3)) e ∙ ap (λ d. block_at map.arena d + 2) (sym node.is_block);
-                low = all_append (λ d. d.key < least) (before_of h.path) [] h.low tt;
-                high = all_append (λ d. least ≤ d.key) (c ∷ cells_of r) (after_of h.path) (
-                  key_high,
-                  all_map (λ d. c.key < d.key) (λ d. least ≤ d.key) (cells_of r) (λ d m. omega arith) order.right,
-                ) h.high;
+                path = step_down true d.left d.cell d.right ∷ h.path;
+                rest = d.left;
+                is_at = d.is_at;
+                at = place ∙ ap (λ t. block_at map.arena b + (if t then 2 else 3)) e ∙ d.at;
+                low = low_down true least h.path d.left d.right d.cell h.low d.order.left (λ e. absurd (cc));
+                high = from_down least h.path d.left d.right d.cell (omega (arith, d.is_key)) d.order.right h.high;
                 dropped = h.dropped ++ keep.gone;
-                kept = kept_on h.dropped keep.gone keep.near (record { block = b; key = k }) (record { block = c.block; key = c.key })
+                kept = kept_on h.dropped keep.gone keep.near (record { block = b; key = k }) (record { block = d.cell.block; key = d.cell.key })
                     (lefts_of h.path) walk.kept.items next.kept.items h.kept (ap (λ z. z.items) (sym mid_kept) ∙ keep.before) keep.after
-                    (cc (node.is_block, node.is_key));
+                    (cc (d.is_block, d.is_key));
                 whole = λ w. ap (λ z. z ++ keep.gone) (h.whole (sym mid_whole ∙ (keep.whole w).1)) ∙ (keep.whole w).0;
-                count = omega (arith, h.count, whole, child_shorter true l r c);
+                count = omega (arith, h.count, d.shorter);
               }
-          go false e node order whole =
-              let c : Cell = node.cell in
-              let l = node.left in
-              let r = node.right in
+          go false e node =
               let lt : k < least = grind (arith, rules, e) in
-              let key_low : c.key < least = omega (arith, lt, node.is_key) in
               let same : next ≡ mid = lower lt in
+              let d = steps_down false h.is_at node in
               record {
-                path = step_down false l c r ∷ h.path;
-                rest = r;
-                is_at = at_step map s h.path h.rest h.is_at (step_down false l c r) r (node.is ∙ node_whole false l r c);
-                at = place ∙ ap (λ t. block_at map.arena b + (if t then 2 else 3)) e ∙ ap (λ d. block_at map.arena d + 3) (sym node.is_block);
-                low = low_down false least h.path l r c h.low order.left (λ side. key_low);
+                path = step_down false d.left d.cell d.right ∷ h.path;
+                rest = d.right;
+                is_at = d.is_at;
+                at = place ∙ ap (λ t. block_at map.arena b + (if t then 2 else 3)) e ∙ d.at;
+                low = low_down false least h.path d.left d.right d.cell h.low d.order.left (λ side. omega (arith, d.is_key));
                 high = h.high;
                 dropped = h.dropped;
                 kept = append-nil (lefts_of h.path) ∙ h.kept ∙ ap (λ z. h.dropped ++ z) (ap (λ z. z.items) (sym mid_kept) ∙ ap (λ z. z.kept.items) (sym same));
                 whole = λ w. h.whole (sym mid_whole ∙ ap (λ z. z.whole) (sym same) ∙ w);
-                count = omega (arith, h.count, whole, child_shorter false l r c);
+                count = omega (arith, h.count, d.shorter);
               }
 
     -- if nothing is left below it, the nearest node that it keeps is next
@@ -287,7 +239,7 @@ module _ (map : TreeMap) (s : List ℕ) where
       pub walk_none : walk.kept.items ≡ [] → walk.whole ≡ true → IsFirstFrom map least None s
       walk_none none whole = record {
         tree = plug h.path h.rest;
-        is_at = at_root map s h.path h.rest h.is_at;
+        is_at = at_root h.is_at;
         lows = before_of h.path;
         highs = after_of h.path;
         cells = cells_there;
@@ -297,14 +249,14 @@ module _ (map : TreeMap) (s : List ℕ) where
       }
 
       module _ (near : List Named) (node : Named) (e : walk.kept.items ≡ near ++ node ∷ []) where
-        turned : IsTurn (after_of h.path) (h.dropped ++ near) node
+        turned : IsTurn map s (after_of h.path) (h.dropped ++ near) node
         turned = turn h.path h.rest (h.dropped ++ near) node h.is_at
             (h.kept ∙ ap (λ z. h.dropped ++ z) e ∙ sym (append_assoc h.dropped near (node ∷ [])))
 
         pub walk_first : IsFirstFrom map least (Some node) s
         walk_first = record {
           tree = plug h.path h.rest;
-          is_at = at_root map s h.path h.rest h.is_at;
+          is_at = at_root h.is_at;
           lows = before_of h.path;
           highs = after_of h.path;
           cells = cells_there;
@@ -317,22 +269,18 @@ module _ (map : TreeMap) (s : List ℕ) where
             → IsWalk map next (node.key + 1) 0 s
         walk_behind next place kept whole =
             let t = turned in
-            let c : Cell = t.cell in
-            let order : NodeOrder t.above t.left t.right c = node_order t.above t.left t.right c t.is_at.search in
-            let below : HangsAt map (step_down false t.left c t.right ∷ t.above) t.right s = at_step map s t.above (Node t.left c t.right) t.is_at
-            (step_down false t.left c t.right) t.right (node_whole false t.left t.right c) in
-            let le : c.key ≤ node.key + 1 = omega (arith, t.is_key) in
-            let room : length (cells_of t.right) ≤ map.arena.blocks = room_below (step_down false t.left c t.right ∷ t.above) t.right below in
+            let d = steps_down false t.is_at (record { left = t.left; cell = t.cell; right = t.right; is = refl; is_block = t.is_block; is_key = t.is_key }) in
             record {
-              path = step_down false t.left c t.right ∷ t.above;
-              rest = t.right;
-              is_at = below;
-              at = place ∙ ap (λ d. block_at map.arena d + 3) (sym t.is_block);
-              low = low_down false (node.key + 1) t.above t.left t.right c (below_more c.key (node.key + 1) (before_of t.above) le order.before) order.left
-                  (λ side. omega (arith, t.is_key));
-              high = all_map (λ d. c.key < d.key) (λ d. node.key + 1 ≤ d.key) (after_of t.above) (λ d m. omega (arith, m, t.is_key)) order.after;
+              path = step_down false d.left d.cell d.right ∷ t.above;
+              rest = d.right;
+              is_at = d.is_at;
+              at = place ∙ d.at;
+              low = low_down false (node.key + 1) t.above d.left d.right d.cell
+                  (below_more d.cell.key (node.key + 1) (before_of t.above) (omega (arith, d.is_key)) d.order.before) d.order.left
+                  (λ side. omega (arith, d.is_key));
+              high = all_map (λ z. d.cell.key < z.key) (λ z. node.key + 1 ≤ z.key) (after_of t.above) (λ z m. omega (arith, d.is_key)) d.order.after;
               dropped = h.dropped;
               kept = append-nil (lefts_of t.above) ∙ t.lefts ∙ ap (λ z. h.dropped ++ z) (sym kept);
               whole = λ w. h.whole (sym whole ∙ w);
-              count = omega (arith, room);
+              count = omega (arith, room_below d.is_at);
             }

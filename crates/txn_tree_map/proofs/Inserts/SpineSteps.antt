@@ -1,26 +1,11 @@
 -- A tree laid by its right spine, in one word list.
-use Rattle.std.proofs.Common.{◌≡◌, ◌≢◌, ℕ, ◌+◌, ◌^◌, ◌<◌, ◌≤◌, Bool, true, false, List, [], ◌∷◌, ◌++◌, length, slice_get, slice_set, Some, None, ◌⊎◌}
-use Rattle.std.proofs.Common.{inl, inr, refl, sym, ap, ◌∙◌}
-use Rattle.std.proofs.Common.{subst, arith, if◌then◌else◌, length-append}
-use Rattle.std.proofs.lemmas.List.{append-nil, length-set}
-use Rattle.std.proofs.lemmas.Option.{same_Some}
-use Rattle.std.specs.FinSet as set
-use Rattle.std.specs.FinMap as entry_map
-use Rattle.std.specs.Ordering.{nat_cmp}
-use Rattle.std.specs.List.{AllByRecursion}
-use Rattle.history_model.proofs.Traces.TraceLaws.{get_set_same, get_set_other}
-use Rattle.txn_words.specs.Frames.{KeepsOthers}
-use Rattle.txn_alloc.specs.FreeLists.{block_at, IsHead, IsInBlock, Lacks}
-use Rattle.txn_alloc.specs.EntryMaps.{Cell, Entries, Blocks, value_of, has_block, HasMapApart, HoldsApart, IsOwn, IsUsedIn}
-use Rattle.txn_alloc.proofs.Sets.{in_here}
-use Rattle.txn_alloc.proofs.Maps.Cells.{all_append, all_first, all_last}
-use Rattle.txn_tree_map.specs.declared.map.TreeMap.{TreeMap}
-use Rattle.txn_tree_map.specs.Trees.{Tree, priority_of, rank_of, name_of, cells_of, IsRising, TreeHolds, tree_part}
-use Rattle.txn_tree_map.specs.Trees.Tree.{Leaf, Node}
+use Rattle.txn_tree_map.proofs.Common.{◌≡◌, ◌≢◌, ℕ, ◌+◌, ◌^◌, ◌<◌, ◌≤◌, Bool, true, false, List, [], ◌∷◌, ◌++◌, length, slice_get, slice_set, Some, None, ◌⊎◌}
+use Rattle.txn_tree_map.proofs.Common.{inl, inr, refl, sym, ap, ◌∙◌, subst, arith, if◌then◌else◌, length-append, append-nil, length-set, same_Some, nat_cmp}
+use Rattle.txn_tree_map.proofs.Common.{AllByRecursion, get_set_same, get_set_other, KeepsOthers, block_at, IsHead, IsInBlock, Lacks, Cell, Entries, Blocks}
+use Rattle.txn_tree_map.proofs.Common.{value_of, has_block, HasMapApart, HoldsApart, IsOwn, IsUsedIn, in_here, all_append, all_first, all_last, TreeMap, Tree}
+use Rattle.txn_tree_map.proofs.Common.{priority_of, rank_of, name_of, cells_of, IsRising, TreeHolds, tree_part, Leaf, Node, Step, Path, before_of, after_of}
+use Rattle.txn_tree_map.proofs.Common.{IsBelow, HangsAt, IsMissing, CanPut, IsPut, IsWhole, Splits, IsNameIn}
 use Rattle.txn_tree_map.proofs.Plugs.{whole_of}
-use Rattle.txn_tree_map.specs.Paths.{Step, Path, before_of, after_of, IsBelow, HangsAt}
-use Rattle.txn_tree_map.specs.Searches.{IsMissing}
-use Rattle.txn_tree_map.specs.Changes.{CanPut, IsPut, IsWhole, Splits, IsNameIn}
 use Rattle.txn_tree_map.specs.Spines.{GoesRight, blocks_on, HasSpine, IsSeatBelow}
 use Rattle.txn_tree_map.proofs.Held.Rising.{below_more, rising_below, value_there}
 use Rattle.txn_tree_map.proofs.Held.Trees.{count_in, cells_step, spelled_stays}
@@ -30,6 +15,8 @@ use Rattle.txn_tree_map.proofs.Held.Hanging.{keeps_set, keeps_none}
 use Rattle.txn_tree_map.proofs.Searches.SearchSteps.{step_down}
 use Rattle.txn_tree_map.proofs.Inserts.PutSteps.{put_whole, seat_apart, put_is_at, put_done}
 use Rattle.txn_tree_map.proofs.Maps.{at_headed, put_apart}
+use Rattle.std.specs.FinSet as set
+use Rattle.std.specs.FinMap as entry_map
 
 -- nothing stands to the right of the spine
 pub after_none : (path : Path) → GoesRight path → after_of path ≡ []
@@ -74,15 +61,15 @@ pub record IsUp (map : TreeMap) (key : ℕ) (words blocks : List ℕ) : Type 0 w
   pub below : IsBelow key (before_of path ++ cells_of rest)
   pub lower : rank_of rest ≤ priority_of key
 
-module _ (map : TreeMap) (key : ℕ) (s : List ℕ) where
-  pub up_first : (blocks : List ℕ) → HasSpine map key s blocks → IsUp map key s blocks
-  up_first blocks h = record {
+module _ {map : TreeMap} (key : ℕ) {s : List ℕ} where
+  pub up_first : {blocks : List ℕ} → HasSpine map key s blocks → IsUp map key s blocks
+  up_first h = record {
     path = h.path;
     rest = Leaf;
     right = h.right;
     blocks_are = h.blocks_are;
     is_at = h.is_at;
-    below = subst (λ cs. IsBelow key cs) (sym (append-nil (before_of h.path))) h.below;
+    below = subst (IsBelow key) (sym (append-nil (before_of h.path))) h.below;
     lower = omega arith;
   }
 
@@ -95,7 +82,7 @@ module _ (map : TreeMap) (key : ℕ) (s : List ℕ) where
     stepped = subst (λ p. HangsAt map p h.rest s) step.is h.is_at
 
     stepped_right : GoesRight (step.st ∷ step.up)
-    stepped_right = subst (λ p. GoesRight p) step.is h.right
+    stepped_right = subst GoesRight step.is h.right
 
     stepped_below : IsBelow key (before_of (step.st ∷ step.up) ++ cells_of h.rest)
     stepped_below = subst (λ p. IsBelow key (before_of p ++ cells_of h.rest)) step.is h.below
@@ -114,7 +101,7 @@ module _ (map : TreeMap) (key : ℕ) (s : List ℕ) where
         let high : priority_of key < priority_of (step.st).cell.key = subst (λ d. priority_of key < priority_of d) (sym (up_key k there)) lt in
         let n : ℕ = block_at map.arena (step.st).cell.block in
         let side : n + (if (step.st).left then 2 else 3) ≡ n + 3 = ap (λ left. n + (if left then 2 else 3)) stepped_right.0 in
-        let here : n ≡ block_at map.arena b = ap (λ d. block_at map.arena d) step.is_block in
+        let here : n ≡ block_at map.arena b = ap (block_at map.arena) step.is_block in
         record {
           name = name_of h.rest;
           seat = record {
@@ -124,12 +111,12 @@ module _ (map : TreeMap) (key : ℕ) (s : List ℕ) where
             at = sym (side ∙ ap (λ d. d + 3) here);
             low = all_first (λ c. c.key < key) (before_of (step.st ∷ step.up)) (cells_of h.rest) stepped_below;
             high = subst (λ cs. AllByRecursion (λ c. key < c.key) cs) (sym (after_none (step.st ∷ step.up) stepped_right)) tt;
-            higher = (omega (arith, high), stepped.high.1, stepped.high.2, stepped.high.3);
+            higher = (omega arith, stepped.high.1, stepped.high.2, stepped.high.3);
             lower = h.lower;
             is_name = refl;
           };
           right = stepped_right;
-          blocks_are = ap (λ p. blocks_on p) (sym step.is) ∙ h.blocks_are;
+          blocks_are = ap blocks_on (sym step.is) ∙ h.blocks_are;
         }
 
     -- its key is below the new one
@@ -154,12 +141,12 @@ module _ (map : TreeMap) (key : ℕ) (s : List ℕ) where
     -- if it is lower, it is passed, with its left subtree and with what hangs below it
     pub up_more : (k : ℕ) → slice_get s (block_at map.arena b) ≡ Some k → key < 2 ^ 64 → k < 2 ^ 64 → priority_of k ≤ priority_of key → IsUp map key s bs
     up_more k there low_key low_k le =
-        let is_key : (step.st).cell.key ≡ k = up_key k there in
+        let is_key = up_key k there in
         let rank : rank_of (whole_of step.st h.rest) ≡ priority_of k + 1 = rank_whole ∙ ap (λ d. priority_of d + 1) is_key in
         let other : k < key = subst (λ d. d < key) is_key up_other in
-        let ne : priority_of k ≢ priority_of key = λ e. let same : k ≡ key = priorities_differ k key low_k low_key e in omega (arith, same, other) in
+        let ne : priority_of k ≢ priority_of key = λ e. omega (arith, priorities_differ k key low_k low_key e) in
         let none : after_of (step.st ∷ step.up) ≡ [] = after_none (step.st ∷ step.up) stepped_right in
-        let none_up : after_of step.up ≡ [] = after_none step.up stepped_right.1 in
+        let none_up = after_none step.up stepped_right.1 in
         let cells : before_of (step.st ∷ step.up) ++ cells_of h.rest ≡ before_of step.up ++ cells_of (whole_of step.st h.rest) =
         ap (λ cs. before_of (step.st ∷ step.up) ++ cs) (sym (append-nil (cells_of h.rest))
         ∙ ap (λ cs. cells_of h.rest ++ cs) (sym none))
@@ -170,9 +157,9 @@ module _ (map : TreeMap) (key : ℕ) (s : List ℕ) where
           rest = whole_of step.st h.rest;
           right = stepped_right.1;
           blocks_are = step.blocks_are;
-          is_at = at_up map s step.st step.up h.rest stepped;
-          below = subst (λ cs. IsBelow key cs) cells stepped_below;
-          lower = omega (arith, rank, le, ne);
+          is_at = at_up step.st step.up stepped;
+          below = subst (IsBelow key) cells stepped_below;
+          lower = omega arith;
         }
 
   -- all were passed
@@ -198,8 +185,8 @@ module _ (map : TreeMap) (key : ℕ) (s : List ℕ) where
       }
 
   -- the map of no entries has no nodes
-  pub spine_empty : (u : Blocks) → TreeHolds map s entry_map.empty u → HasSpine map key s []
-  spine_empty u hold = record {
+  pub spine_empty : {u : Blocks} → TreeHolds map s entry_map.empty u → HasSpine map key s []
+  spine_empty {u} hold = record {
     path = [];
     right = tt;
     blocks_are = refl;
@@ -232,16 +219,16 @@ spine_headed map key s t bs kept h = record {
   path = h.path;
   right = h.right;
   blocks_are = h.blocks_are;
-  is_at = at_headed map s t h.path Leaf h.is_at kept;
+  is_at = at_headed h.is_at kept;
   below = h.below;
 }
 
 -- the word at the seat names what hangs there
-pub seat_name : (map : TreeMap) (key place : ℕ) (s blocks : List ℕ) (h : IsSeatBelow map key place s blocks) → slice_get s place ≡ Some h.name
-seat_name map key place s blocks h = ap (λ p. slice_get s p) h.seat.at ∙ at_name map s h.seat.path h.seat.rest h.seat.is_at ∙ ap (λ n. Some n) h.seat.is_name
+pub seat_name : {map : TreeMap} {key place : ℕ} {s blocks : List ℕ} (h : IsSeatBelow map key place s blocks) → slice_get s place ≡ Some h.name
+seat_name {s} h = ap (slice_get s) h.seat.at ∙ at_name h.seat.is_at ∙ ap Some h.seat.is_name
 
 -- the key is missing, and the block may be put in
-module _ (map : TreeMap) (key block : ℕ) (s bs : List ℕ) (spine : HasSpine map key s bs) where
+module _ {map : TreeMap} {key : ℕ} (block : ℕ) {s bs : List ℕ} (spine : HasSpine map key s bs) where
   abbrev pub missing : IsMissing map key s
   missing = record {
     path = spine.path;
@@ -260,7 +247,7 @@ module _ (map : TreeMap) (key block : ℕ) (s bs : List ℕ) (spine : HasSpine m
       order.entries,
       order.used,
       order.holds.map,
-      at_used map s spine.path Leaf spine.is_at order.entries order.used order.holds.map block ∙ e,
+      at_used spine.is_at order.holds.map block ∙ e,
     ))
 
     abbrev pub can : CanPut map key block s
@@ -271,7 +258,7 @@ module _ (map : TreeMap) (key value block place : ℕ) (s bs blocks : List ℕ) 
     (seat : IsSeatBelow map key place s blocks) (order : HasMapApart (tree_part map) s) (low : block < map.arena.blocks)
     (unused : ¬ IsUsedIn (tree_part map) s block) where
   abbrev can_put : CanPut map key block s
-  can_put = can map key block s bs spine order low unused
+  can_put = can block spine order low unused
 
   abbrev rest : Tree
   rest = seat.seat.rest
@@ -297,11 +284,11 @@ module _ (map : TreeMap) (key value block place : ℕ) (s bs blocks : List ℕ) 
   rest_below =
       let P : Cell → Type 0 = λ c. c.key < key in
       let all : IsBelow key (before_of spine.path ++ ([] ++ after_of spine.path)) =
-      all_append P (before_of spine.path) (after_of spine.path) spine.below (subst (λ cs. IsBelow key cs) (sym (after_none spine.path spine.right)) tt) in
-      let same : before_of seat.seat.path ++ (cells_of rest ++ after_of seat.seat.path) ≡ before_of spine.path ++ ([] ++ after_of spine.path) =
-      at_cells map s spine.path Leaf spine.is_at seat.seat.path rest seat.seat.is_at in
+      all_append P (before_of spine.path) (after_of spine.path) spine.below (subst (IsBelow key) (sym (after_none spine.path spine.right)) tt) in
+      let same =
+      at_cells spine.is_at seat.seat.is_at in
       all_first P (cells_of rest) (after_of seat.seat.path)
-      (all_last P (before_of seat.seat.path) (cells_of rest ++ after_of seat.seat.path) (subst (λ cs. IsBelow key cs) (sym same) all))
+      (all_last P (before_of seat.seat.path) (cells_of rest ++ after_of seat.seat.path) (subst (IsBelow key) (sym same) all))
 
   fits : at + 4 ≤ length s
   fits = seat.seat.is_at.laid.arena.blocks block low
@@ -310,14 +297,14 @@ module _ (map : TreeMap) (key value block place : ℕ) (s bs blocks : List ℕ) 
   long = length-set (slice_set s at key) (at + 1) value ∙ length-set s at key
 
   -- a word in another block stays
-  node_other : (d a : ℕ) → 1 ≤ count_in d rest → IsInBlock map.arena d a → slice_get node a ≡ slice_get keyed a
-  node_other d a k mine =
-      let ne : d ≢ block = seat_apart map key value block place seat.name s can_put seat.seat d (omega (arith, k)) in
-      get_set_other lefted (at + 3) a 0 (λ e. ne (omega (arith, e, mine.low, mine.high)))
-      ∙ get_set_other keyed (at + 2) a seat.name (λ e. ne (omega (arith, e, mine.low, mine.high)))
+  node_other : {d : ℕ} (a : ℕ) → 1 ≤ count_in d rest → IsInBlock map.arena d a → slice_get node a ≡ slice_get keyed a
+  node_other {d} a k mine =
+      let ne : d ≢ block = seat_apart value can_put seat.seat d (omega arith) in
+      get_set_other lefted (at + 3) a 0 (λ e. ne (omega (arith, mine.low, mine.high)))
+      ∙ get_set_other keyed (at + 2) a seat.name (λ e. ne (omega (arith, mine.low, mine.high)))
 
   whole : IsWhole map key block seat.name rest keyed
-  whole = put_whole map key value block place seat.name s can_put seat.seat
+  whole = put_whole value can_put seat.seat
 
   name_mine : (a : ℕ) → (a ≡ at + 2) ⊎ (a ≡ at + 3) → IsNameIn map block rest a
   name_mine a k = record { owner = block; mine = inl refl; place = k }
@@ -330,9 +317,9 @@ module _ (map : TreeMap) (key value block place : ℕ) (s bs blocks : List ℕ) 
     left = rest;
     right = Leaf;
     left_there = (
-      get_set_other lefted (at + 3) (at + 2) 0 (λ e. omega (arith, e))
-          ∙ get_set_same keyed (at + 2) seat.name (omega (arith, fits, long)) ∙ ap (λ n. Some n) (sym seat.seat.is_name),
-      spelled_stays map.arena keyed node rest node_other whole.spelled,
+      get_set_other lefted (at + 3) (at + 2) 0 (λ e. omega arith)
+          ∙ get_set_same keyed (at + 2) seat.name (omega (arith, fits, long)) ∙ ap Some (sym seat.seat.is_name),
+      spelled_stays map.arena keyed node rest (λ b. node_other) whole.spelled,
     );
     right_there = (get_set_same lefted (at + 3) 0 (omega (arith, fits, long, length-set keyed (at + 2) seat.name)), tt);
     cells = sym (append-nil (cells_of rest));
@@ -342,14 +329,14 @@ module _ (map : TreeMap) (key value block place : ℕ) (s bs blocks : List ℕ) 
     right_lower = omega arith;
     left_heap = seat.seat.is_at.heap;
     right_heap = tt;
-    kept = keeps_set (IsNameIn map block rest) keyed lefted (at + 3) 0
-        (keeps_set (IsNameIn map block rest) keyed keyed (at + 2) seat.name (keeps_none (IsNameIn map block rest) keyed) (name_mine (at + 2) (inl refl)))
+    kept = keeps_set 0
+        (keeps_set seat.name (keeps_none (IsNameIn map block rest) keyed) (name_mine (at + 2) (inl refl)))
         (name_mine (at + 3) (inr refl));
   }
 
   pub laid_put : IsPut map key value block s laid_words
   laid_put = subst (λ p. IsPut map key value block s (slice_set node p (block + 1))) (sym seat.seat.at)
-      (put_done map key value block place seat.name s can_put seat.seat node parted)
+      (put_done value can_put seat.seat parted)
 
   abbrev new_cell : Cell
   new_cell = record { block = block; key = key; value = value }
@@ -359,13 +346,13 @@ module _ (map : TreeMap) (key value block place : ℕ) (s bs blocks : List ℕ) 
   laid_spine =
       let m : HangsAt map seat.seat.path (Node rest new_cell Leaf) laid_words =
       subst (λ p. HangsAt map seat.seat.path (Node rest new_cell Leaf) (slice_set node p (block + 1))) (sym seat.seat.at)
-      (put_is_at map key value block place seat.name s can_put seat.seat node parted) in
+      (put_is_at value can_put seat.seat parted) in
       let P : Cell → Type 0 = λ c. c.key < key + 1 in
       record {
         path = step_down false rest new_cell Leaf ∷ seat.seat.path;
         right = (refl, seat.right);
         blocks_are = ap (λ ds. ds ++ block ∷ []) seat.blocks_are;
-        is_at = at_step map laid_words seat.seat.path (Node rest new_cell Leaf) m (step_down false rest new_cell Leaf) Leaf refl;
+        is_at = at_step m (step_down false rest new_cell Leaf) Leaf refl;
         below = all_append P (before_of seat.seat.path) (cells_of rest ++ new_cell ∷ [])
             (below_more key (key + 1) (before_of seat.seat.path) (omega arith) seat.seat.low)
             (all_append P (cells_of rest) (new_cell ∷ []) (below_more key (key + 1) (cells_of rest) (omega arith) rest_below) (omega arith, tt));
@@ -374,7 +361,7 @@ module _ (map : TreeMap) (key value block place : ℕ) (s bs blocks : List ℕ) 
   module _ (lacks : Lacks map.arena block s) where
     pub laid_apart : (f : Entries) (u v : Blocks) → HoldsApart (tree_part map) s f u v
         → HoldsApart (tree_part map) laid_words (entry_map.insert f key value) (set.insert u block) v
-    laid_apart f u v hold = put_apart map key value block s laid_words f u v hold (lacks v hold.free_lists) laid_put
+    laid_apart f u v hold = put_apart hold (lacks v hold.free_lists) laid_put
 
     -- the words that were written are the map's own
     pub laid_own : KeepsOthers (IsOwn (tree_part map) key s laid_words) s laid_words
@@ -401,7 +388,7 @@ module _ (map : TreeMap) (key value block place : ℕ) (s bs blocks : List ℕ) 
                   order.entries,
                   order.used,
                   order.holds.map,
-                  at_used map s none.path Leaf none.is_at order.entries order.used order.holds.map m.0 ∙ z,
+                  at_used none.is_at order.holds.map m.0 ∙ z,
                 ),
                 m.2,
               )

@@ -1,34 +1,23 @@
 -- What the calls that part a tree lead to, in every fitting state at once.
-use Rattle.std.proofs.Common.{◌≡◌, ◌≢◌, ℕ, ◌+◌, ◌<◌, ◌≤◌, List, [], ◌∷◌, ◌++◌, length, slice_set, ◌⊎◌, inl, inr, refl, sym, ap, ◌∙◌, subst, arith}
-use Rattle.history_model.specs.declared.event.Event.TheVariants.{Read}
-use Rattle.history_model.specs.Traces.{Trace, after, Begins}
-use Rattle.history_model.specs.Fitting.{Fits, SomeFits, InEach, Leads}
-use Rattle.history_model.proofs.Traces.TraceLaws.{length-after}
-use Rattle.history_model.proofs.Traces.FittingLaws.{fits_begins}
-use Rattle.txn_words.specs.Steps.{EndsWithWrite}
-use Rattle.txn_words.specs.Frames.{AppendsOnly, AppendsReads}
-use Rattle.txn_words.proofs.Steps.{after_write_end, fits_write_end}
-use Rattle.txn_words.proofs.FrameLaws.{only_write, only_then, only_more}
-use Rattle.txn_words.proofs.ReadLaws.{sees_write, sees_then, sees_more}
-use Rattle.txn_alloc.specs.FreeLists.{block_at}
-use Rattle.txn_words.proofs.Looks.{looks_at, seen_before, leads_back}
-use Rattle.txn_tree_map.specs.declared.map.TreeMap.{TreeMap}
-use Rattle.txn_tree_map.specs.Changes.{Hangs, AreWithin, IsNameIn, CanSplit, IsParted, CanPart, PartsOne, Splits, IsSplitOwn, IsEndOrTop, IsWordIn, IsSplitSeen}
-use Rattle.txn_alloc.specs.EntryMaps.{has_block}
-use Rattle.txn_alloc.proofs.Maps.Cells.{times_has}
-use Rattle.txn_tree_map.specs.Trees.{Tree, cells_of}
+use Rattle.txn_tree_map.proofs.Common.{◌≡◌, ℕ, ◌+◌, ◌^◌, ◌<◌, ◌≤◌, List, [], ◌∷◌, ◌++◌, length, slice_set, ◌⊎◌, inl, inr, refl, sym, ap, ◌∙◌, subst, arith}
+use Rattle.txn_tree_map.proofs.Common.{Read, Trace, after, Begins, Fits, SomeFits, InEach, Leads, length-after, fits_begins, EndsWithWrite, AppendsOnly}
+use Rattle.txn_tree_map.proofs.Common.{AppendsReads, after_write_end, fits_write_end, only_read, only_write, only_then, only_more, sees_read, sees_write}
+use Rattle.txn_tree_map.proofs.Common.{sees_then, sees_more, block_at, looks_at, each_looked, seen_before, leads_back, laid_block, Writes, Reads, IsKeyOrName}
+use Rattle.txn_tree_map.proofs.Common.{TreeMap, Hangs, AreWithin, IsNameIn, CanSplit, IsParted, Splits, IsSplitOwn, IsWordIn, IsSplitSeen, has_block, times_has}
+use Rattle.txn_tree_map.proofs.Common.{Tree, cells_of}
+use Rattle.txn_tree_map.specs.Changes.{CanPart, PartsOne, IsEndOrTop}
 use Rattle.txn_tree_map.proofs.Held.Trees.{count_in, one_tree}
 use Rattle.txn_tree_map.proofs.Searches.Links.{top_count}
 use Rattle.txn_tree_map.proofs.Inserts.SplitSteps.{parted_none, parted_times, smaller_within, greater_within, smaller_own, greater_own, parted_low, parted_high}
 use Rattle.txn_tree_map.proofs.Inserts.SplitSteps.{parted_other, parted_laid, parted_below, splits_end}
 
 module _ (n : ℕ) (G : List ℕ → Type 0) (t : Trace) where
-  pub are_within : (hole inner : ℕ) → SomeFits n G t → InEach n G t (AreWithin hole inner) → (hole < n) × (inner < n)
-  are_within hole inner some within =
+  pub are_within : {hole inner : ℕ} → SomeFits n G t → InEach n G t (AreWithin hole inner) → (hole < n) × (inner < n)
+  are_within some within =
       let s : List ℕ = after t some.0 in
       let long : length s ≡ n = length-after t some.0 ∙ some.1.count in
-      let k : AreWithin hole inner s = within.at some.0 some.1 in
-      (omega (arith, long, k.hole_in), omega (arith, long, k.inner_in))
+      let k = within.at some.0 some.1 in
+      (omega (arith, k.hole_in), omega (arith, k.inner_in))
 
   -- a read of the inner word, and a write to the hole
   pub hangs_leads : (u v : Trace) (hole name inner rest : ℕ) → u ≡ t ++ Read inner rest ∷ []
@@ -44,145 +33,156 @@ module _ (n : ℕ) (G : List ℕ → Type 0) (t : Trace) where
   }
 
 module _ (map : TreeMap) (key smaller greater rest : ℕ) where
-  pub can_part_within : (s : List ℕ) (b : ℕ) → CanPart map key smaller greater rest s → b < map.arena.blocks
+  pub can_part_within : {s : List ℕ} (b : ℕ) → CanPart map key smaller greater rest s → b < map.arena.blocks
       → (smaller < length s) × (greater < length s) × (block_at map.arena b + 4 ≤ length s)
-  can_part_within s b h lt = (
-    smaller_within map key h.block h.name h.turns smaller greater rest h.start s h.parted,
-    greater_within map key h.block h.name h.turns smaller greater rest h.start s h.parted,
-    (parted_laid map key h.block h.name h.turns smaller greater rest h.start s h.parted).arena.blocks b lt,
+  can_part_within b h lt = (
+    smaller_within h.parted,
+    greater_within h.parted,
+    (parted_laid h.parted).arena.blocks b lt,
   )
 
-  pub can_part_below : (s : List ℕ) (b : ℕ) → CanPart map key smaller greater rest s → rest ≡ b + 1 → b < map.arena.blocks
-  can_part_below s b h e = parted_below map key h.block h.name h.turns smaller greater rest h.start s h.parted b e
+  pub can_part_below : {s : List ℕ} (b : ℕ) → CanPart map key smaller greater rest s → rest ≡ b + 1 → b < map.arena.blocks
+  can_part_below b h e = parted_below h.parted b e
 
-  module _ (n : ℕ) (G : List ℕ → Type 0) (t u v : Trace) (b k next : ℕ) (is_name : rest ≡ b + 1)
-      (read : u ≡ t ++ Read (block_at map.arena b) k ∷ []) (begins : Begins u v) where
-    -- the key was read, and the node hung among the smaller keys
-    pub parts_low : k < key → Leads n G u v (Hangs smaller rest (block_at map.arena b + 3) next)
-        → Leads n G t v (PartsOne map key smaller greater rest (block_at map.arena b + 3) greater next)
-    parts_low lt hangs = record {
-      at = λ s fit block name turns start h.
-          let look = looks_at n G t u (block_at map.arena b) k read in
-          let there = seen_before n G t u look s (fits_begins n G u v s begins fit) in
-          parted_low map key block name turns smaller greater rest start (after t s) h b k is_name there next
-          (after v s) lt ((leads_back n G t u look v _ begins hangs).at s fit);
-    }
+  -- the key of the rest's top is read
+  module _ (t : Trace) {u : Trace} (b k : ℕ) (read : u ≡ t ++ Read (block_at map.arena b) k ∷ []) where
+    pub rest_within : {n : ℕ} {G : List ℕ → Type 0} → b < map.arena.blocks → InEach n G t (CanPart map key smaller greater rest)
+        → InEach n G u (AreWithin smaller (block_at map.arena b + 3)) × InEach n G u (AreWithin greater (block_at map.arena b + 2))
+    rest_within {n} {G} lt can =
+        let each = each_looked n G t u (looks_at n G t u (block_at map.arena b) k read) _ can in (
+          record { at = λ s fit. let w = can_part_within b (each.at s fit) lt in record { hole_in = w.0; inner_in = omega (arith, w.2) } },
+          record { at = λ s fit. let w = can_part_within b (each.at s fit) lt in record { hole_in = w.1; inner_in = omega (arith, w.2) } },
+        )
 
-    pub parts_high : (k < key → ⊥) → Leads n G u v (Hangs greater rest (block_at map.arena b + 2) next)
-        → Leads n G t v (PartsOne map key smaller greater rest smaller (block_at map.arena b + 2) next)
-    parts_high le hangs = record {
-      at = λ s fit block name turns start h.
-          let look = looks_at n G t u (block_at map.arena b) k read in
-          let there = seen_before n G t u look s (fits_begins n G u v s begins fit) in
-          let ne : k ≢ key = parted_other map key block name turns smaller greater rest start (after t s) h b k is_name there in
-          parted_high map key block name turns smaller greater rest start (after t s) h b k is_name there next
-          (after v s) (omega (arith, le, ne)) ((leads_back n G t u look v _ begins hangs).at s fit);
-    }
+    module _ {v : Trace} (is_name : rest ≡ b + 1) where
+      -- what is read and written until it is hung at one of the ends
+      pub rest_own : (hole : ℕ) → (hole ≡ smaller) ⊎ (hole ≡ greater) → AppendsOnly u v (λ a. a ≡ hole)
+          → AppendsOnly t v (λ a. (a ≡ smaller) ⊎ (a ≡ greater))
+      rest_own hole end frame =
+          let own : ℕ → Type 0 = λ a. (a ≡ smaller) ⊎ (a ≡ greater) in
+          only_then own t u v (only_read own t u _ k read) (only_more (λ a. a ≡ hole) own u v (λ a e. rw e end) frame)
+
+      pub rest_seen : (hole a : ℕ) → (hole ≡ smaller) ⊎ (hole ≡ greater) → IsKeyOrName map b a → AppendsReads u v (λ z. (z ≡ hole) ⊎ (z ≡ a))
+          → AppendsReads t v (IsEndOrTop map smaller greater rest)
+      rest_seen hole a end name reads =
+          let seen : ℕ → Type 0 = IsEndOrTop map smaller greater rest in
+          sees_then seen t u v (sees_read seen t u _ k read (inr (inr (b, is_name, inl refl))))
+          (sees_more (λ z. (z ≡ hole) ⊎ (z ≡ a)) seen u v (λ z m. elim m [
+            | inl e ↦ rw e (elim end [ inl s ↦ inl s | inr g ↦ inr (inl g) ])
+            | inr q ↦ inr (inr (b, is_name, rw q name))
+          ]) reads)
+
+      module _ {n next : ℕ} {G : List ℕ → Type 0} (begins : Begins u v) where
+        -- the node was hung among the smaller keys
+        pub parts_low : k < key → Leads n G u v (Hangs smaller rest (block_at map.arena b + 3) next)
+            → Leads n G t v (PartsOne map key smaller greater rest (block_at map.arena b + 3) greater next)
+        parts_low lt hangs = record {
+          at = λ s fit block name turns start h.
+              let look = looks_at n G t u (block_at map.arena b) k read in
+              let there = seen_before n G t u look s (fits_begins n G u v s begins fit) in
+              parted_low h b k is_name there lt ((leads_back n G t u look v _ begins hangs).at s fit);
+        }
+
+        -- the node was hung among the greater keys
+        pub parts_high : (k < key → ⊥) → Leads n G u v (Hangs greater rest (block_at map.arena b + 2) next)
+            → Leads n G t v (PartsOne map key smaller greater rest smaller (block_at map.arena b + 2) next)
+        parts_high le hangs = record {
+          at = λ s fit block name turns start h.
+              let look = looks_at n G t u (block_at map.arena b) k read in
+              let there = seen_before n G t u look s (fits_begins n G u v s begins fit) in
+              parted_high h b k is_name there (omega (arith, parted_other h b k is_name there)) ((leads_back n G t u look v _ begins hangs).at s fit);
+        }
+
+-- the block of the rest's top is within the words
+pub part_block : {map : TreeMap} {key smaller greater rest n : ℕ} {G : List ℕ → Type 0} {t : Trace} → InEach n G t (CanPart map key smaller greater rest)
+    → SomeFits n G t → (b : ℕ) → b < map.arena.blocks → (block_at map.arena b + 4 ≤ n) × (n ≤ 2 ^ 64)
+part_block {map} {n} {G} {t} can some b =
+    laid_block map.arena n G t some b (record { at = λ s fit. (parted_laid (can.at s fit).parted).arena })
 
 -- a name is a word of its block
 pub word_of : {map : TreeMap} {block : ℕ} {tree : Tree} {a : ℕ} → IsNameIn map block tree a → IsWordIn map block tree a
 word_of n = record { owner = n.owner; mine = n.mine; place = inr n.place }
 
-module _ (map : TreeMap) (key block name : ℕ) (n : ℕ) (G : List ℕ → Type 0) (t u : Trace) where
+module _ {map : TreeMap} {key block name turns smaller greater rest : ℕ} {old s : List ℕ}
+    (h : IsParted map key block name turns smaller greater rest old s) (a : ℕ) where
   -- both places are the split's own, whichever tree the name headed
-  pub ends_own : (turns smaller greater rest : ℕ) (old s : List ℕ)
-      → IsParted map key block name turns smaller greater rest old s → (a : ℕ) → (a ≡ smaller) ⊎ (a ≡ greater) → IsSplitOwn map key block name old s a
-  ends_own turns smaller greater rest old s h a e tree w =
+  pub ends_own : (a ≡ smaller) ⊎ (a ≡ greater) → IsSplitOwn map key block name old s a
+  ends_own e tree w =
       let same : h.tree ≡ tree = one_tree map.arena old h.tree tree (h.whole.is_name ∙ sym w.is_name) h.whole.spelled w.spelled in
-      subst (λ z. IsNameIn map block z a) same
-      (elim e [
-        | inl k ↦ subst (λ z. IsNameIn map block h.tree z) (sym k) (smaller_own map key block name turns smaller greater rest old s h)
-        | inr k ↦ subst (λ z. IsNameIn map block h.tree z) (sym k) (greater_own map key block name turns smaller greater rest old s h)
-      ])
+      subst (λ z. IsNameIn map block z a) same (elim e [ inl k ↦ rw k (smaller_own h) | inr k ↦ rw k (greater_own h) ])
 
   -- and so is what may be read beside them
-  pub ends_seen : (turns smaller greater rest : ℕ) (old s : List ℕ)
-      → IsParted map key block name turns smaller greater rest old s → (a : ℕ) → IsEndOrTop map smaller greater rest a → IsSplitSeen map key block name old s a
-  ends_seen turns smaller greater rest old s h a (inl e) tree w = word_of (ends_own turns smaller greater rest old s h a (inl e) tree w)
-  ends_seen turns smaller greater rest old s h a (inr (inl e)) tree w = word_of (ends_own turns smaller greater rest old s h a (inr e) tree w)
-  ends_seen turns smaller greater rest old s h a (inr (inr (b, is_name, k))) tree w =
+  pub ends_seen : IsEndOrTop map smaller greater rest a → IsSplitSeen map key block name old s a
+  ends_seen (inl e) tree w = word_of (ends_own (inl e) tree w)
+  ends_seen (inr (inl e)) tree w = word_of (ends_own (inr e) tree w)
+  ends_seen (inr (inr (b, is_name, k))) tree w =
       let same : h.tree ≡ tree = one_tree map.arena old h.tree tree (h.whole.is_name ∙ sym w.is_name) h.whole.spelled w.spelled in
       let top : 1 ≤ count_in b h.inner = top_count h.inner b (h.is_rest ∙ is_name) in
       record {
         owner = b;
-        mine = inr (ap (λ z. has_block b (cells_of z)) (sym same)
-            ∙ times_has b (cells_of h.tree) (omega (arith, top, parted_times map key block name turns smaller greater rest old s h b)));
+        mine = inr (ap (λ z. has_block b (cells_of z)) (sym same) ∙ times_has b (cells_of h.tree) (omega (arith, parted_times h b)));
         place = k;
       }
 
+module _ {map : TreeMap} {key block name turns smaller greater rest n : ℕ} {G : List ℕ → Type 0} {t u : Trace}
+    (parted : Leads n G t u (IsParted map key block name turns smaller greater rest)) where
   -- one node more was parted
-  pub parted_more : (v : Trace) (turns smaller greater rest smaller' greater' rest' : ℕ) → Begins u v
-      → ((s : List ℕ) → Fits n G u s → IsParted map key block name turns smaller greater rest (after t s) (after u s))
-      → Leads n G u v (PartsOne map key smaller greater rest smaller' greater' rest') → (s : List ℕ) → Fits n G v s
-      → IsParted map key block name (turns + 1) smaller' greater' rest' (after t s) (after v s)
-  parted_more v turns smaller greater rest smaller' greater' rest' b h one s fit = one.at s fit block name turns (after t s) (h s (fits_begins n G u v s b fit))
+  pub parted_more : {v : Trace} {smaller' greater' rest' : ℕ} → Begins u v
+      → Leads n G u v (PartsOne map key smaller greater rest smaller' greater' rest')
+      → Leads n G t v (IsParted map key block name (turns + 1) smaller' greater' rest')
+  parted_more {v} b one = record { at = λ s fit. one.at s fit block name turns (after t s) (parted.at s (fits_begins n G u v s b fit)) }
 
-  pub own_more : (v : Trace) (turns smaller greater rest : ℕ) → Begins u v
-      → ((s : List ℕ) → Fits n G u s → IsParted map key block name turns smaller greater rest (after t s) (after u s))
-      → ((s : List ℕ) → Fits n G u s → AppendsOnly t u (IsSplitOwn map key block name (after t s) (after u s)))
-      → AppendsOnly u v (λ a. (a ≡ smaller) ⊎ (a ≡ greater))
-      → (s : List ℕ) → Fits n G v s → AppendsOnly t v (IsSplitOwn map key block name (after t s) (after v s))
-  own_more v turns smaller greater rest b h own frame s fit =
-      let fit_u : Fits n G u s = fits_begins n G u v s b fit in
+  pub own_more : {v : Trace} → Begins u v → Writes n G t u (IsSplitOwn map key block name)
+      → AppendsOnly u v (λ a. (a ≡ smaller) ⊎ (a ≡ greater)) → Writes n G t v (IsSplitOwn map key block name)
+  own_more {v} b own frame s fit =
+      let fit_u = fits_begins n G u v s b fit in
       let mine : ℕ → Type 0 = IsSplitOwn map key block name (after t s) (after v s) in
-      only_then mine t u v (own s fit_u) (only_more (λ a. (a ≡ smaller) ⊎ (a ≡ greater)) mine u v
-      (ends_own turns smaller greater rest (after t s) (after u s) (h s fit_u)) frame)
+      only_then mine t u v (own s fit_u) (only_more (λ a. (a ≡ smaller) ⊎ (a ≡ greater)) mine u v (ends_own (parted.at s fit_u)) frame)
 
-  pub seen_more : (v : Trace) (turns smaller greater rest : ℕ) → Begins u v
-      → ((s : List ℕ) → Fits n G u s → IsParted map key block name turns smaller greater rest (after t s) (after u s))
-      → ((s : List ℕ) → Fits n G u s → AppendsReads t u (IsSplitSeen map key block name (after t s) (after u s)))
-      → AppendsReads u v (IsEndOrTop map smaller greater rest)
-      → (s : List ℕ) → Fits n G v s → AppendsReads t v (IsSplitSeen map key block name (after t s) (after v s))
-  seen_more v turns smaller greater rest b h seen reads s fit =
-      let fit_u : Fits n G u s = fits_begins n G u v s b fit in
+  pub seen_more : {v : Trace} → Begins u v → Reads n G t u (IsSplitSeen map key block name)
+      → AppendsReads u v (IsEndOrTop map smaller greater rest) → Reads n G t v (IsSplitSeen map key block name)
+  seen_more {v} b seen reads s fit =
+      let fit_u = fits_begins n G u v s b fit in
       let mine : ℕ → Type 0 = IsSplitSeen map key block name (after t s) (after v s) in
-      sees_then mine t u v (seen s fit_u) (sees_more (IsEndOrTop map smaller greater rest) mine u v
-      (ends_seen turns smaller greater rest (after t s) (after u s) (h s fit_u)) reads)
+      sees_then mine t u v (seen s fit_u) (sees_more (IsEndOrTop map smaller greater rest) mine u v (ends_seen (parted.at s fit_u)) reads)
 
-  pub ends_within : (smaller greater : ℕ) → Leads n G t u (IsParted map key block name 0 smaller greater 0) → SomeFits n G u → (smaller < n) × (greater < n)
-  ends_within smaller greater parted some =
-      let s : List ℕ = after u some.0 in
-      let long : length s ≡ n = length-after u some.0 ∙ some.1.count in
+module _ {map : TreeMap} {key block name smaller greater n : ℕ} {G : List ℕ → Type 0} {t u : Trace}
+    (parted : Leads n G t u (IsParted map key block name 0 smaller greater 0)) where
+  pub ends_within : SomeFits n G u → (smaller < n) × (greater < n)
+  ends_within some =
+      let long : length (after u some.0) ≡ n = length-after u some.0 ∙ some.1.count in
       let h = parted.at some.0 some.1 in
-      let one_in : smaller < length s = smaller_within map key block name 0 smaller greater 0 (after t some.0) s h in
-      let two_in : greater < length s = greater_within map key block name 0 smaller greater 0 (after t some.0) s h in
-      (omega (arith, long, one_in), omega (arith, long, two_in))
+      (omega (arith, smaller_within h), omega (arith, greater_within h))
 
   -- the last words were written
-  module _ (v w : Trace) (smaller greater : ℕ) (one : EndsWithWrite u v smaller 0) (two : EndsWithWrite v w greater 0)
-      (parted : Leads n G t u (IsParted map key block name 0 smaller greater 0)) where
-    fits_u : (s : List ℕ) → Fits n G w s → Fits n G u s
-    fits_u s fit = fits_write_end n G u v smaller 0 s one (fits_write_end n G v w greater 0 s two fit)
+  module _ {v w : Trace} (one : EndsWithWrite u v smaller 0) (two : EndsWithWrite v w greater 0) where
+    fits_u : {s : List ℕ} → Fits n G w s → Fits n G u s
+    fits_u {s} fit = fits_write_end n G u v smaller 0 s one (fits_write_end n G v w greater 0 s two fit)
 
     pub splits_leads : Leads n G t w (Splits map key block name)
     splits_leads = record {
       at = λ s fit.
           let last : after w s ≡ slice_set (slice_set (after u s) smaller 0) greater 0 =
           after_write_end v w greater 0 s two ∙ ap (λ z. slice_set z greater 0) (after_write_end u v smaller 0 s one) in
-          subst (λ z. Splits map key block name (after t s) z) (sym last)
-          (splits_end map key block name smaller greater (after t s) (after u s) (parted.at s (fits_u s fit)));
+          subst (Splits map key block name (after t s)) (sym last) (splits_end (parted.at s (fits_u fit)));
     }
 
-    pub splits_own : ((s : List ℕ) → Fits n G u s
-        → AppendsOnly t u (IsSplitOwn map key block name (after t s) (after u s))) → (s : List ℕ) → Fits n G w s
-        → AppendsOnly t w (IsSplitOwn map key block name (after t s) (after w s))
+    pub splits_own : Writes n G t u (IsSplitOwn map key block name) → Writes n G t w (IsSplitOwn map key block name)
     splits_own own s fit =
         let mine : ℕ → Type 0 = IsSplitOwn map key block name (after t s) (after w s) in
-        let at : (a : ℕ) → (a ≡ smaller) ⊎ (a ≡ greater) → mine a = ends_own 0 smaller greater 0 (after t s) (after u s) (parted.at s (fits_u s fit)) in
-        only_then mine t u w (own s (fits_u s fit))
+        let at = ends_own (parted.at s (fits_u fit)) in
+        only_then mine t u w (own s (fits_u fit))
         (only_then mine u v w (only_write mine u v smaller 0 one (at smaller (inl refl))) (only_write mine v w greater 0 two (at greater (inr refl))))
 
-    pub splits_seen : ((s : List ℕ) → Fits n G u s
-        → AppendsReads t u (IsSplitSeen map key block name (after t s) (after u s))) → (s : List ℕ) → Fits n G w s
-        → AppendsReads t w (IsSplitSeen map key block name (after t s) (after w s))
+    pub splits_seen : Reads n G t u (IsSplitSeen map key block name) → Reads n G t w (IsSplitSeen map key block name)
     splits_seen seen s fit =
         let mine : ℕ → Type 0 = IsSplitSeen map key block name (after t s) (after w s) in
-        let at : (a : ℕ) → IsEndOrTop map smaller greater 0 a → mine a = ends_seen 0 smaller greater 0 (after t s) (after u s) (parted.at s (fits_u s fit)) in
-        sees_then mine t u w (seen s (fits_u s fit))
+        let at = ends_seen (parted.at s (fits_u fit)) in
+        sees_then mine t u w (seen s (fits_u fit))
         (sees_then mine u v w (sees_write mine u v smaller 0 one (at smaller (inl refl))) (sees_write mine v w greater 0 two (at greater (inr (inl refl)))))
 
 -- a split begins
-pub parted_start : (map : TreeMap) (key block name a : ℕ) (s : List ℕ) → block_at map.arena block ≡ a
+pub parted_start : {map : TreeMap} {key block name : ℕ} (a : ℕ) {s : List ℕ} → block_at map.arena block ≡ a
     → CanSplit map key block name s → IsParted map key block name 0 (a + 2) (a + 3) name s s
-parted_start map key block name a s e k =
-    subst (λ z. IsParted map key block name 0 (z + 2) (z + 3) name s s) e (parted_none map key block name k.tree s k.whole)
+parted_start {map} {key} {block} {name} a {s} e k =
+    subst (λ z. IsParted map key block name 0 (z + 2) (z + 3) name s s) e (parted_none k.whole)

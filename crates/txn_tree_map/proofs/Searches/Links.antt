@@ -1,87 +1,79 @@
 -- The words that a search reads are the root and words of the tree's own blocks.
-use Rattle.std.proofs.Common.{◌≡◌, ℕ, ◌+◌, ◌≤◌, inl, inr, true, List, [], ◌++◌, Option, Some, refl, sym, ap, ◌∙◌, subst, arith}
-use Rattle.std.proofs.lemmas.List.{append-nil}
-use Rattle.std.specs.FinSet as set
-use Rattle.txn_alloc.specs.FreeLists.{block_at}
-use Rattle.txn_alloc.specs.EntryMaps.{Entries, Blocks, IsUsedIn, IsSeen, has_block}
-use Rattle.txn_alloc.proofs.Maps.Cells.{one_in, one_here, times_has, has_middle}
-use Rattle.txn_tree_map.specs.declared.map.TreeMap.{TreeMap}
-use Rattle.txn_tree_map.specs.declared.find.Named.{Named}
-use Rattle.txn_tree_map.specs.Trees.{Tree, name_of, cells_of, TreeHolds, tree_part}
-use Rattle.txn_tree_map.specs.Trees.Tree.{Leaf, Node}
-use Rattle.txn_tree_map.specs.Paths.{Path, place_at_end, before_of, after_of, HangsAt}
+use Rattle.txn_tree_map.proofs.Common.{◌≡◌, ℕ, ◌+◌, ◌≤◌, inl, inr, true, List, [], ◌++◌, Option, Some, refl, sym, ap, ◌∙◌, subst, arith, append-nil, block_at}
+use Rattle.txn_tree_map.proofs.Common.{Entries, Blocks, IsUsedIn, has_block, one_in, one_here, times_has, has_middle, TreeMap, Named, Tree, name_of, cells_of}
+use Rattle.txn_tree_map.proofs.Common.{TreeHolds, tree_part, Leaf, Node, Path, place_at_end, before_of, after_of, HangsAt, IsKeyOrName, IsLink, IsPlace}
+use Rattle.txn_tree_map.proofs.Common.{IsPlaceOrKey, IsNamed, IsFoundAt, IsFirstFrom}
+use Rattle.txn_alloc.specs.EntryMaps.{IsSeen}
 use Rattle.txn_tree_map.proofs.Searches.Passed.{IsPassed}
-use Rattle.txn_tree_map.specs.Searches.{IsKeyOrName, IsOfTree, IsLink, IsPlace, IsPlaceOrKey, IsNamed, IsFoundAt}
+use Rattle.txn_tree_map.specs.Searches.{IsOfTree}
 use Rattle.txn_tree_map.proofs.Summed.{IsNear}
-use Rattle.txn_tree_map.specs.Sums.{IsFirstFrom}
 use Rattle.txn_tree_map.proofs.Held.Trees.{count_in, count_on}
 use Rattle.txn_tree_map.proofs.Held.Places.{at_tree, at_times, at_cells, at_used}
 use Rattle.txn_tree_map.proofs.Searches.SearchSteps.{IsNode, node_named, passed_node}
 use Rattle.txn_tree_map.proofs.Held.Hanging.{place_mine}
 use Rattle.txn_tree_map.proofs.Searches.FirstSteps.{near_name}
+use Rattle.std.specs.FinSet as set
 
 -- a tree has the block of its top
-pub node_count : (tree : Tree) (b k : ℕ) → IsNode tree b k → 1 ≤ count_in b tree
-node_count tree b k node =
-    let one : one_in b node.cell ≡ 1 = one_here b node.cell node.is_block in
-    let whole : count_in b tree ≡ count_in b (Node node.left node.cell node.right) = ap (λ t. count_in b t) node.is in
-    omega (arith, one, whole)
+pub node_count : {tree : Tree} {b k : ℕ} → IsNode tree b k → 1 ≤ count_in b tree
+node_count {tree} {b} node =
+    let whole : count_in b tree ≡ count_in b (Node node.left node.cell node.right) = ap (count_in b) node.is in
+    omega (arith, one_here b node.cell node.is_block)
 
 pub top_count : (tree : Tree) (b : ℕ) → name_of tree ≡ b + 1 → 1 ≤ count_in b tree
-top_count Leaf b e = absurd (omega (arith, e))
-top_count (Node left c right) b e = let one : one_in b c ≡ 1 = one_here b c (omega (arith, e)) in omega (arith, one)
+top_count Leaf b e = absurd (omega arith)
+top_count (Node left c right) b e = let one : one_in b c ≡ 1 = one_here b c (omega arith) in omega arith
 
-module _ (map : TreeMap) (s : List ℕ) (path : Path) (tree : Tree) (m : HangsAt map path tree s) where
+module _ {map : TreeMap} {s : List ℕ} {path : Path} {tree : Tree} (m : HangsAt map path tree s) where
   pub of_tree : (b : ℕ) → 1 ≤ count_on b path + count_in b tree → IsOfTree map b s
   of_tree b k other_path other n =
-      ap (λ cs. has_block b cs) (at_cells map s path tree m other_path other n)
-      ∙ times_has b (before_of path ++ (cells_of tree ++ after_of path)) (omega (arith, k, at_times map s path tree m b))
+      ap (has_block b) (at_cells m n)
+      ∙ times_has b (before_of path ++ (cells_of tree ++ after_of path)) (omega (arith, at_times m b))
 
   -- the place at the end of the path
   pub at_link : IsLink map s (place_at_end map.arena map.root path)
   at_link = elim (place_mine map.arena map.root path) [ inl e ↦ inl e | inr d ↦ inr (d.0, of_tree d.0 (omega (arith, d.1)), inr d.2) ]
 
   -- the key of the node that hangs there
-  pub node_link : (b k : ℕ) → IsNode tree b k → IsLink map s (block_at map.arena b)
-  node_link b k node = inr (b, of_tree b (let one : 1 ≤ count_in b tree = node_count tree b k node in omega (arith, one)), inl refl)
+  pub node_link : {b k : ℕ} → IsNode tree b k → IsLink map s (block_at map.arena b)
+  node_link {b} node = inr (b, of_tree b (omega (arith, node_count node)), inl refl)
 
-module _ (map : TreeMap) (key floor : ℕ) (s : List ℕ) (p n : ℕ) (h : IsPassed map key floor p n s) where
+module _ {map : TreeMap} {key floor : ℕ} {s : List ℕ} {p n : ℕ} (h : IsPassed map key floor p n s) where
   pub passed_place : (a : ℕ) → IsPlace p s a → IsLink map s a
-  passed_place a e = subst (IsLink map s) (sym (e ∙ h.at)) (at_link map s h.path h.rest h.is_at)
+  passed_place a e = subst (IsLink map s) (sym (e ∙ h.at)) (at_link h.is_at)
 
   pub passed_near : (b k : ℕ) → IsNamed map p b k s → (a : ℕ) → IsPlaceOrKey map p b s a → IsLink map s a
   passed_near b k named a (inl e) = passed_place a e
-  passed_near b k named a (inr e) = subst (IsLink map s) (sym e) (node_link map s h.path h.rest h.is_at b k (passed_node map key floor s p n b k h named))
+  passed_near b k named a (inr e) = subst (IsLink map s) (sym e) (node_link h.is_at (passed_node key floor b k h named))
 
-module _ (map : TreeMap) (least : ℕ) (s : List ℕ) (best : Option Named) (p n : ℕ) (h : IsNear map least best p n s) where
+module _ {map : TreeMap} {least : ℕ} {s : List ℕ} {best : Option Named} {p n : ℕ} (h : IsNear map least best p n s) where
   pub near_place : (a : ℕ) → IsPlace p s a → IsLink map s a
-  near_place a e = subst (IsLink map s) (sym (e ∙ h.at)) (at_link map s h.path h.rest h.is_at)
+  near_place a e = subst (IsLink map s) (sym (e ∙ h.at)) (at_link h.is_at)
 
   pub near_near : (b k : ℕ) → IsNamed map p b k s → (a : ℕ) → IsPlaceOrKey map p b s a → IsLink map s a
   near_near b k named a (inl e) = near_place a e
   near_near b k named a (inr e) =
-      subst (IsLink map s) (sym e) (node_link map s h.path h.rest h.is_at b k
-      (node_named map.arena s h.rest b k (near_name map least s best p n (b + 1) h named.0) h.is_at.spelled named.1))
+      subst (IsLink map s) (sym e) (node_link h.is_at
+      (node_named map.arena s h.rest b k (near_name least (b + 1) h named.0) h.is_at.spelled named.1))
 
 -- the block where a key was found
-pub found_of : (map : TreeMap) (key p b : ℕ) (s : List ℕ) → IsFoundAt map key p b s → IsOfTree map b s
-found_of map key p b s h = of_tree map s h.path (Node h.left h.cell h.right) h.is_at b (let one : one_in b h.cell ≡ 1 =
-    one_here b h.cell h.is_block in omega (arith, one))
+pub found_of : {map : TreeMap} {key p b : ℕ} {s : List ℕ} → IsFoundAt map key p b s → IsOfTree map b s
+found_of {b} h = of_tree h.is_at b (omega (arith, one_here b h.cell h.is_block))
 
-pub found_place : (map : TreeMap) (key p b : ℕ) (s : List ℕ) → IsFoundAt map key p b s → IsLink map s p
-found_place map key p b s h = subst (IsLink map s) (sym h.at) (at_link map s h.path (Node h.left h.cell h.right) h.is_at)
+pub found_place : {map : TreeMap} {key p b : ℕ} {s : List ℕ} → IsFoundAt map key p b s → IsLink map s p
+found_place {map} {s} h = subst (IsLink map s) (sym h.at) (at_link h.is_at)
 
 -- the block of the first node from a key on
-pub nearest_of : (map : TreeMap) (least : ℕ) (node : Named) (s : List ℕ) → IsFirstFrom map least (Some node) s → IsOfTree map node.block s
-nearest_of map least node s h other_path other n =
-    ap (λ cs. has_block node.block cs) (at_cells map s [] h.tree h.is_at other_path other n
+pub nearest_of : {map : TreeMap} {least : ℕ} (node : Named) {s : List ℕ} → IsFirstFrom map least (Some node) s → IsOfTree map node.block s
+nearest_of node h other_path other n =
+    ap (has_block node.block) (at_cells h.is_at n
     ∙ append-nil (cells_of h.tree) ∙ h.cells ∙ ap (λ z. h.lows ++ z) h.first.2)
     ∙ has_middle node.block h.lows (h.first.1) (h.first.0) h.first.3
 
 -- a block of the tree is used
-module _ (map : TreeMap) (s : List ℕ) (f : Entries) (u : Blocks) (hold : TreeHolds map s f u) where
+module _ {map : TreeMap} {s : List ℕ} {f : Entries} {u : Blocks} (hold : TreeHolds map s f u) where
   pub tree_used : (b : ℕ) → IsOfTree map b s → set.contains u b ≡ true
-  tree_used b of = at_used map s [] hold.tree (at_tree map s f u hold) f u hold b ∙ of [] hold.tree (at_tree map s f u hold)
+  tree_used b of = at_used (at_tree map s f u hold) hold b ∙ of [] hold.tree (at_tree map s f u hold)
 
   pub tree_uses : (b : ℕ) → IsOfTree map b s → IsUsedIn (tree_part map) s b
   tree_uses b of = (f, u, hold, tree_used b of)

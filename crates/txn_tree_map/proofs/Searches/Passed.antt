@@ -1,8 +1,6 @@
 -- How far a search down the tree has come, and what it found.
+use Rattle.txn_tree_map.proofs.Common.{TreeMap, Tree, cells_of, IsAbove, Path, place_at_end, before_of, after_of, HangsAt, IsBelow, IsHigh}
 use Rattle.std.specs.Prelude.{◌≡◌, ℕ, ◌+◌, ◌^◌, ◌≤◌, List, length}
-use Rattle.txn_tree_map.specs.declared.map.TreeMap.{TreeMap}
-use Rattle.txn_tree_map.specs.Trees.{Tree, cells_of, IsAbove}
-use Rattle.txn_tree_map.specs.Paths.{Path, place_at_end, before_of, after_of, HangsAt, IsBelow, IsHigh}
 
 -- the search for the key has come to the place, down nodes that all reach as high as the floor,
 -- and passed so many that no more than the other blocks are left below it

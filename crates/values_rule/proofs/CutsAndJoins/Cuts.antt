@@ -1,31 +1,16 @@
 -- The cut of a view in two keeps the value invariant: both have seen what the view had seen, and are between calls.
-use Rattle.std.proofs.Common.{◌≡◌, ℕ, ◌≤◌, true, false, ◌⊎◌, inl, inr, ⊎_elim, List, [], ◌∷◌, ◌++◌, Some, None, slice_get, slice_index, slice_set, refl, sym}
-use Rattle.std.proofs.Common.{ap, ◌∙◌, subst, arith}
-use mathlib.Core.Logic.{dite}
-use native.Mathlib.Decide.{ℕ_discrete}
-use Rattle.history_model.specs.declared.entry.Entry.{Entry}
-use Rattle.history_model.specs.declared.view.View.{View}
-use Rattle.history_model.specs.declared.view.Phase.TheVariants.{Idle, Releasing}
-use Rattle.history_model.specs.Arrangements.{Drops}
-use Rattle.history_model.specs.Counts.{is_attempt, is_open}
-use Rattle.history_model.specs.Legal.{IsIn}
-use Rattle.history_model.specs.Sets.{has, flag}
-use Rattle.history_model.specs.Table.{Knows}
-use Rattle.history_model.specs.Undoing.{Notes}
-use Rattle.history_model.specs.Views.{number}
-use Rattle.history_model.proofs.Views.Changes.{Change, StepTouches, NewByCut, change_cut}
-use Rattle.history_model.proofs.Views.Places.{same_view, put_here, added_there}
-use Rattle.history_model.proofs.SetLemmas.{differ, has-nil, has-one, has-without, has-join_same, has-join_old}
+use Rattle.values_rule.proofs.Common.{◌≡◌, ℕ, ◌≤◌, true, false, ◌⊎◌, inl, inr, ⊎_elim, List, [], ◌∷◌, ◌++◌, Some, None, slice_get, slice_index, slice_set, refl}
+use Rattle.values_rule.proofs.Common.{sym, ap, ◌∙◌, subst, arith, dite, ℕ_discrete, Entry, View, Idle, Releasing, Drops, is_attempt, is_open, IsIn, has, flag}
+use Rattle.values_rule.proofs.Common.{Knows, Notes, number, Change, same_view, put_here, differ, has-nil, has-one, has-without, has-join_same, has-join_old}
+use Rattle.values_rule.proofs.Common.{LocksHold, IsSeat, oldest, UndoRestores, TraceCurrent, last_call, items_of, owed_by, next_version, now_of, IsRecorded}
+use Rattle.values_rule.proofs.Common.{RecordsClosed, CallsCounted, ValuesHold}
+use Rattle.history_model.proofs.Views.Changes.{StepTouches, NewByCut, change_cut}
+use Rattle.history_model.proofs.Views.Places.{added_there}
 use Rattle.locks_rule.specs.Joins.{MayTakeNote, left_by_note, note_of}
-use Rattle.locks_rule.specs.Locks.{LocksHold, IsSeat}
 use Rattle.locks_rule.specs.Splits.{MaySplitSeat, left_by_split, given_by_split}
-use Rattle.values_rule.specs.Values.{oldest, UndoRestores, TraceCurrent}
 use Rattle.values_rule.proofs.Members.{none_in}
 use Rattle.values_rule.proofs.Notes.{oldest-nil}
-use Rattle.values_rule.specs.History.{last_call, items_of, owed_by, next_version, now_of}
 use Rattle.values_rule.specs.Keeping.{KeepsValueRuleSplit}
-use Rattle.values_rule.specs.Records.{IsRecorded, RecordsClosed, CallsCounted}
-use Rattle.values_rule.specs.Versions.{ValuesHold}
 use Rattle.values_rule.proofs.Parts.Frames.{records_move, items_kept, now_kept}
 use Rattle.values_rule.proofs.Told.ItemsIn.{OfEntry, OfOpen, items_from, items_into}
 use Rattle.values_rule.proofs.Told.Owing.{owed_same}

@@ -1,25 +1,15 @@
 -- What two lists of entries come to together.
-use Rattle.std.proofs.Common.{◌≡◌, ◌≢◌, ℕ, zero, suc, Bool, true, false, ◌&&◌, ◌⊎◌, inl, inr, ⊎_elim, List, [], ◌∷◌, ◌++◌, Some, if◌then◌else◌, refl, sym, ap}
-use Rattle.std.proofs.Common.{◌∙◌, subst, arith, eq-eqb, ne_eqb}
-use Rattle.std.specs.Prelude.{◌==◌}
+use Rattle.values_rule.proofs.Common.{◌≡◌, ◌≢◌, ℕ, zero, suc, Bool, true, false, ◌&&◌, ◌⊎◌, inl, inr, ⊎_elim, List, [], ◌∷◌, ◌++◌, Some, if◌then◌else◌, refl}
+use Rattle.values_rule.proofs.Common.{sym, ap, ◌∙◌, subst, arith, eq-eqb, ne_eqb, ◌==◌, or_cases, or_left, or_right, dite, ℕ_discrete, Abandoned, Entry, Read}
+use Rattle.values_rule.proofs.Common.{Write, LockUse, IsIn, flag, bool_cases, differ, gains}
 use Rattle.std.specs.Bool.{Decides}
 use Rattle.std.specs.Cmp.Lexicographic.{pointwise, pointwise_decides, bytes_decides}
 use Rattle.std.specs.Str.{bytes_eq}
 use Rattle.std.proofs.lemmas.Bool.Decides.{Decides-and, Decides-eqb, Decides-like}
-use Rattle.std.proofs.lemmas.Bool.{or_cases, or_left, or_right}
-use mathlib.Core.Logic.{dite}
-use native.Mathlib.Decide.{ℕ_discrete}
-use Rattle.history_model.specs.declared.entry.Abandoned.{Abandoned}
-use Rattle.history_model.specs.declared.entry.Entry.{Entry}
 use Rattle.history_model.specs.declared.event.Event.{Event}
-use Rattle.history_model.specs.declared.event.Event.TheVariants.{Read, Write}
-use Rattle.history_model.specs.declared.item.LockUse.{LockUse}
-use Rattle.history_model.specs.Legal.{IsIn}
-use Rattle.history_model.specs.Sets.{flag}
-use Rattle.history_model.proofs.SetLemmas.{bool_cases, differ}
 use Rattle.values_rule.proofs.Members.{in_join, none_in, in_first, in_second}
 use Rattle.values_rule.specs.History.{last_call}
-use Rattle.locks_rule.specs.Joins.{same_event, same_use, same_attempt, same_entry, has_entry, lacking, gains}
+use Rattle.locks_rule.specs.Joins.{same_event, same_use, same_attempt, same_entry, has_entry, lacking}
 use Rattle.values_rule.specs.Records.{IsApart}
 use Rattle.values_rule.proofs.Told.ItemsIn.{in_parts}
 

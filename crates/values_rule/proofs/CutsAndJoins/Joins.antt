@@ -1,31 +1,14 @@
 -- The join of two views keeps the value invariant: what both have seen is what they have seen together.
-use Rattle.std.proofs.Common.{◌≡◌, ◌≢◌, ℕ, ◌≤◌, true, false, ◌⊎◌, inl, inr, ⊎_elim, List, [], ◌∷◌, Some, None, slice_get, slice_set, refl, sym, ap, ◌∙◌, subst}
-use Rattle.std.proofs.Common.{arith}
-use mathlib.Core.Logic.{dite}
-use native.Mathlib.Decide.{ℕ_discrete}
-use Rattle.history_model.specs.declared.entry.Entry.{Entry}
-use Rattle.history_model.specs.declared.view.View.{View}
-use Rattle.history_model.specs.declared.view.Phase.TheVariants.{Idle, Releasing}
-use Rattle.history_model.specs.Arrangements.{Drops}
-use Rattle.history_model.specs.Counts.{is_attempt, is_open}
-use Rattle.history_model.specs.Legal.{IsIn}
-use Rattle.history_model.specs.Sets.{has, flag}
-use Rattle.history_model.specs.Table.{Knows}
-use Rattle.history_model.specs.Undoing.{Notes}
-use Rattle.history_model.proofs.Views.Changes.{Change, JoinTouches, NewByJoin, change_join}
-use Rattle.history_model.proofs.Views.Places.{same_view, put_here, put_there}
-use Rattle.history_model.proofs.SetLemmas.{differ, has-nil}
-use Rattle.locks_rule.specs.Joins.{MayMeetNote, MayJoinSeats, spent_view}
-use Rattle.locks_rule.specs.Locks.{LocksHold, IsSeat}
+use Rattle.values_rule.proofs.Common.{◌≡◌, ◌≢◌, ℕ, ◌≤◌, true, false, ◌⊎◌, inl, inr, ⊎_elim, List, [], ◌∷◌, Some, None, slice_get, slice_set, refl, sym, ap, ◌∙◌}
+use Rattle.values_rule.proofs.Common.{subst, arith, dite, ℕ_discrete, Entry, View, Idle, Releasing, Drops, is_attempt, is_open, IsIn, has, flag, Knows, Notes}
+use Rattle.values_rule.proofs.Common.{Change, same_view, put_here, put_there, differ, has-nil, LocksHold, IsSeat, oldest, UndoRestores, TraceCurrent, last_call}
+use Rattle.values_rule.proofs.Common.{items_of, owed_by, next_version, now_of, gains, IsRecorded, RecordsClosed, CallsCounted, ValuesHold}
+use Rattle.history_model.proofs.Views.Changes.{JoinTouches, NewByJoin, change_join}
+use Rattle.locks_rule.specs.Joins.{MayMeetNote, MayJoinSeats, spent_view, lacking, after_note, after_joining}
 use Rattle.locks_rule.proofs.Joining.{not_one, has-append}
-use Rattle.values_rule.specs.Values.{oldest, UndoRestores, TraceCurrent}
 use Rattle.values_rule.proofs.Members.{none_in}
 use Rattle.values_rule.proofs.Notes.{oldest-nil}
-use Rattle.values_rule.specs.History.{last_call, items_of, owed_by, next_version, now_of}
-use Rattle.locks_rule.specs.Joins.{lacking, gains, after_note, after_joining}
 use Rattle.values_rule.specs.Keeping.{KeepsValueRuleJoin}
-use Rattle.values_rule.specs.Records.{IsRecorded, RecordsClosed, CallsCounted}
-use Rattle.values_rule.specs.Versions.{ValuesHold}
 use Rattle.values_rule.proofs.Parts.Frames.{records_move, items_kept, now_kept}
 use Rattle.values_rule.proofs.CutsAndJoins.Gains.{gains_cases, gains_first, gains_second, gains_apart, last_append, in_lacking, there_entry}
 use Rattle.values_rule.proofs.Told.ItemsIn.{OfEntry, OfOpen, items_from, items_into}

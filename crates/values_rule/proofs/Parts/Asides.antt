@@ -1,20 +1,8 @@
 -- The items if no entry and no attempt comes, and if a call is given up.
-use Rattle.std.proofs.Common.{◌≡◌, ◌≢◌, ℕ, Bool, true, false, ◌||◌, ◌&&◌, not, ◌⊎◌, inl, inr, ⊎_elim, List, [], ◌∷◌, slice_set, refl, sym, ap, ◌∙◌, subst}
-use Rattle.std.proofs.Common.{arith, eq-eqb, ne_eqb}
-use Rattle.std.specs.Prelude.{◌==◌}
-use mathlib.Core.Logic.{dite}
-use native.Mathlib.Decide.{ℕ_discrete}
-use Rattle.history_model.specs.declared.item.Item.{Item}
-use Rattle.history_model.specs.declared.view.View.{View}
-use Rattle.history_model.specs.Arrangements.{Drops}
-use Rattle.history_model.specs.Counts.{is_open}
-use Rattle.history_model.specs.Legal.{IsIn}
-use Rattle.history_model.specs.Table.{Knows}
-use Rattle.history_model.specs.Views.{number}
-use Rattle.history_model.proofs.Views.Places.{same_view, put_here, put_there, put_cases}
-use Rattle.locks_rule.specs.Locks.{LocksHold}
-use Rattle.values_rule.specs.History.{knew_of, items_of}
-use Rattle.values_rule.specs.Versions.{ValuesHold}
+use Rattle.values_rule.proofs.Common.{◌≡◌, ◌≢◌, ℕ, Bool, true, false, ◌||◌, ◌&&◌, ◌⊎◌, inl, inr, ⊎_elim, List, [], ◌∷◌, slice_set, refl, sym, ap, ◌∙◌, subst}
+use Rattle.values_rule.proofs.Common.{arith, eq-eqb, ne_eqb, ◌==◌, dite, ℕ_discrete, Item, View, Drops, is_open, IsIn, Knows, number, same_view, put_here}
+use Rattle.values_rule.proofs.Common.{put_there, put_cases, LocksHold, knew_of, items_of, ValuesHold}
+use Rattle.std.proofs.Common.{not}
 use Rattle.values_rule.proofs.Parts.Frames.{recorded_to, recorded_from}
 use Rattle.values_rule.proofs.Told.ItemsIn.{IsAttemptOf, OfEntry, OfOpen, items_from, items_into}
 use Rattle.values_rule.proofs.Told.Seeing.{is_j, only_me, earlier}

@@ -1,30 +1,12 @@
 -- What a step of one seat owes that adds no entry, part by part. The seat goes from the view v to w while the words go from
 -- ws to ws'.
-use Rattle.std.proofs.Common.{◌≡◌, ◌≢◌, ℕ, ◌^◌, ◌<◌, ◌≤◌, Bool, true, false, ◌⊎◌, ⊎_elim, List, [], Some, None, IsSome, slice_get, slice_index, slice_set, refl}
-use Rattle.std.proofs.Common.{sym, ap, ◌∙◌, subst, arith}
-use mathlib.Core.Logic.{dite}
-use native.Mathlib.Decide.{ℕ_discrete}
-use Rattle.history_model.specs.declared.entry.Entry.{Entry}
-use Rattle.history_model.specs.declared.item.Item.{Item}
-use Rattle.history_model.specs.declared.view.View.{View}
-use Rattle.history_model.specs.declared.view.Phase.TheVariants.{Idle, Running, Releasing}
-use Rattle.history_model.specs.Arrangements.{Drops, passing}
-use Rattle.history_model.specs.Counts.{is_attempt, is_open}
-use Rattle.history_model.specs.Items.{AgreeWithVersions, value_at as value_by_version}
-use Rattle.history_model.specs.Legal.{IsIn}
-use Rattle.history_model.specs.Locks.{lock_of_word}
-use Rattle.history_model.specs.Sets.{has}
-use Rattle.history_model.specs.Table.{Knows, calls_word, commits_word}
-use Rattle.history_model.specs.Traces.{Trace, Writes, Touches, IsLegalTrace, value_after}
-use Rattle.history_model.specs.Undoing.{Notes}
-use Rattle.history_model.specs.Views.{HasWriteGrant, IsGranted}
-use Rattle.history_model.proofs.Items.ItemDrops.{drops_agree, drops_arranged, drops_values}
-use Rattle.history_model.proofs.Views.Places.{same_view, put_here, put_there, put_cases}
-use Rattle.locks_rule.specs.Locks.{IsSeat}
-use Rattle.values_rule.specs.Values.{table_value, oldest, UndoRestores, TraceCurrent}
-use Rattle.values_rule.specs.History.{last_call, items_of, next_version, now_of}
-use Rattle.values_rule.specs.Records.{IsRecorded, Knew, RecordsClosed, CallsCounted}
-use Rattle.values_rule.specs.Versions.{ItemsArranged}
+use Rattle.values_rule.proofs.Common.{◌≡◌, ◌≢◌, ℕ, ◌^◌, ◌<◌, ◌≤◌, Bool, true, false, ◌⊎◌, ⊎_elim, List, [], Some, None, IsSome, slice_get, slice_index}
+use Rattle.values_rule.proofs.Common.{slice_set, refl, sym, ap, ◌∙◌, subst, arith, dite, ℕ_discrete, Entry, Item, View, Idle, Running, Releasing, Drops}
+use Rattle.values_rule.proofs.Common.{passing, is_attempt, is_open, AgreeWithVersions, IsIn, lock_of_word, has, Knows, calls_word, commits_word, Trace, Writes}
+use Rattle.values_rule.proofs.Common.{Touches, IsLegalTrace, value_after, Notes, HasWriteGrant, IsGranted, drops_agree, drops_arranged, drops_values, same_view}
+use Rattle.values_rule.proofs.Common.{put_here, put_there, put_cases, IsSeat, table_value, oldest, UndoRestores, TraceCurrent, last_call, items_of}
+use Rattle.values_rule.proofs.Common.{next_version, now_of, IsRecorded, Knew, RecordsClosed, CallsCounted, ItemsArranged}
+use Rattle.history_model.specs.Items.{value_at as value_by_version}
 use Rattle.values_rule.proofs.Told.Newest.{newest_same}
 
 -- the same entries are recorded, and each view has seen no less of its own

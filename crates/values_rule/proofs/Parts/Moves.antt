@@ -1,31 +1,14 @@
 -- What a step owes that adds no item, part by part, and that it then keeps the value invariant. One seat goes from the view
 -- v to w while the words go from ws to ws'.
-use Rattle.std.proofs.Common.{◌≡◌, ◌≢◌, ℕ, ◌<◌, true, ◌⊎◌, ⊎_elim, List, [], ◌∷◌, length, Option, Some, None, IsSome, slice_index, slice_set, refl, sym, ap}
-use Rattle.std.proofs.Common.{◌∙◌, subst, arith}
-use mathlib.Core.Logic.{dite}
-use native.Mathlib.Decide.{ℕ_discrete}
-use Rattle.history_model.specs.declared.item.Item.{Item}
-use Rattle.history_model.specs.declared.view.View.{View}
-use Rattle.history_model.specs.declared.view.Phase.TheVariants.{Idle, Running, Releasing}
-use Rattle.history_model.specs.Arrangements.{Drops}
-use Rattle.history_model.specs.Counts.{is_attempt, is_open}
-use Rattle.history_model.specs.Legal.{IsIn}
-use Rattle.history_model.specs.Locks.{lock_of_word}
-use Rattle.history_model.specs.Sets.{has, flag}
-use Rattle.history_model.specs.Table.{Knows, serial_word}
-use Rattle.history_model.specs.Traces.{IsLegalTrace, Writes, Touches, value_after}
-use Rattle.history_model.specs.Views.{HasWriteGrant, IsGranted}
+use Rattle.values_rule.proofs.Common.{◌≡◌, ◌≢◌, ℕ, ◌<◌, true, ◌⊎◌, ⊎_elim, List, [], ◌∷◌, length, Option, Some, None, IsSome, slice_index, slice_set, refl, sym}
+use Rattle.values_rule.proofs.Common.{ap, ◌∙◌, subst, arith, dite, ℕ_discrete, Item, View, Idle, Running, Releasing, Drops, is_attempt, is_open, IsIn}
+use Rattle.values_rule.proofs.Common.{lock_of_word, has, flag, Knows, serial_word, IsLegalTrace, Writes, Touches, value_after, HasWriteGrant, IsGranted}
+use Rattle.values_rule.proofs.Common.{same_view, put_here, put_there, put_cases, has-join_same, LocksHold, IsSeat, table_value, oldest, UndoRestores}
+use Rattle.values_rule.proofs.Common.{TraceCurrent, version_at, items_of, owed_by, next_version, now_of, AreCauses, CallsCounted, ValuesHold}
 use Rattle.history_model.proofs.Traces.LastEvents.{touched_by_last}
-use Rattle.history_model.proofs.Views.Places.{same_view, put_here, put_there, put_cases}
-use Rattle.history_model.proofs.SetLemmas.{has-join_same}
-use Rattle.locks_rule.specs.Locks.{LocksHold, IsSeat}
-use Rattle.values_rule.specs.Values.{table_value, oldest, UndoRestores, TraceCurrent}
 use Rattle.values_rule.proofs.Traces.{UndoMoves, TraceMoves}
 use Rattle.values_rule.proofs.Phases.{attempt_runs}
 use Rattle.values_rule.proofs.Stores.{shut_out}
-use Rattle.values_rule.specs.History.{version_at, items_of, owed_by, next_version, now_of}
-use Rattle.values_rule.specs.Records.{AreCauses, CallsCounted}
-use Rattle.values_rule.specs.Versions.{ValuesHold}
 use Rattle.values_rule.proofs.Parts.Asides.{OwnAttempt, aside_drops}
 use Rattle.values_rule.proofs.Parts.Frames.{records_same, items_kept, now_kept}
 use Rattle.values_rule.proofs.Told.Owing.{owed_same}

@@ -1,25 +1,11 @@
 -- The beginning of a call keeps the value invariant.
-use Rattle.std.proofs.Common.{◌≡◌, ◌≢◌, ℕ, ◌+◌, ◌^◌, ◌<◌, true, false, ◌⊎◌, inl, ⊎_elim, List, [], ◌∷◌, length, Some, None, slice_index, slice_set, refl, sym}
-use Rattle.std.proofs.Common.{ap, ◌∙◌, subst, arith, get_or-set_other, get_or-set_same}
-use mathlib.Core.Logic.{dite}
-use native.Mathlib.Decide.{ℕ_discrete}
-use Rattle.history_model.specs.declared.view.View.{View}
-use Rattle.history_model.specs.declared.view.Phase.TheVariants.{Idle, Releasing}
-use Rattle.history_model.specs.Counts.{is_open}
-use Rattle.history_model.specs.Sets.{has}
-use Rattle.history_model.specs.Table.{Knows, serial_word, calls_word, commits_word, version_word, value_word}
-use Rattle.history_model.specs.Undoing.{Notes}
-use Rattle.history_model.proofs.Views.Places.{put_cases}
-use Rattle.history_model.proofs.SetLemmas.{has-nil, has-one, differ, not_true}
-use Rattle.locks_rule.proofs.Own.{own}
-use Rattle.values_rule.specs.Values.{table_value, oldest}
+use Rattle.values_rule.proofs.Common.{◌≡◌, ◌≢◌, ℕ, ◌+◌, ◌^◌, ◌<◌, true, false, ◌⊎◌, inl, ⊎_elim, List, [], ◌∷◌, length, Some, None, slice_index, slice_set}
+use Rattle.values_rule.proofs.Common.{refl, sym, ap, ◌∙◌, subst, arith, get_or-set_other, get_or-set_same, dite, ℕ_discrete, View, Idle, Releasing, is_open}
+use Rattle.values_rule.proofs.Common.{has, Knows, serial_word, calls_word, commits_word, version_word, value_word, Notes, put_cases, has-nil, has-one, differ}
+use Rattle.values_rule.proofs.Common.{not_true, own, table_value, oldest, last_call, now_of, KeepsValueRule, CallsCounted, begin_call_action, MayBeginCall}
 use Rattle.values_rule.proofs.Members.{none_in}
 use Rattle.values_rule.proofs.Notes.{oldest-nil}
 use Rattle.values_rule.proofs.Traces.{fresh_trace}
-use Rattle.values_rule.specs.History.{last_call, now_of}
-use Rattle.values_rule.specs.Keeping.{KeepsValueRule}
-use Rattle.values_rule.specs.Records.{CallsCounted}
-use Rattle.values_rule.specs.Steps.{begin_call_action, MayBeginCall}
 use Rattle.values_rule.proofs.Parts.Frames.{recorded_to}
 use Rattle.values_rule.proofs.Parts.Moves.{moves}
 use Rattle.values_rule.proofs.Told.Owing.{version_kept}

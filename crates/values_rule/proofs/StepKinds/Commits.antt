@@ -1,41 +1,20 @@
 -- A commit, kept or not, keeps the value invariant: an arrangement with the new entry at its end is one, and what the items
 -- leave is what the words are with the other seats' notes written back.
-use Rattle.std.proofs.Common.{◌≡◌, ◌≢◌, ℕ, ◌<◌, Bool, true, false, ◌&&◌, ◌⊎◌, inl, inr, ⊎_elim, List, [], ◌∷◌, ◌++◌, length, Some, None, slice_get}
-use Rattle.std.proofs.Common.{slice_set, refl, sym, ap, ◌∙◌, subst, arith, get_or-set_other, if◌then◌else◌}
-use Rattle.std.proofs.lemmas.Bool.{and_parts}
-use mathlib.Core.Logic.{dite}
-use native.Mathlib.Decide.{ℕ_discrete}
-use Rattle.history_model.specs.declared.entry.Entry.{Entry}
-use Rattle.history_model.specs.declared.item.Item.{Item}
-use Rattle.history_model.specs.declared.view.View.{View}
-use Rattle.history_model.specs.declared.view.Phase.TheVariants.{Idle, Running, Releasing}
-use Rattle.history_model.specs.Arrangements.{MayStandLast, Adds, RaisesVersions}
-use Rattle.history_model.specs.Counts.{is_attempt, is_open}
-use Rattle.history_model.specs.Items.{Uses}
-use Rattle.history_model.specs.Legal.{IsIn}
-use Rattle.history_model.specs.Locks.{lock_of_word}
-use Rattle.history_model.specs.Sets.{has, flag}
-use Rattle.history_model.specs.Table.{Knows, serial_word, commits_word}
-use Rattle.history_model.specs.Traces.{IsLegalTrace, Writes, after, value_after}
-use Rattle.history_model.specs.Undoing.{Notes}
-use Rattle.history_model.specs.Views.{number, HasWriteGrant, IsGranted}
-use Rattle.history_model.proofs.Traces.EndEvents.{last_event, touched_if_written}
-use Rattle.history_model.proofs.Items.ItemEnds.{ends_agree, ends_arranged, ends_moved}
+use Rattle.values_rule.proofs.Common.{◌≡◌, ◌≢◌, ℕ, ◌<◌, Bool, true, false, ◌&&◌, ◌⊎◌, inl, inr, ⊎_elim, List, [], ◌∷◌, ◌++◌, length, Some, None, slice_get}
+use Rattle.values_rule.proofs.Common.{slice_set, refl, sym, ap, ◌∙◌, subst, arith, get_or-set_other, if◌then◌else◌, and_parts, dite, ℕ_discrete, Entry, Item}
+use Rattle.values_rule.proofs.Common.{View, Idle, Running, Releasing, MayStandLast, Adds, RaisesVersions, is_attempt, is_open, Uses, IsIn, lock_of_word, has}
+use Rattle.values_rule.proofs.Common.{flag, Knows, serial_word, commits_word, IsLegalTrace, Writes, after, value_after, Notes, number, HasWriteGrant, IsGranted}
+use Rattle.values_rule.proofs.Common.{last_event, touched_if_written, ends_agree, ends_arranged, ends_moved, get-after-value_after, last_from_touched}
+use Rattle.values_rule.proofs.Common.{same_view, put_here, put_there, put_cases, differ, has-join_same, has-nil, legal_agree, LocksHold, IsSeat, table_value}
+use Rattle.values_rule.proofs.Common.{oldest, UndoRestores, TraceCurrent, writes_lock, locks_of, knew_of, item_of_entry, items_of, version_at, owed_by}
+use Rattle.values_rule.proofs.Common.{next_version, now_of, KeepsValueRule, IsRecorded, AreCauses, RecordsClosed, CallsCounted, MayCommitCall, entry_of}
+use Rattle.values_rule.proofs.Common.{after_commit, commit_call_action, ItemsArranged, ValuesHold}
 use Rattle.history_model.proofs.Items.ItemValues.{wrote_some}
-use Rattle.history_model.proofs.Traces.LastEvents.{get-after-value_after, last_from_touched, unwritten_stays}
-use Rattle.history_model.proofs.Views.Places.{same_view, put_here, put_there, put_cases}
-use Rattle.history_model.proofs.SetLemmas.{differ, has-join_same, has-nil}
-use Rattle.history_model.proofs.Traces.TraceAgree.{legal_agree}
-use Rattle.locks_rule.specs.Locks.{LocksHold, IsSeat}
-use Rattle.values_rule.specs.Values.{table_value, oldest, UndoRestores, TraceCurrent}
+use Rattle.history_model.proofs.Traces.LastEvents.{unwritten_stays}
 use Rattle.values_rule.proofs.Notes.{oldest-nil, option_cases, is_missing}
 use Rattle.values_rule.proofs.Stores.{shut_out}
-use Rattle.locks_rule.specs.Versions.{writes_lock, locks_of}
-use Rattle.values_rule.specs.History.{knew_of, item_of_entry, items_of, version_at, owed_by, next_version, now_of}
-use Rattle.values_rule.specs.Keeping.{KeepsValueRule}
-use Rattle.values_rule.specs.Records.{IsRecorded, AreCauses, RecordsClosed, CallsCounted, FloorAndAbandoned}
-use Rattle.values_rule.specs.Steps.{MayCommitCall, entry_of, after_commit, commit_call_action}
-use Rattle.values_rule.specs.Versions.{ItemsArranged, OwedHeld, UsesCurrent, ValuesHold}
+use Rattle.values_rule.specs.Records.{FloorAndAbandoned}
+use Rattle.values_rule.specs.Versions.{OwedHeld, UsesCurrent}
 use Rattle.values_rule.proofs.Told.Excludes.{not_released}
 use Rattle.values_rule.proofs.Phases.{attempt_open, open_begun}
 use Rattle.values_rule.proofs.Told.ItemsIn.{IsAttemptOf, OfEntry, OfOpen, items_from, items_into}

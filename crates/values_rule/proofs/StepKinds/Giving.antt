@@ -1,33 +1,14 @@
 -- An attempt that gives way keeps the value invariant: it is one item more, which wrote nothing.
-use Rattle.std.proofs.Common.{◌≡◌, ◌≢◌, ℕ, ◌<◌, true, false, ◌⊎◌, inl, inr, ⊎_elim, List, [], ◌∷◌, ◌++◌, length, slice_index, slice_set, refl, sym, ap, ◌∙◌}
-use Rattle.std.proofs.Common.{subst, arith}
-use Rattle.std.proofs.lemmas.Option.{slice_get_within}
-use mathlib.Core.Logic.{dite}
-use native.Mathlib.Decide.{ℕ_discrete}
-use Rattle.history_model.specs.declared.entry.Abandoned.{Abandoned}
+use Rattle.values_rule.proofs.Common.{◌≡◌, ◌≢◌, ℕ, ◌<◌, true, false, ◌⊎◌, inl, inr, ⊎_elim, List, [], ◌∷◌, ◌++◌, length, slice_index, slice_set, refl, sym, ap}
+use Rattle.values_rule.proofs.Common.{◌∙◌, subst, arith, slice_get_within, dite, ℕ_discrete, Abandoned, Item, View, Running, MayStandLast, Adds, RaisesVersions}
+use Rattle.values_rule.proofs.Common.{is_attempt, is_open, Uses, IsIn, has, flag, Knows, number, get_cases, get_last, ends_agree, ends_arranged, ends_moved}
+use Rattle.values_rule.proofs.Common.{same_view, put_here, put_there, put_cases, differ, has-join_same, LocksHold, UndoRestores, TraceCurrent, knew_of}
+use Rattle.values_rule.proofs.Common.{item_of_attempt, items_of, owed_by, next_version, now_of, AreCauses, ValuesHold}
 use Rattle.history_model.specs.declared.event.Cause.{Cause}
-use Rattle.history_model.specs.declared.item.Item.{Item}
-use Rattle.history_model.specs.declared.view.View.{View}
-use Rattle.history_model.specs.declared.view.Phase.TheVariants.{Running}
-use Rattle.history_model.specs.Arrangements.{MayStandLast, Adds, RaisesVersions}
-use Rattle.history_model.specs.Counts.{is_attempt, is_open}
-use Rattle.history_model.specs.Items.{Uses}
-use Rattle.history_model.specs.Legal.{IsIn}
-use Rattle.history_model.specs.Sets.{has, flag}
-use Rattle.history_model.specs.Table.{Knows}
-use Rattle.history_model.specs.Views.{number}
-use Rattle.history_model.proofs.ListPlaces.{get_cases, get_first, get_last}
-use Rattle.history_model.proofs.Items.ItemEnds.{ends_agree, ends_arranged, ends_moved}
-use Rattle.history_model.proofs.Views.Places.{same_view, put_here, put_there, put_cases}
-use Rattle.history_model.proofs.SetLemmas.{differ, has-join_same}
-use Rattle.locks_rule.specs.Locks.{LocksHold}
-use Rattle.values_rule.specs.Values.{UndoRestores, TraceCurrent}
+use Rattle.history_model.proofs.ListPlaces.{get_first}
 use Rattle.values_rule.specs.Keeping.{IsNewCause, GivingWayKeeps}
 use Rattle.values_rule.proofs.Members.{in_join, none_in}
-use Rattle.values_rule.specs.History.{knew_of, item_of_attempt, items_of, owed_by, next_version, now_of}
-use Rattle.values_rule.specs.Records.{AreCauses}
 use Rattle.values_rule.specs.Steps.{attempt_of, after_giving_way}
-use Rattle.values_rule.specs.Versions.{ValuesHold}
 use Rattle.values_rule.proofs.Told.Excludes.{not_released}
 use Rattle.values_rule.proofs.Phases.{open_begun}
 use Rattle.values_rule.proofs.Parts.Frames.{records_same, calls_same, memory_same, recorded_to, recorded_from}

@@ -1,22 +1,9 @@
 -- A call that is given up keeps the value invariant: an arrangement without its attempts is one.
-use Rattle.std.proofs.Common.{◌≡◌, ◌≢◌, ℕ, true, false, ◌⊎◌, ⊎_elim, List, [], ◌∷◌, Some, None, slice_set, sym, ap, ◌∙◌, subst, arith}
-use mathlib.Core.Logic.{dite}
-use native.Mathlib.Decide.{ℕ_discrete}
-use Rattle.history_model.specs.declared.view.View.{View}
-use Rattle.history_model.specs.declared.view.Phase.TheVariants.{Idle}
-use Rattle.history_model.specs.Counts.{is_attempt, is_open}
-use Rattle.history_model.specs.Legal.{IsIn}
-use Rattle.history_model.specs.Sets.{has, flag}
-use Rattle.history_model.specs.Table.{Knows}
-use Rattle.history_model.specs.Undoing.{Notes}
-use Rattle.history_model.proofs.Views.Places.{same_view, put_there, put_cases}
-use Rattle.locks_rule.specs.Locks.{LocksHold}
-use Rattle.values_rule.specs.Values.{oldest, UndoRestores, TraceCurrent}
+use Rattle.values_rule.proofs.Common.{◌≡◌, ◌≢◌, ℕ, true, false, ◌⊎◌, ⊎_elim, List, [], ◌∷◌, Some, None, slice_set, sym, ap, ◌∙◌, subst, arith, dite, ℕ_discrete}
+use Rattle.values_rule.proofs.Common.{View, Idle, is_attempt, is_open, IsIn, has, flag, Knows, Notes, same_view, put_there, put_cases, LocksHold, oldest}
+use Rattle.values_rule.proofs.Common.{UndoRestores, TraceCurrent, owed_by, next_version, now_of, SameValueWords, AreCauses, ValuesHold}
 use Rattle.values_rule.proofs.Notes.{oldest-nil}
-use Rattle.values_rule.specs.History.{owed_by, next_version, now_of}
-use Rattle.values_rule.specs.Keeping.{GivesUp, SameValueWords, GivingUpKeeps}
-use Rattle.values_rule.specs.Records.{AreCauses}
-use Rattle.values_rule.specs.Versions.{ValuesHold}
+use Rattle.values_rule.specs.Keeping.{GivesUp, GivingUpKeeps}
 use Rattle.values_rule.proofs.Parts.Asides.{is_kept, entries_stay, giving_up_drops}
 use Rattle.values_rule.proofs.Told.Excludes.{not_released}
 use Rattle.values_rule.proofs.Phases.{attempt_open, open_begun}

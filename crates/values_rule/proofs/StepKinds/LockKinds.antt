@@ -1,28 +1,21 @@
 -- The kinds of step on locks, and the end of a call, keep the value invariant: those that ask for a lock take none away, a
 -- release comes with nothing to undo, and a lock that is released is owed no version.
-use Rattle.std.proofs.Common.{◌≡◌, ◌≢◌, ℕ, ◌%◌, ◌-◌, ◌<◌, ◌≤◌, true, false, inl, inr, ⊎_elim, List, [], ◌∷◌, slice_index, slice_set, refl, sym, ap, ◌∙◌, subst}
-use Rattle.std.proofs.Common.{arith, ◌==◌, get_or-set_other}
+use Rattle.values_rule.proofs.Common.{◌≡◌, ◌≢◌, ℕ, ◌-◌, ◌<◌, ◌≤◌, true, false, inl, inr, ⊎_elim, List, [], ◌∷◌, slice_index, slice_set, refl, sym, ap, ◌∙◌}
+use Rattle.values_rule.proofs.Common.{subst, arith, get_or-set_other, LOCKS, View, Phase, Idle, Running, Yielding, Withdrawing, Releasing, is_attempt, is_open}
+use Rattle.values_rule.proofs.Common.{has, Knows, calls_word, commits_word, version_word, value_word, HasWriteGrant, differ, has-join_old, has-without_other}
+use Rattle.values_rule.proofs.Common.{found_by, LocksHold, own, clear_stamp_action, MayClearStamp, KeepsValueRule, SameValues, SameValueWords, ValuesHold}
+use Rattle.locks_rule.proofs.Common.{row_word, writer_word, HasClaim, HasReadGrant, after_asking, after_meeting}
+use Rattle.std.proofs.Common.{◌%◌, ◌==◌}
 use Rattle.std.specs.Int.{bit_at}
-use Rattle.history_model.specs.declared.TheConstants.{LOCKS}
-use Rattle.history_model.specs.declared.view.View.{View}
-use Rattle.history_model.specs.declared.view.Phase.{Phase}
-use Rattle.history_model.specs.declared.view.Phase.TheVariants.{Idle, Running, Yielding, Withdrawing, Releasing}
-use Rattle.history_model.specs.Counts.{is_attempt, is_open}
-use Rattle.history_model.specs.Sets.{has, without_first}
-use Rattle.history_model.specs.Table.{Knows, calls_word, stamps_word, row_word, writer_word, commits_word, version_word, value_word}
-use Rattle.history_model.specs.Views.{HasClaim, HasReadGrant, HasWriteGrant}
-use Rattle.history_model.proofs.SetLemmas.{differ, has-join_old, pair-join_old, pair-without_other, has-without_other}
-use Rattle.locks_rule.specs.Actions.{found_by, words_after}
-use Rattle.locks_rule.specs.Locks.{LocksHold}
-use Rattle.locks_rule.specs.Steps.{after_asking, after_meeting, released_phase, is_free, MayRelease, MaySetReadBit, MayClearReadBit, MayLoadWriter}
-use Rattle.locks_rule.specs.Steps.{MayClaimWriter, MayScanRow, set_read_bit_action, clear_read_bit_action, load_writer_action, claim_writer_action}
-use Rattle.locks_rule.specs.Steps.{scan_row_action, release_writer_action}
+use Rattle.history_model.specs.Sets.{without_first}
+use Rattle.history_model.specs.Table.{stamps_word}
+use Rattle.history_model.proofs.SetLemmas.{pair-join_old, pair-without_other}
+use Rattle.locks_rule.specs.Actions.{words_after}
+use Rattle.locks_rule.specs.Steps.{released_phase, is_free, MayRelease, MaySetReadBit, MayClearReadBit, MayLoadWriter, MayClaimWriter, MayScanRow}
+use Rattle.locks_rule.specs.Steps.{set_read_bit_action, clear_read_bit_action, load_writer_action, claim_writer_action, scan_row_action, release_writer_action}
 use Rattle.locks_rule.proofs.Asides.{picked}
-use Rattle.locks_rule.proofs.Own.{own, lock_near}
-use Rattle.values_rule.specs.Steps.{clear_stamp_action, MayClearStamp}
-use Rattle.values_rule.specs.Keeping.{KeepsValueRule, SameValues, SameValueWords}
+use Rattle.locks_rule.proofs.Own.{lock_near}
 use Rattle.locks_rule.specs.Versions.{MayReleaseUnowed}
-use Rattle.values_rule.specs.Versions.{ValuesHold}
 use Rattle.values_rule.proofs.Phases.{attempt_open}
 use Rattle.values_rule.proofs.StepKinds.GivingUp.{giving_up_values}
 use Rattle.values_rule.proofs.Told.Owing.{version_kept}

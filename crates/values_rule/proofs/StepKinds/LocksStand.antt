@@ -1,16 +1,11 @@
 -- The kinds of step on calls, versions, values and entries keep the lock invariant, since none is on a word of a lock; so
 -- do the joins, by which no lock is held.
-use Rattle.std.proofs.Common.{◌≡◌, ℕ, Bool, ⊎_elim, List, [], refl, sym, ◌∙◌, arith}
-use Rattle.history_model.specs.declared.view.Phase.TheVariants.{Idle, Running, Releasing}
-use Rattle.history_model.specs.Sets.{has}
-use Rattle.history_model.proofs.SetLemmas.{differ, not_true, has-nil}
-use Rattle.locks_rule.specs.Actions.{Keeps, found_by}
-use Rattle.locks_rule.specs.Locks.{LocksHold}
-use Rattle.locks_rule.proofs.Own.{own}
+use Rattle.values_rule.proofs.Common.{◌≡◌, ℕ, Bool, ⊎_elim, List, [], refl, sym, ◌∙◌, arith, Idle, Running, Releasing, has, differ, not_true, has-nil, found_by}
+use Rattle.values_rule.proofs.Common.{LocksHold, own, load_value_action, store_value_action, undo_store_action, clear_stamp_action, begin_call_action}
+use Rattle.values_rule.proofs.Common.{MayBeginCall, MayLoadValue, MayStoreValue, MayUndoStore, MayCommitCall, commit_call_action, MayClearStamp, MayLoadVersion}
+use Rattle.values_rule.proofs.Common.{load_version_action, MayStoreVersion, store_version_action}
+use Rattle.locks_rule.proofs.Common.{Keeps}
 use Rattle.locks_rule.proofs.Asides.{aside_keeps, same_locks}
-use Rattle.values_rule.specs.Steps.{load_value_action, store_value_action, undo_store_action, clear_stamp_action, begin_call_action, MayBeginCall, MayLoadValue}
-use Rattle.values_rule.specs.Steps.{MayStoreValue, MayUndoStore, MayCommitCall, commit_call_action, MayClearStamp}
-use Rattle.locks_rule.specs.Versions.{MayLoadVersion, load_version_action, MayStoreVersion, store_version_action}
 use Rattle.values_rule.proofs.Phases.{undoing_idle}
 
 pub begin_call_locks : (n : ℕ) (base : List ℕ) (j : ℕ) → Keeps (LocksHold n base) (MayBeginCall j) (begin_call_action j)

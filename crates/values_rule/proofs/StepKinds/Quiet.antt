@@ -1,23 +1,11 @@
 -- The giving up of locks outside an attempt, the end of a call, and another attempt keep the value invariant.
-use Rattle.std.proofs.Common.{◌≡◌, ℕ, true, false, inl, ⊎_elim, List, [], length, Some, None, slice_set, refl, sym, ap, ◌∙◌, subst}
-use Rattle.history_model.specs.declared.entry.Abandoned.{Abandoned}
-use Rattle.history_model.specs.declared.entry.Entry.{Entry}
-use Rattle.history_model.specs.declared.view.View.{View}
-use Rattle.history_model.specs.declared.view.Phase.TheVariants.{Running}
-use Rattle.history_model.specs.Counts.{is_attempt, is_open}
-use Rattle.history_model.specs.Legal.{IsIn}
-use Rattle.history_model.specs.Sets.{has}
-use Rattle.history_model.specs.Table.{Knows}
-use Rattle.history_model.specs.Undoing.{Notes}
-use Rattle.locks_rule.specs.Locks.{LocksHold}
-use Rattle.values_rule.specs.Values.{oldest}
+use Rattle.values_rule.proofs.Common.{◌≡◌, ℕ, true, false, inl, ⊎_elim, List, [], length, Some, None, slice_set, refl, sym, ap, ◌∙◌, subst, Abandoned, Entry}
+use Rattle.values_rule.proofs.Common.{View, Running, is_attempt, is_open, IsIn, has, Knows, Notes, LocksHold, oldest, now_of, SameValueWords, AreCauses}
+use Rattle.values_rule.proofs.Common.{ValuesHold}
 use Rattle.values_rule.proofs.Members.{none_in}
 use Rattle.values_rule.proofs.Notes.{oldest-nil}
 use Rattle.values_rule.proofs.Traces.{fresh_trace}
-use Rattle.values_rule.specs.History.{now_of}
-use Rattle.values_rule.specs.Keeping.{IsQuiet, SameValueWords, QuietKeeps, RestartKeeps}
-use Rattle.values_rule.specs.Records.{AreCauses}
-use Rattle.values_rule.specs.Versions.{ValuesHold}
+use Rattle.values_rule.specs.Keeping.{IsQuiet, QuietKeeps, RestartKeeps}
 use Rattle.values_rule.proofs.Told.Excludes.{not_released}
 use Rattle.values_rule.proofs.Phases.{open_begun}
 use Rattle.values_rule.proofs.Parts.Frames.{calls_same}

@@ -1,27 +1,12 @@
 -- A commit, kept or not: what stays of the words, the entries as records, and the numbers of calls.
-use Rattle.std.proofs.Common.{◌≡◌, ◌≢◌, ℕ, ◌^◌, ◌<◌, ◌≤◌, Bool, true, false, ◌⊎◌, inl, inr, ⊎_elim, List, [], ◌∷◌, Some, slice_get}
-use Rattle.std.proofs.Common.{slice_index, slice_set, refl, sym, ap, ◌∙◌, subst, arith, get_or-set_other, get_or-set_same}
-use mathlib.Core.Logic.{dite}
-use native.Mathlib.Decide.{ℕ_discrete, dec_lt}
-use Rattle.history_model.specs.declared.entry.Entry.{Entry}
-use Rattle.history_model.specs.declared.item.Item.{Item}
-use Rattle.history_model.specs.declared.view.View.{View}
-use Rattle.history_model.specs.declared.view.Phase.TheVariants.{Idle}
-use Rattle.history_model.specs.Counts.{is_open}
-use Rattle.history_model.specs.Legal.{IsIn}
-use Rattle.history_model.specs.Sets.{has}
-use Rattle.history_model.specs.Table.{Knows, calls_word, commits_word, version_word, value_word}
-use Rattle.history_model.specs.Views.{number}
-use Rattle.history_model.proofs.ListPlaces.{get_cases}
-use Rattle.history_model.proofs.Views.Places.{same_view, put_here, put_there, put_cases}
-use Rattle.locks_rule.specs.Locks.{LocksHold, IsSeat}
-use Rattle.locks_rule.proofs.Own.{Own, is_own}
-use Rattle.values_rule.specs.Values.{table_value}
+use Rattle.values_rule.proofs.Common.{◌≡◌, ◌≢◌, ℕ, ◌^◌, ◌<◌, ◌≤◌, Bool, true, false, ◌⊎◌, inl, inr, ⊎_elim, List, [], ◌∷◌, Some, slice_get, slice_index}
+use Rattle.values_rule.proofs.Common.{slice_set, refl, sym, ap, ◌∙◌, subst, arith, get_or-set_other, get_or-set_same, dite, ℕ_discrete, dec_lt, Entry, Item}
+use Rattle.values_rule.proofs.Common.{View, Idle, is_open, IsIn, has, Knows, calls_word, commits_word, version_word, value_word, number, get_cases, same_view}
+use Rattle.values_rule.proofs.Common.{put_here, put_there, put_cases, LocksHold, IsSeat, Own, table_value, last_call, item_of_entry, version_at, IsRecorded}
+use Rattle.values_rule.proofs.Common.{Knew, AreCauses, RecordsClosed, CallsCounted, MayCommitCall, entry_of, after_commit, ValuesHold}
+use Rattle.locks_rule.proofs.Own.{is_own}
 use Rattle.values_rule.proofs.Members.{in_join, none_in, in_first, in_second}
-use Rattle.values_rule.specs.History.{last_call, item_of_entry, version_at}
-use Rattle.values_rule.specs.Records.{IsRecorded, Knew, KnewSoMany, AreCauses, RecordsClosed, CallsCounted}
-use Rattle.values_rule.specs.Steps.{MayCommitCall, entry_of, after_commit}
-use Rattle.values_rule.specs.Versions.{ValuesHold}
+use Rattle.values_rule.specs.Records.{KnewSoMany}
 use Rattle.values_rule.proofs.Phases.{attempt_open, open_begun}
 use Rattle.values_rule.proofs.Told.ItemsIn.{in_parts}
 use Rattle.values_rule.proofs.Told.Knowing.{last_least, last_is, last_more, knew_at, knew_past}

@@ -1,25 +1,9 @@
 -- A step on a word of another rule keeps the value invariant.
-use Rattle.std.proofs.Common.{◌≡◌, ◌≢◌, ℕ, ◌≤◌, true, inl, inr, ⊎_elim, List, length, Some, None, IsSome, slice_get, slice_index, slice_set, sym, ap, ◌∙◌}
-use Rattle.std.proofs.Common.{subst, arith}
-use Rattle.history_model.specs.declared.entry.Abandoned.{Abandoned}
-use Rattle.history_model.specs.declared.entry.Entry.{Entry}
-use Rattle.history_model.specs.declared.item.Item.{Item}
-use Rattle.history_model.specs.declared.view.View.{View}
-use Rattle.history_model.specs.declared.view.Phase.TheVariants.{Idle}
-use Rattle.history_model.specs.Counts.{is_attempt, is_open}
-use Rattle.history_model.specs.Legal.{IsIn}
-use Rattle.history_model.specs.Locks.{lock_of_word}
-use Rattle.history_model.specs.Sets.{has}
-use Rattle.history_model.specs.Table.{Knows}
-use Rattle.history_model.specs.Traces.{Trace, IsLegalTrace, Writes, Touches, value_after}
-use Rattle.history_model.specs.Undoing.{Notes}
-use Rattle.history_model.specs.Views.{number}
-use Rattle.locks_rule.specs.Locks.{LocksHold}
-use Rattle.values_rule.specs.Values.{oldest}
-use Rattle.values_rule.specs.History.{knew_of, item_of_attempt, now_of}
-use Rattle.values_rule.specs.Keeping.{SameValues, SameValueWords, AsideKeeps}
-use Rattle.values_rule.specs.Records.{AreCauses}
-use Rattle.values_rule.specs.Versions.{ValuesHold}
+use Rattle.values_rule.proofs.Common.{◌≡◌, ◌≢◌, ℕ, ◌≤◌, true, inl, inr, ⊎_elim, List, length, Some, None, IsSome, slice_get, slice_index, slice_set, sym, ap}
+use Rattle.values_rule.proofs.Common.{◌∙◌, subst, arith, Abandoned, Entry, Item, View, Idle, is_attempt, is_open, IsIn, lock_of_word, has, Knows, Trace}
+use Rattle.values_rule.proofs.Common.{IsLegalTrace, Writes, Touches, value_after, Notes, number, LocksHold, oldest, knew_of, item_of_attempt, now_of}
+use Rattle.values_rule.proofs.Common.{SameValues, SameValueWords, AreCauses, ValuesHold}
+use Rattle.values_rule.specs.Keeping.{AsideKeeps}
 use Rattle.values_rule.proofs.Parts.Asides.{OwnAttempt}
 use Rattle.values_rule.proofs.Parts.Frames.{calls_same}
 use Rattle.values_rule.proofs.Parts.Moves.{moves}

@@ -1,37 +1,18 @@
 -- A load, a store and its undoing keep the value invariant.
-use Rattle.std.proofs.Common.{◌≡◌, ◌≢◌, ℕ, ◌-◌, ◌<◌, true, inl, inr, ⊎_elim, List, [], ◌∷◌, ◌++◌, length, take, Option, Some, None, IsSome, unwrap_or}
-use Rattle.std.proofs.Common.{slice_get, slice_index, slice_set, refl, sym, ap, ◌∙◌, subst, arith, get_or-set_other}
-use Rattle.std.proofs.lemmas.Option.{same_Some}
-use mathlib.Core.Logic.{dite}
-use native.Mathlib.Decide.{ℕ_discrete}
-use Rattle.history_model.specs.declared.event.Event.TheVariants.{Read, Write}
-use Rattle.history_model.specs.declared.view.View.{View}
-use Rattle.history_model.specs.declared.view.Phase.{Phase}
-use Rattle.history_model.specs.declared.view.Phase.TheVariants.{Idle, Running, Yielding, Withdrawing, Releasing}
-use Rattle.history_model.specs.Counts.{is_attempt, is_open}
-use Rattle.history_model.specs.Locks.{lock_of_word}
-use Rattle.history_model.specs.Table.{Knows, serial_word, calls_word, commits_word, version_word, value_word}
-use Rattle.history_model.specs.Traces.{Trace, after, Writes, Touches, value_after}
-use Rattle.history_model.specs.Undoing.{Notes}
-use Rattle.history_model.specs.Views.{HasWriteGrant, IsGranted}
-use Rattle.history_model.specs.Legal.{IsIn}
+use Rattle.values_rule.proofs.Common.{◌≡◌, ◌≢◌, ℕ, ◌-◌, ◌<◌, true, inl, inr, ⊎_elim, List, [], ◌∷◌, ◌++◌, length, take, Option, Some, None, IsSome, slice_get}
+use Rattle.values_rule.proofs.Common.{slice_index, slice_set, refl, sym, ap, ◌∙◌, subst, arith, get_or-set_other, same_Some, dite, ℕ_discrete, Read, Write}
+use Rattle.values_rule.proofs.Common.{View, Phase, Idle, Running, Yielding, Withdrawing, Releasing, is_attempt, is_open, lock_of_word, Knows, serial_word}
+use Rattle.values_rule.proofs.Common.{calls_word, commits_word, version_word, value_word, Trace, after, Writes, Touches, value_after, Notes, HasWriteGrant}
+use Rattle.values_rule.proofs.Common.{IsGranted, IsIn, same_view, get_last, LocksHold, own, load_value_action, store_value_action, undo_store_action}
+use Rattle.values_rule.proofs.Common.{undoing_phase, MayLoadValue, MayStoreValue, MayUndoStore, table_value, oldest, KeepsValueRule, ValuesHold, now_of}
+use Rattle.std.proofs.Common.{unwrap_or}
 use Rattle.history_model.proofs.Traces.EndEvents.{touches_read, writes_read, writes_first, touches_write, writes_write, last_write, last_read_same}
-use Rattle.history_model.proofs.Traces.EndEvents.{last_read_other}
-use Rattle.history_model.proofs.Traces.EndEvents.{last_write_same, last_write_other}
-use Rattle.history_model.proofs.Views.Places.{same_view}
+use Rattle.history_model.proofs.Traces.EndEvents.{last_read_other, last_write_same, last_write_other}
 use Rattle.history_model.proofs.Traces.TraceLaws.{legal_read, legal_write}
-use Rattle.history_model.proofs.ListPlaces.{get_last}
-use Rattle.locks_rule.specs.Locks.{LocksHold}
-use Rattle.locks_rule.proofs.Own.{own}
-use Rattle.values_rule.specs.Steps.{load_value_action, store_value_action, known_value, undo_store_action, undoing_phase, MayLoadValue, MayStoreValue}
-use Rattle.values_rule.specs.Steps.{MayUndoStore}
-use Rattle.values_rule.specs.Values.{table_value, oldest}
+use Rattle.values_rule.specs.Steps.{known_value}
 use Rattle.values_rule.proofs.Notes.{option_cases, is_missing, oldest_more, oldest_first, oldest_one, oldest_other, oldest_apart, older_is}
 use Rattle.values_rule.proofs.Stores.{shut_out, in_base, set_here, set_there, not_none}
 use Rattle.values_rule.proofs.Phases.{undoing_attempt, undoing_open, undoing_runs, undoing_rests, open_begun}
-use Rattle.values_rule.specs.Keeping.{KeepsValueRule}
-use Rattle.values_rule.specs.Versions.{ValuesHold}
-use Rattle.values_rule.specs.History.{now_of}
 use Rattle.values_rule.proofs.Told.Owing.{version_kept}
 use Rattle.values_rule.proofs.Parts.Frames.{calls_same}
 use Rattle.values_rule.proofs.Told.Current.{current}

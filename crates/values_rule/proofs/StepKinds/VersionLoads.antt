@@ -1,28 +1,11 @@
 -- A load of a lock's version keeps the value invariant.
-use Rattle.std.proofs.Common.{◌≡◌, ◌≢◌, ℕ, true, ◌⊎◌, inl, inr, ⊎_elim, List, [], ◌∷◌, ◌++◌, length, slice_index, slice_set, refl, sym, ap, ◌∙◌, subst, arith}
+use Rattle.values_rule.proofs.Common.{◌≡◌, ◌≢◌, ℕ, true, ◌⊎◌, inl, inr, ⊎_elim, List, [], ◌∷◌, ◌++◌, length, slice_index, slice_set, refl, sym, ap, ◌∙◌, subst}
+use Rattle.values_rule.proofs.Common.{arith, dite, ℕ_discrete, View, Idle, Running, Drops, is_attempt, is_open, IsIn, has, flag, Knows, version_word, IsGranted}
+use Rattle.values_rule.proofs.Common.{lock_of_word, Touches, same_view, put_here, put_there, put_cases, LocksHold, UndoRestores, TraceCurrent, AreCauses}
+use Rattle.values_rule.proofs.Common.{items_of, owed_by, next_version, now_of, KeepsValueRule, MayLoadVersion, load_version_action, ValuesHold}
 use Rattle.std.proofs.lemmas.List.{set-get_or}
-use mathlib.Core.Logic.{dite}
-use native.Mathlib.Decide.{ℕ_discrete}
-use Rattle.history_model.specs.declared.view.View.{View}
-use Rattle.history_model.specs.declared.view.Phase.TheVariants.{Idle, Running}
-use Rattle.history_model.specs.Arrangements.{Drops}
-use Rattle.history_model.specs.Counts.{is_attempt, is_open}
-use Rattle.history_model.specs.Legal.{IsIn}
-use Rattle.history_model.specs.Sets.{has, flag}
-use Rattle.history_model.specs.Table.{Knows, version_word}
-use Rattle.history_model.specs.Views.{IsGranted}
-use Rattle.history_model.specs.Locks.{lock_of_word}
-use Rattle.history_model.specs.Traces.{Touches}
-use Rattle.history_model.proofs.Views.Places.{same_view, put_here, put_there, put_cases}
-use Rattle.locks_rule.specs.Locks.{LocksHold}
 use Rattle.locks_rule.proofs.Own.{granted_near}
-use Rattle.values_rule.specs.Values.{UndoRestores, TraceCurrent}
 use Rattle.values_rule.proofs.Members.{in_join, none_in, in_first}
-use Rattle.values_rule.specs.Records.{AreCauses}
-use Rattle.values_rule.specs.History.{items_of, owed_by, next_version, now_of}
-use Rattle.values_rule.specs.Keeping.{KeepsValueRule}
-use Rattle.locks_rule.specs.Versions.{MayLoadVersion, load_version_action}
-use Rattle.values_rule.specs.Versions.{ValuesHold}
 use Rattle.values_rule.proofs.Parts.Asides.{aside_drops}
 use Rattle.values_rule.proofs.Told.Excludes.{not_released}
 use Rattle.values_rule.proofs.Parts.Frames.{records_same, calls_same, memory_same, items_kept, now_kept}

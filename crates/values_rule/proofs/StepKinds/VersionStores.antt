@@ -1,28 +1,13 @@
 -- A store of a lock's version keeps the value invariant.
-use Rattle.std.proofs.Common.{◌≡◌, ◌≢◌, ℕ, ◌+◌, ◌<◌, true, false, ◌⊎◌, inr, ⊎_elim, List, slice_index, slice_set, refl, sym, ap, ◌∙◌, subst, arith}
-use Rattle.std.proofs.Common.{get_or-set_other, get_or-set_same}
-use mathlib.Core.Logic.{dite}
-use native.Mathlib.Decide.{ℕ_discrete}
-use Rattle.history_model.specs.declared.TheConstants.{LOCKS}
-use Rattle.history_model.specs.declared.view.View.{View}
-use Rattle.history_model.specs.declared.view.Phase.TheVariants.{Idle, Releasing}
-use Rattle.history_model.specs.Arrangements.{Drops}
-use Rattle.history_model.specs.Counts.{is_attempt, is_open}
-use Rattle.history_model.specs.Legal.{IsIn}
-use Rattle.history_model.specs.Sets.{has, flag, without}
-use Rattle.history_model.specs.Table.{Knows, serial_word, calls_word, commits_word, version_word, value_word}
-use Rattle.history_model.specs.Views.{HasWriteGrant}
-use Rattle.history_model.proofs.Views.Places.{same_view, put_here, put_there, put_cases}
-use Rattle.history_model.proofs.SetLemmas.{differ, has-without_same, has-without_other, has-without}
-use Rattle.locks_rule.specs.Locks.{LocksHold}
-use Rattle.locks_rule.proofs.Own.{Own}
-use Rattle.values_rule.specs.Values.{table_value, UndoRestores, TraceCurrent}
+use Rattle.values_rule.proofs.Common.{◌≡◌, ◌≢◌, ℕ, ◌+◌, ◌<◌, true, false, ◌⊎◌, inr, ⊎_elim, List, slice_index, slice_set, refl, sym, ap, ◌∙◌, subst, arith}
+use Rattle.values_rule.proofs.Common.{get_or-set_other, get_or-set_same, dite, ℕ_discrete, LOCKS, View, Idle, Releasing, Drops, is_attempt, is_open, IsIn, has}
+use Rattle.values_rule.proofs.Common.{flag, Knows, serial_word, calls_word, commits_word, version_word, value_word, HasWriteGrant, same_view, put_here}
+use Rattle.values_rule.proofs.Common.{put_there, put_cases, differ, has-without_other, has-without, LocksHold, Own, table_value, UndoRestores, TraceCurrent}
+use Rattle.values_rule.proofs.Common.{AreCauses, version_at, items_of, owed_by, next_version, now_of, KeepsValueRule, MayStoreVersion, store_version_action}
+use Rattle.values_rule.proofs.Common.{ValuesHold}
+use Rattle.locks_rule.proofs.Common.{without}
+use Rattle.history_model.proofs.SetLemmas.{has-without_same}
 use Rattle.values_rule.proofs.Stores.{shut_out}
-use Rattle.values_rule.specs.Records.{AreCauses}
-use Rattle.values_rule.specs.History.{version_at, items_of, owed_by, next_version, now_of}
-use Rattle.values_rule.specs.Keeping.{KeepsValueRule}
-use Rattle.locks_rule.specs.Versions.{MayStoreVersion, store_version_action}
-use Rattle.values_rule.specs.Versions.{ValuesHold}
 use Rattle.values_rule.proofs.Parts.Asides.{aside_drops}
 use Rattle.values_rule.proofs.Parts.Frames.{records_same, calls_same, memory_same, items_kept, now_kept}
 use Rattle.values_rule.proofs.Told.Owing.{owed_same, owed_into, not_owed, version_is, version_apart}
@@ -44,9 +29,6 @@ module _ (good : List ℕ → Type 0) (n : ℕ) (base ws : List ℕ) (vs : List 
 
   own_ : Own n vs id j v
   own_ = mine good n base ws vs id j v h q me may.who
-
-  abbrev held_ : (v.phase ≡ Releasing) × HasWriteGrant v k × IsIn (k, version_at n ws k) v.uses
-  held_ = q.owed.held id k v me may.owed
 
   near : k < LOCKS
   near = (h.claims_show_in_writers id k v me (q.owed.held id k v me may.owed).1.0).2

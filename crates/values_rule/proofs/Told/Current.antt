@@ -1,25 +1,12 @@
 -- What a running attempt finds: a word that it may use stands as its own events and the newest values leave it.
-use Rattle.std.proofs.Common.{◌≡◌, ◌≢◌, ℕ, ◌<◌, true, inr, ⊎_elim, List, [], ◌∷◌, length, Some, None, slice_get, sym, ap, ◌∙◌, subst, arith}
-use mathlib.Core.Logic.{dite}
-use native.Mathlib.Decide.{ℕ_discrete}
-use Rattle.history_model.specs.declared.view.View.{View}
-use Rattle.history_model.specs.declared.view.Phase.TheVariants.{Running}
-use Rattle.history_model.specs.Locks.{lock_of_word}
-use Rattle.history_model.specs.Sets.{has}
-use Rattle.history_model.specs.Table.{Knows}
-use Rattle.history_model.specs.Traces.{after, value_after}
-use Rattle.history_model.specs.Views.{IsGranted}
-use Rattle.history_model.proofs.Traces.EndEvents.{last_event, no_event, touched_if_written}
-use Rattle.history_model.proofs.Traces.LastEvents.{get-after-value_after, last_from_touched}
-use Rattle.history_model.proofs.Views.Places.{same_view}
-use Rattle.history_model.proofs.SetLemmas.{has-join_same}
-use Rattle.locks_rule.specs.Locks.{LocksHold}
-use Rattle.values_rule.specs.Values.{table_value, oldest}
+use Rattle.values_rule.proofs.Common.{◌≡◌, ◌≢◌, ℕ, ◌<◌, true, inr, ⊎_elim, List, [], ◌∷◌, length, Some, None, slice_get, sym, ap, ◌∙◌, subst, arith, dite}
+use Rattle.values_rule.proofs.Common.{ℕ_discrete, View, Running, lock_of_word, has, Knows, after, value_after, IsGranted, last_event, touched_if_written}
+use Rattle.values_rule.proofs.Common.{get-after-value_after, last_from_touched, same_view, has-join_same, LocksHold, table_value, oldest, ValuesHold, items_of}
+use Rattle.values_rule.proofs.Common.{next_version, now_of}
+use Rattle.history_model.proofs.Traces.EndEvents.{no_event}
 use Rattle.values_rule.proofs.Notes.{option_cases, is_missing}
 use Rattle.values_rule.proofs.Stores.{shut_out}
 use Rattle.values_rule.proofs.Phases.{attempt_runs}
-use Rattle.values_rule.specs.Versions.{ValuesHold}
-use Rattle.values_rule.specs.History.{items_of, next_version, now_of}
 use Rattle.values_rule.proofs.Told.Newest.{length-newest}
 
 module _ (good : List ℕ → Type 0) (n : ℕ) (base ws : List ℕ) (vs : List View) (id j : ℕ) (v : View) (h : LocksHold n base ws vs)

@@ -1,19 +1,10 @@
 -- Which items there are.
-use Rattle.std.proofs.Common.{◌≡◌, ℕ, zero, suc, ◌+◌, Bool, true, false, ◌⊎◌, inl, inr, ⊎_elim, List, [], ◌∷◌, ◌++◌, Some, slice_get, if◌then◌else◌, refl, sym}
-use Rattle.std.proofs.Common.{ap, ◌∙◌, subst, arith}
-use Rattle.std.specs.List.{flat_map}
-use mathlib.Core.Option.{some, some-injective, some-ne-none}
-use Rattle.history_model.specs.declared.entry.Abandoned.{Abandoned}
-use Rattle.history_model.specs.declared.entry.Entry.{Entry}
-use Rattle.history_model.specs.declared.item.Item.{Item}
-use Rattle.history_model.specs.declared.view.View.{View}
-use Rattle.history_model.specs.Counts.{is_open}
-use Rattle.history_model.specs.Legal.{IsIn}
-use Rattle.history_model.specs.Table.{Knows}
-use Rattle.history_model.specs.Views.{number}
+use Rattle.values_rule.proofs.Common.{◌≡◌, ℕ, zero, suc, ◌+◌, Bool, true, false, ◌⊎◌, inl, inr, ⊎_elim, List, [], ◌∷◌, ◌++◌, Some, slice_get, if◌then◌else◌}
+use Rattle.values_rule.proofs.Common.{refl, sym, ap, ◌∙◌, subst, arith, flat_map, some-injective, some-ne-none, Abandoned, Entry, Item, View, is_open, IsIn}
+use Rattle.values_rule.proofs.Common.{Knows, number, knew_of, item_of_attempt, item_of_entry, items_of_entry, items_of, IsRecorded}
+use mathlib.Core.Option.{some}
 use Rattle.values_rule.proofs.Members.{in_join, none_in, in_first, in_second}
-use Rattle.values_rule.specs.History.{knew_of, item_of_attempt, items_of_attempts, item_of_entry, items_of_entry, items_of_view, items_of}
-use Rattle.values_rule.specs.Records.{IsRecorded}
+use Rattle.values_rule.specs.History.{items_of_attempts, items_of_view}
 
 pub in_parts : {A : Type 0} (xs ys : List A) (z : A) → IsIn z (xs ++ ys) → IsIn z xs ⊎ IsIn z ys
 in_parts [] ys z m = inr m

@@ -1,13 +1,10 @@
 -- The last call of each seat among entries.
-use Rattle.std.proofs.Common.{◌≡◌, ◌≢◌, ℕ, zero, suc, ◌+◌, ◌<◌, ◌≤◌, ◌⊎◌, inl, inr, ⊎_elim, List, [], ◌∷◌, ◌++◌, refl, sym, ap, ◌∙◌, arith, eq-eqb, ne_eqb}
+use Rattle.values_rule.proofs.Common.{◌≡◌, ℕ, zero, suc, ◌+◌, ◌<◌, ◌≤◌, ◌⊎◌, inl, inr, ⊎_elim, List, [], ◌∷◌, ◌++◌, refl, sym, ap, ◌∙◌, arith, eq-eqb, ne_eqb}
+use Rattle.values_rule.proofs.Common.{dite, ℕ_discrete, dec_lt, Entry, IsIn, knew_of}
 use Rattle.std.specs.Prelude.{slice_index, max}
 use Rattle.std.proofs.Math.Nat.{le-max_left, le-max_right}
-use mathlib.Core.Logic.{dite}
-use native.Mathlib.Decide.{ℕ_discrete, dec_lt}
-use Rattle.history_model.specs.declared.entry.Entry.{Entry}
-use Rattle.history_model.specs.Legal.{IsIn}
 use Rattle.values_rule.proofs.Members.{in_join, none_in}
-use Rattle.values_rule.specs.History.{last_call, knew_from, knew_of}
+use Rattle.values_rule.specs.History.{last_call, knew_from}
 
 max_cases : (a b : ℕ) → (max a b ≡ a) ⊎ (max a b ≡ b)
 max_cases a b = dite (dec_lt a b) (λ l. inr (omega arith)) (λ n. inl (omega arith))
@@ -47,13 +44,6 @@ last_more j (x ∷ es) e own le = dite (ℕ_discrete x.who j)
     let m = le-max_left x.call (last_call j es) in let r = le-max_right x.call (last_call j es) in
     rw (eq-eqb x.who j q, last_more j es e own (omega arith)) (omega arith))
     (λ n. rw (ne_eqb x.who j n) (last_more j es e own (rw (ne_eqb x.who j n) at le)))
-
-pub last_other : (j : ℕ) (es : List Entry) (e : Entry) → e.who ≢ j → last_call j (es ++ e ∷ []) ≡ last_call j es
-unfolding last_call
-last_other j [] e away = rw (ne_eqb e.who j away) refl
-last_other j (x ∷ es) e away = dite (ℕ_discrete x.who j)
-    (λ q. rw (eq-eqb x.who j q, last_other j es e away) refl)
-    (λ n. rw (ne_eqb x.who j n) (last_other j es e away))
 
 knew_from-at : (i n k : ℕ) (es : List Entry) → k < n → slice_index (knew_from i n es) k ≡ last_call (i + k) es
 unfolding knew_from

@@ -1,15 +1,9 @@
 -- The newest values, and how one item more or the same items change them.
-use Rattle.std.proofs.Common.{◌≡◌, ℕ, zero, suc, ◌+◌, ◌<◌, ⊎_elim, List, [], ◌∷◌, length, Some, slice_get, if◌then◌else◌, refl, sym, ap, ◌∙◌, arith}
-use Rattle.std.proofs.lemmas.Option.{slice_get_within}
-use Rattle.history_model.specs.declared.item.Item.{Item}
+use Rattle.values_rule.proofs.Common.{◌≡◌, ℕ, zero, suc, ◌+◌, ◌<◌, ⊎_elim, List, [], ◌∷◌, length, Some, slice_get, if◌then◌else◌, refl, sym, ap, ◌∙◌, arith}
+use Rattle.values_rule.proofs.Common.{slice_get_within, Item, value_at, lock_of_word, after, same_list, bool_cases}
 use Rattle.history_model.specs.Arrangements.{WritesNewest}
-use Rattle.history_model.specs.Items.{value_at}
-use Rattle.history_model.specs.Locks.{lock_of_word}
-use Rattle.history_model.specs.Traces.{after}
-use Rattle.history_model.proofs.ListPlaces.{same_list}
 use Rattle.history_model.proofs.Traces.TraceLaws.{length-after}
 use Rattle.history_model.proofs.Traces.LastEvents.{get-after-last_written}
-use Rattle.history_model.proofs.SetLemmas.{bool_cases}
 use Rattle.values_rule.specs.History.{newest_from, newest}
 
 length-newest_from : (base : List ℕ) (items : List Item) (next : ℕ → ℕ) (i : ℕ) (xs : List ℕ) → length (newest_from base items next i xs) ≡ length xs

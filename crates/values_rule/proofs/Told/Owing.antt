@@ -1,16 +1,10 @@
 -- Which locks are owed, and what a step of one view leaves of that.
-use Rattle.std.proofs.Common.{◌≡◌, ℕ, zero, suc, ◌<◌, ◌≤◌, true, false, ◌⊎◌, inl, inr, ⊎_elim, List, [], ◌∷◌, refl, sym, ap, ◌∙◌, arith}
-use Rattle.std.specs.Prelude.{slice_index, nat_lt, if◌then◌else◌}
-use Rattle.std.proofs.lemmas.Bool.{lt-ltb, le-ltb, or_cases, or_left, or_right}
-use mathlib.Core.Logic.{dite}
-use native.Mathlib.Decide.{dec_lt}
-use mathlib.Core.Option.{some-injective, some-ne-none}
-use Rattle.history_model.specs.declared.TheConstants.{LOCKS}
-use Rattle.history_model.specs.declared.view.View.{View}
-use Rattle.history_model.specs.Sets.{has}
-use Rattle.history_model.specs.Table.{Knows, version_word}
-use Rattle.history_model.proofs.SetLemmas.{differ, bool_cases, not_true}
-use Rattle.values_rule.specs.History.{version_at, owed_by}
+use Rattle.values_rule.proofs.Common.{◌≡◌, ℕ, zero, suc, ◌<◌, ◌≤◌, true, false, ◌⊎◌, inl, inr, ⊎_elim, List, [], ◌∷◌, refl, sym, ap, ◌∙◌, arith, nat_lt}
+use Rattle.values_rule.proofs.Common.{or_cases, or_left, or_right, dite, dec_lt, some-injective, some-ne-none, LOCKS, View, has, Knows, version_word, differ}
+use Rattle.values_rule.proofs.Common.{bool_cases, not_true, version_at}
+use Rattle.std.specs.Prelude.{slice_index, if◌then◌else◌}
+use Rattle.std.proofs.lemmas.Bool.{lt-ltb, le-ltb}
+use Rattle.values_rule.specs.History.{owed_by}
 
 -- a view owes the lock
 pub record Owes (k : ℕ) (vs : List View) : Type 0 where

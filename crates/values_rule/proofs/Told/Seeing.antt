@@ -1,31 +1,14 @@
 -- What the invariant says to a seat in a call: what is recorded of it, who knew it, and that nobody owes a lock that it
 -- holds.
-use Rattle.std.proofs.Common.{◌≡◌, ◌≢◌, ℕ, ◌<◌, Bool, true, false, ◌&&◌, ⊎_elim, List, [], ◌∷◌, length, Some, slice_get, sym, ap, ◌∙◌, subst, arith}
+use Rattle.values_rule.proofs.Common.{◌≡◌, ◌≢◌, ℕ, ◌<◌, Bool, true, false, ◌&&◌, ⊎_elim, List, [], ◌∷◌, length, Some, slice_get, sym, ap, ◌∙◌, subst, arith}
+use Rattle.values_rule.proofs.Common.{slice_get_within, dite, ℕ_discrete, dec_lt, Entry, Item, View, is_attempt, is_open, Uses, value_at, IsIn, lock_of_word}
+use Rattle.values_rule.proofs.Common.{has, Knows, IsLegalTrace, number, IsGranted, same_view, legal_agree, LocksHold, Own, own, uses_of, writes_lock, last_call}
+use Rattle.values_rule.proofs.Common.{knew_of, items_of, owed_by, next_version, now_of, IsRecorded, ValuesHold}
+use Rattle.history_model.proofs.Common.{LegalOnValues}
 use Rattle.std.specs.Prelude.{slice_index}
-use Rattle.std.proofs.lemmas.Option.{slice_get_within}
-use mathlib.Core.Logic.{dite}
-use native.Mathlib.Decide.{ℕ_discrete, dec_lt}
-use Rattle.history_model.specs.declared.entry.Entry.{Entry}
-use Rattle.history_model.specs.declared.item.Item.{Item}
-use Rattle.history_model.specs.declared.view.View.{View}
-use Rattle.history_model.specs.Counts.{is_attempt, is_open}
-use Rattle.history_model.specs.Items.{LegalOnValues, Uses, value_at}
-use Rattle.history_model.specs.Legal.{IsIn}
-use Rattle.history_model.specs.Locks.{lock_of_word}
-use Rattle.history_model.specs.Sets.{has}
-use Rattle.history_model.specs.Table.{Knows}
-use Rattle.history_model.specs.Traces.{IsLegalTrace}
-use Rattle.history_model.specs.Views.{number, IsGranted}
 use Rattle.history_model.specs.Arrangements.{ComesLast}
-use Rattle.history_model.proofs.Views.Places.{same_view}
-use Rattle.history_model.proofs.Traces.TraceAgree.{legal_agree}
-use Rattle.locks_rule.specs.Locks.{LocksHold}
-use Rattle.locks_rule.proofs.Own.{Own, own, own_number}
+use Rattle.locks_rule.proofs.Own.{own_number}
 use Rattle.values_rule.proofs.Stores.{shut_out}
-use Rattle.locks_rule.specs.Versions.{uses_of, writes_lock}
-use Rattle.values_rule.specs.History.{last_call, knew_of, items_of, owed_by, next_version, now_of}
-use Rattle.values_rule.specs.Records.{IsRecorded}
-use Rattle.values_rule.specs.Versions.{ValuesHold}
 use Rattle.values_rule.proofs.Told.Excludes.{not_released}
 use Rattle.values_rule.proofs.Phases.{attempt_open, open_begun}
 use Rattle.values_rule.proofs.Told.ItemsIn.{IsAttemptOf, OfEntry, OfOpen, items_from}

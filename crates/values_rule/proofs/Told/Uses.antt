@@ -1,22 +1,12 @@
 -- The uses of an attempt, and the item that they make.
-use Rattle.std.proofs.Common.{◌≡◌, ℕ, zero, suc, Bool, true, false, ◌&&◌, ◌||◌, ⊎_elim, List, [], ◌∷◌, Some, slice_get, refl, sym, ap, ◌∙◌, subst, eq-eqb}
-use Rattle.std.proofs.Common.{ne_eqb}
-use Rattle.std.specs.Prelude.{◌==◌}
-use Rattle.std.proofs.lemmas.Bool.{and_parts}
-use mathlib.Core.Logic.{dite}
-use native.Mathlib.Decide.{ℕ_discrete}
-use Rattle.history_model.specs.declared.event.Event.TheVariants.{Read, Write}
-use Rattle.history_model.specs.declared.item.Item.{Item}
-use Rattle.history_model.specs.declared.item.LockUse.{LockUse}
-use Rattle.history_model.specs.Items.{HasUse, Uses, IsItem}
-use Rattle.history_model.specs.Legal.{IsIn}
-use Rattle.history_model.specs.Locks.{lock_of_word}
-use Rattle.history_model.specs.Sets.{has}
-use Rattle.history_model.specs.Traces.{Trace, Writes, Touches}
-use Rattle.history_model.specs.Undoing.{Notes}
-use Rattle.history_model.proofs.SetLemmas.{has-nil, has-join, has-join_same, has-join_old, differ}
+use Rattle.values_rule.proofs.Common.{◌≡◌, ℕ, zero, suc, Bool, true, false, ◌&&◌, ◌||◌, ⊎_elim, List, [], ◌∷◌, Some, slice_get, refl, sym, ap, ◌∙◌, subst}
+use Rattle.values_rule.proofs.Common.{eq-eqb, ne_eqb, ◌==◌, and_parts, dite, ℕ_discrete, Read, Write, Item, LockUse, Uses, IsIn, lock_of_word, has, Trace}
+use Rattle.values_rule.proofs.Common.{Writes, Touches, Notes, has-nil, has-join_same, has-join_old, differ, uses_of, locks_of}
+use Rattle.history_model.proofs.Common.{IsItem}
+use Rattle.locks_rule.proofs.Common.{has-join}
+use Rattle.history_model.specs.Items.{HasUse}
 use Rattle.values_rule.specs.Values.{oldest}
-use Rattle.locks_rule.specs.Versions.{writes_lock, use_of, uses_of, locks_of}
+use Rattle.locks_rule.specs.Versions.{writes_lock, use_of}
 use Rattle.history_model.proofs.ListPlaces.{map_at, at_map}
 
 -- the test of a write under a lock

@@ -1,28 +1,10 @@
 -- A view between calls that has all numbers has seen all entries, and the memory is what they leave.
-use Rattle.std.proofs.Common.{◌≡◌, ◌≢◌, ℕ, ◌<◌, true, inl, ⊎_elim, List, [], length, Some, None, slice_get, refl, sym, ap, ◌∙◌, subst, arith}
-use Rattle.std.specs.List.{flat_map}
-use Rattle.history_model.specs.declared.entry.Entry.{Entry}
-use Rattle.history_model.specs.declared.item.Item.{Item}
-use Rattle.history_model.specs.declared.view.View.{View}
-use Rattle.history_model.specs.declared.view.Phase.TheVariants.{Idle, Releasing}
-use Rattle.history_model.specs.Arrangements.{IsArrangement, Drops, passing}
-use Rattle.history_model.specs.Items.{AgreeWithVersions, replay_items}
-use Rattle.history_model.specs.Legal.{IsIn}
-use Rattle.history_model.specs.Locks.{lock_of_word}
-use Rattle.history_model.specs.Sets.{has, flag}
-use Rattle.history_model.specs.Table.{Knows}
-use Rattle.history_model.specs.Undoing.{Notes}
-use Rattle.history_model.proofs.Items.ItemDrops.{drops_agree, drops_arranged, drops_values}
-use Rattle.history_model.proofs.Items.ItemEnds.{arranged}
-use Rattle.history_model.proofs.Items.ItemOrders.{is_newest}
-use Rattle.history_model.proofs.Views.Places.{same_view}
-use Rattle.history_model.proofs.SetLemmas.{has-join_same}
-use Rattle.locks_rule.specs.Locks.{LocksHold, IsSeat}
-use Rattle.values_rule.specs.Values.{table_value, oldest}
+use Rattle.values_rule.proofs.Common.{◌≡◌, ◌≢◌, ℕ, ◌<◌, true, inl, ⊎_elim, List, [], length, Some, None, slice_get, refl, sym, ap, ◌∙◌, subst, arith, flat_map}
+use Rattle.values_rule.proofs.Common.{Entry, Item, View, Idle, Releasing, IsArrangement, Drops, passing, AgreeWithVersions, replay_items, IsIn, lock_of_word}
+use Rattle.values_rule.proofs.Common.{has, flag, Knows, Notes, drops_agree, drops_arranged, drops_values, arranged, is_newest, same_view, has-join_same}
+use Rattle.values_rule.proofs.Common.{LocksHold, IsSeat, table_value, oldest, version_at, items_of_entry, items_of, owed_by, next_version, IsRecorded}
+use Rattle.values_rule.proofs.Common.{ValuesHold}
 use Rattle.values_rule.proofs.Notes.{oldest-nil, option_cases}
-use Rattle.values_rule.specs.History.{version_at, items_of_entry, items_of, owed_by, next_version}
-use Rattle.values_rule.specs.Records.{IsRecorded}
-use Rattle.values_rule.specs.Versions.{ValuesHold}
 use Rattle.values_rule.proofs.Phases.{open_begun}
 use Rattle.values_rule.proofs.Parts.Frames.{agree_by}
 use Rattle.values_rule.proofs.Told.ItemsIn.{OfEntry, OfOpen, items_from, items_into, entry_from, entry_into, flat_map_in, in_flat_map}

@@ -1,28 +1,11 @@
 -- Every arrangement is a legal history.
-use Rattle.std.proofs.Common.{◌≡◌, ℕ, ◌<◌, ◌≤◌, true, false, inl, inr, ⊎_elim, List, [], ◌∷◌, length, Some, slice_get, slice_index, refl, sym, ap, ◌∙◌, subst}
-use Rattle.std.proofs.Common.{arith}
-use Rattle.std.proofs.lemmas.Option.{slice_get_within}
-use mathlib.Core.Logic.{dite}
-use native.Mathlib.Decide.{ℕ_discrete, dec_lt}
-use Rattle.history_model.specs.declared.entry.Entry.{Entry}
-use Rattle.history_model.specs.declared.item.Item.{Item}
-use Rattle.history_model.specs.declared.view.View.{View}
-use Rattle.history_model.specs.Arrangements.{IsArrangement, ComesBefore}
-use Rattle.history_model.specs.Counts.{is_attempt, is_open}
-use Rattle.history_model.specs.Items.{replay_items}
-use Rattle.history_model.specs.Legal.{IsIn}
-use Rattle.history_model.specs.Sets.{has}
-use Rattle.history_model.specs.Table.{Knows}
-use Rattle.history_model.specs.Traces.{IsLegalTrace}
-use Rattle.history_model.specs.Views.{number}
-use Rattle.history_model.proofs.Items.ItemEnds.{arranged}
-use Rattle.history_model.proofs.Items.ItemOrders.{is_legal, is_newest, end_good, length-replay_items}
-use Rattle.history_model.proofs.SetLemmas.{has-join_same}
-use Rattle.locks_rule.specs.Locks.{LocksHold, IsSeat}
+use Rattle.values_rule.proofs.Common.{◌≡◌, ℕ, ◌<◌, ◌≤◌, true, false, inl, inr, ⊎_elim, List, [], ◌∷◌, length, Some, slice_get, slice_index, refl, sym, ap, ◌∙◌}
+use Rattle.values_rule.proofs.Common.{subst, arith, slice_get_within, dite, ℕ_discrete, dec_lt, Entry, Item, View, IsArrangement, is_attempt, is_open}
+use Rattle.values_rule.proofs.Common.{replay_items, IsIn, has, Knows, IsLegalTrace, number, arranged, is_newest, has-join_same, LocksHold, IsSeat}
+use Rattle.values_rule.proofs.Common.{item_of_entry, items_of, next_version, now_of, IsRecorded, ValuesHold}
+use Rattle.history_model.specs.Arrangements.{ComesBefore}
+use Rattle.history_model.proofs.Items.ItemOrders.{is_legal, end_good, length-replay_items}
 use Rattle.values_rule.specs.Closing.{IsPlaced}
-use Rattle.values_rule.specs.History.{item_of_entry, items_of, next_version, now_of}
-use Rattle.values_rule.specs.Records.{IsRecorded}
-use Rattle.values_rule.specs.Versions.{ValuesHold}
 use Rattle.values_rule.proofs.Phases.{open_begun}
 use Rattle.values_rule.proofs.Told.ItemsIn.{IsAttemptOf, OfEntry, OfOpen, items_from}
 use Rattle.values_rule.proofs.Told.Knowing.{last_least, knew_at}

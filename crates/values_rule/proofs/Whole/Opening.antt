@@ -1,28 +1,14 @@
 -- The value invariant holds of a table as it begins.
-use Rattle.std.proofs.Common.{◌≡◌, ℕ, ◌<◌, true, false, ⊎_elim, List, [], length, Some, None, slice_get, refl, sym, ap, ◌∙◌, subst, arith}
-use Rattle.std.specs.Prelude.{nat_lt}
+use Rattle.values_rule.proofs.Common.{◌≡◌, ℕ, ◌<◌, true, false, ⊎_elim, List, [], length, Some, None, slice_get, refl, sym, ap, ◌∙◌, subst, arith, nat_lt}
+use Rattle.values_rule.proofs.Common.{LOCKS, Entry, Item, View, is_attempt, is_open, IsIn, lock_of_word, has, flag, Knows, Notes, differ, has-nil, bool_cases}
+use Rattle.values_rule.proofs.Common.{LocksHold, table_value, oldest, items_of, version_at, owed_by, next_version, now_of, IsRecorded, ValuesHold}
 use Rattle.std.proofs.lemmas.Bool.{ltb-true}
-use Rattle.history_model.specs.declared.TheConstants.{LOCKS}
-use Rattle.history_model.specs.declared.entry.Entry.{Entry}
-use Rattle.history_model.specs.declared.item.Item.{Item}
-use Rattle.history_model.specs.declared.view.View.{View}
-use Rattle.history_model.specs.Counts.{is_attempt, is_open}
 use Rattle.history_model.specs.Items.{value_at as value_by_version}
-use Rattle.history_model.specs.Legal.{IsIn}
-use Rattle.history_model.specs.Locks.{lock_of_word}
-use Rattle.history_model.specs.Sets.{has, flag}
-use Rattle.history_model.specs.Table.{Knows}
-use Rattle.history_model.specs.Undoing.{Notes}
 use Rattle.history_model.proofs.Items.ItemValues.{value_at-first}
-use Rattle.history_model.proofs.SetLemmas.{differ, has-nil, bool_cases}
-use Rattle.locks_rule.specs.Locks.{LocksHold}
-use Rattle.values_rule.specs.Values.{table_value, oldest}
 use Rattle.values_rule.proofs.Members.{none_in}
 use Rattle.values_rule.proofs.Notes.{oldest-nil}
-use Rattle.values_rule.specs.History.{last_call, items_of, version_at, owed_by, next_version, now_of}
+use Rattle.values_rule.specs.History.{last_call}
 use Rattle.values_rule.specs.Opening.{IsUntouched, OpeningHolds}
-use Rattle.values_rule.specs.Records.{IsRecorded}
-use Rattle.values_rule.specs.Versions.{ValuesHold}
 use Rattle.values_rule.proofs.Told.ItemsIn.{OfEntry, OfOpen, items_from}
 use Rattle.values_rule.proofs.Told.Newest.{newest-at}
 use Rattle.values_rule.proofs.Told.Owing.{not_owed}

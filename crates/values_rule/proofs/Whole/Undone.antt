@@ -1,10 +1,8 @@
 -- The memory with all unfinished writes taken back is what every arrangement leaves.
-use Rattle.std.proofs.Common.{◌≡◌, List, ℕ, length, ◌∙◌, arith, length-drop}
-use Rattle.history_model.specs.Table.{value_word}
-use Rattle.values_rule.specs.Undone.{memory_of}
+use Rattle.values_rule.proofs.Common.{◌≡◌, List, ℕ, length, ◌∙◌, arith, value_word, memory_of, items_of, next_version, now_of}
+use Rattle.std.proofs.Common.{length-drop}
 use Rattle.values_rule.proofs.WrittenBack.{restored}
 use Rattle.values_rule.specs.Closing.{UndoingRestores}
-use Rattle.values_rule.specs.History.{items_of, next_version, now_of}
 use Rattle.values_rule.proofs.Whole.Legality.{now_is}
 use Rattle.values_rule.proofs.Told.Newest.{length-newest}
 

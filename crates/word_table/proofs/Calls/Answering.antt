@@ -1,31 +1,16 @@
 -- What the answers of the calls say.
-use Rattle.std.proofs.Common.{◌≡◌, ◌≢◌, ℕ, ◌+◌, ◌-◌, ◌%◌, ◌<◌, Bool, true, false, ◌⊎◌, inl, inr, ⊎_elim, List, [], ◌∷◌, ◌++◌, slice_index, refl, sym, ap, ◌∙◌}
-use Rattle.std.proofs.Common.{subst, arith, eq-eqb, ne_eqb, ◌==◌, if◌then◌else◌}
-use Rattle.std.specs.Int.{bit_at}
-use Rattle.std.proofs.lemmas.Nat.Bits.{bit_at-lt}
-use mathlib.Core.Logic.{dite}
-use native.Mathlib.Decide.{ℕ_discrete}
-use Rattle.history_model.specs.declared.TheConstants.{LOCKS}
-use Rattle.history_model.specs.declared.view.View.{View}
-use Rattle.history_model.specs.declared.view.Phase.TheVariants.{Running}
-use Rattle.history_model.specs.Locks.{lock_of_word}
-use Rattle.history_model.specs.Sets.{has, without_first}
-use Rattle.history_model.specs.Views.{number, HasBit, HasReadGrant, HasClaim, IsScanned, IsGranted}
-use Rattle.locks_rule.specs.Actions.{Action}
-use Rattle.locks_rule.specs.Steps.{is_free, set_read_bit_action, load_writer_action, claim_writer_action, scan_row_action, after_asking, after_meeting}
-use Rattle.history_model.proofs.SetLemmas.{differ, bool_cases, has-join_same, pair-join_same}
-use Rattle.locks_rule.proofs.Own.{other_number}
-use Rattle.locks_rule.proofs.Readers.{free_cases}
-use Rattle.word_table.specs.declared.answer.Shared.{Shared}
-use Rattle.word_table.specs.declared.answer.Shared.TheVariants as shared
-use Rattle.word_table.specs.declared.answer.Claimed.{Claimed}
-use Rattle.word_table.specs.declared.answer.Claimed.TheVariants as claimed
-use Rattle.word_table.specs.declared.answer.Scanned.{Scanned}
-use Rattle.word_table.specs.declared.answer.Scanned.TheVariants as scanned
-use Rattle.word_table.specs.Calls.{MetOn, MakesSeen, with_bit, shared_of, Looked, AsksShared, SharedBy, claimed_of, AsksClaim, ClaimedBy, scanned_of, ScannedBy}
-use Rattle.word_table.specs.Kinds.{TakenIn}
-use Rattle.locks_rule.specs.Locks.{LocksHold}
+use Rattle.word_table.proofs.Common.{◌≡◌, ◌≢◌, ℕ, ◌+◌, ◌-◌, ◌%◌, ◌<◌, Bool, true, false, ◌⊎◌, inl, inr, ⊎_elim, List, [], ◌∷◌, ◌++◌, slice_index, refl, sym, ap}
+use Rattle.word_table.proofs.Common.{◌∙◌, subst, arith, eq-eqb, ne_eqb, ◌==◌, if◌then◌else◌, bit_at, dite, ℕ_discrete, LOCKS, View, lock_of_word, has}
+use Rattle.word_table.proofs.Common.{without_first, number, HasBit, HasReadGrant, HasClaim, IsGranted, Action, is_free, set_read_bit_action, load_writer_action}
+use Rattle.word_table.proofs.Common.{claim_writer_action, scan_row_action, after_asking, after_meeting, differ, bool_cases, has-join_same, pair-join_same}
+use Rattle.word_table.proofs.Common.{other_number, free_cases, Shared, Claimed, Scanned, MakesSeen, with_bit, Looked, SharedBy, ClaimedBy, ScannedBy, TakenIn}
+use Rattle.word_table.proofs.Common.{LocksHold}
+use Rattle.locks_rule.proofs.Common.{IsScanned}
+use Rattle.word_table.specs.Calls.{MetOn, shared_of, AsksShared, claimed_of, AsksClaim, scanned_of}
 use Rattle.word_table.proofs.Calls.Found.{StandsIn, claimant_found, reader_found}
+use Rattle.word_table.specs.declared.answer.Shared.TheVariants as shared
+use Rattle.word_table.specs.declared.answer.Claimed.TheVariants as claimed
+use Rattle.word_table.specs.declared.answer.Scanned.TheVariants as scanned
 
 -- the view once the own bit is set, if it was not
 pub with_bit_cases : (k a : ℕ) (v : View) (P : View → Type 0) → (HasBit v k → P v) → P ((set_read_bit_action (number v) k a v).view 0) → P (with_bit k a v)
@@ -36,9 +21,6 @@ with_bit_cases k a v P kept set = ⊎_elim
 
 pub with_bit_bit : (k a : ℕ) (v : View) → HasBit (with_bit k a v) k
 with_bit_bit k a v = with_bit_cases k a v (λ u. HasBit u k) (λ t. t) (has-join_same k v.bits)
-
-pub with_bit_phase : (k a : ℕ) (v : View) → v.phase ≡ Running → (with_bit k a v).phase ≡ Running
-with_bit_phase k a v e = with_bit_cases k a v (λ u. u.phase ≡ Running) (λ t. e) e
 
 with_bit_who : (k a : ℕ) (v : View) → number (with_bit k a v) ≡ number v
 with_bit_who k a v = with_bit_cases k a v (λ u. number u ≡ number v) (λ t. refl) refl
@@ -240,16 +222,4 @@ asks_claim sound v u a w r t other er = record {
       let nonzero = n.0 in omega arith) (claimed_cases w r er);
   named_met = λ i is. ⊎_elim (λ z. let zero = z.0 in absurd (omega arith)) (λ n. let same : w - 1 ≡ i = omega arith in
       n.2 ∙ ap (λ (x : ℕ). claimed.Met x) same) (claimed_cases w r er);
-}
-
--- scan's step
-pub asks_scan : (sound : List ℕ → List View → Type 0) (v u : View) (k i w : ℕ) (r : Scanned)
-    → TakenIn sound (scan_row_action (number v) k i v) v w u → r ≡ scanned_of k i w → ScannedBy sound v k i r u
-asks_scan sound v u k i w r t er = record {
-  found = w;
-  taken = t;
-  answer = er;
-  met_set = λ j is. ⊎_elim (λ z. let clear = z.2 in cc) (λ n. let met = n.2 in let same : i ≡ j = cc in let nonzero =
-      n.0 in let bit : bit_at w (k % 64) < 2 = bit_at-lt w (k % 64) in (sym same, omega arith)) (scanned_cases k i w r er);
-  set_met = λ one. ⊎_elim (λ z. let zero = z.0 in absurd (omega arith)) (λ n. n.2) (scanned_cases k i w r er);
 }

@@ -1,33 +1,19 @@
 -- What a call on values tells beside its step: that what its attempt did is legal behind all that was done, however that is
 -- arranged.
-use Rattle.std.proofs.Common.{◌<◌, ◌≤◌, ◌≢◌, if◌then◌else◌, ne_eqb, ◌≡◌, ℕ, Bool, true, inl, inr, List, [], ◌∷◌, ◌++◌, Option, Some, None, unwrap_or, refl}
-use Rattle.std.proofs.Common.{sym, ap, ◌∙◌, subst}
-use Rattle.history_model.specs.declared.entry.Entry.{Entry}
-use Rattle.history_model.specs.declared.event.Event.TheVariants.{Read}
-use Rattle.history_model.specs.declared.view.View.{View}
-use Rattle.history_model.specs.Counts.{is_attempt}
-use Rattle.history_model.specs.Legal.{IsIn}
-use Rattle.history_model.specs.Table.{Knows}
-use Rattle.history_model.specs.Traces.{Trace, value_after}
-use Rattle.history_model.specs.Views.{number}
+use Rattle.word_table.proofs.Common.{◌<◌, ◌≤◌, ◌≢◌, if◌then◌else◌, ne_eqb, ◌≡◌, ℕ, Bool, true, inl, inr, List, [], ◌∷◌, ◌++◌, Option, Some, None, refl, sym, ap}
+use Rattle.word_table.proofs.Common.{◌∙◌, subst, Entry, Read, View, is_attempt, IsIn, Knows, Trace, number, put_here, Action, words_after, views_after}
+use Rattle.word_table.proofs.Common.{found_by, own_number, Knew, begin_call_action, entry_of, load_value_action, store_value_action, known_value, MayBeginCall}
+use Rattle.word_table.proofs.Common.{MayLoadValue, in_second, item_of_entry, entry_from, place, MayLoadCauseStamp, load_cause_stamp_action, after_waiting}
+use Rattle.word_table.proofs.Common.{after_restarting, Step, BeginCall, LoadValue, LoadCauseStamp, action_of, May, TakenIn, IsSound}
+use Rattle.values_rule.proofs.Common.{value_after, knew_of}
+use Rattle.std.proofs.Common.{unwrap_or}
 use Rattle.history_model.proofs.Traces.EndEvents.{last_read_same}
-use Rattle.history_model.proofs.Views.Places.{put_here}
-use Rattle.locks_rule.specs.Actions.{Action, words_after, views_after, found_by}
-use Rattle.locks_rule.proofs.Own.{own_number}
-use Rattle.values_rule.specs.Records.{Knew}
-use Rattle.values_rule.specs.Steps.{begin_call_action, entry_of, load_value_action, store_value_action, known_value, MayBeginCall, MayLoadValue}
-use Rattle.values_rule.proofs.Members.{in_second}
 use Rattle.values_rule.proofs.Phases.{attempt_open}
-use Rattle.values_rule.specs.History.{items_of_attempts, item_of_entry, knew_of}
-use Rattle.values_rule.proofs.Told.ItemsIn.{items_into, entry_from, attempt_from}
+use Rattle.values_rule.specs.History.{items_of_attempts}
+use Rattle.values_rule.proofs.Told.ItemsIn.{items_into, attempt_from}
 use Rattle.values_rule.proofs.Told.Knowing.{knew_at, last_least}
-use Rattle.values_rule.proofs.Whole.Legality.{place, leaves_good, attempts_legal}
-use Rattle.stamps_rule.specs.Steps.{MayLoadCauseStamp, load_cause_stamp_action, after_waiting, after_restarting}
-use Rattle.word_table.specs.declared.step.Step.{Step}
-use Rattle.word_table.specs.declared.step.Step.TheVariants.{BeginCall, LoadValue, LoadCauseStamp}
+use Rattle.values_rule.proofs.Whole.Legality.{leaves_good, attempts_legal}
 use Rattle.word_table.specs.Calls.{ReadsArranged}
-use Rattle.word_table.specs.Kinds.{action_of, May, TakenIn}
-use Rattle.word_table.specs.Sound.{IsSound}
 use Rattle.word_table.proofs.Kept.KeptKinds.{sound_kept}
 
 -- the state that a step leads to is sound, and the seat then knows the new view

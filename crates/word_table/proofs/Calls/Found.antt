@@ -1,23 +1,9 @@
 -- What a number that was found in the table, or is stored there, says while the rule holds.
-use Rattle.std.proofs.Common.{◌≡◌, ◌≢◌, ℕ, zero, suc, ◌+◌, ◌*◌, ◌/◌, ◌%◌, ◌^◌, ◌<◌, ◌≤◌, true, inl, inr, ⊎_elim, List, [], ◌∷◌, slice_index, sym, ap, ◌∙◌}
-use Rattle.std.proofs.Common.{subst, arith}
-use Rattle.std.specs.Prelude.{bit_and, bit_or}
-use Rattle.std.specs.Int.{bit_at, bit_not}
+use Rattle.word_table.proofs.Common.{◌≡◌, ◌≢◌, ℕ, zero, suc, ◌+◌, ◌*◌, ◌/◌, ◌%◌, ◌^◌, ◌<◌, ◌≤◌, true, inl, inr, ⊎_elim, List, [], ◌∷◌, slice_index, sym, ap}
+use Rattle.word_table.proofs.Common.{◌∙◌, subst, arith, bit_and, bit_or, bit_at, bit_not, w64, LOCKS, View, IsAt, has, flag, Knows, row_word, writer_word}
+use Rattle.word_table.proofs.Common.{HasClaim, LocksHold, set_read_bit_action, clear_read_bit_action, bool_cases, MOST_PASSES, ShowsLocks, Stores}
 use Rattle.std.proofs.lemmas.Nat.Bits.{same_from_bits_below}
-use mir.Syntax.{w64}
-use Rattle.history_model.specs.declared.TheConstants.{LOCKS}
-use Rattle.history_model.specs.declared.view.View.{View}
-use Rattle.history_model.specs.Conflicts.{IsAt}
-use Rattle.history_model.specs.Sets.{has, flag}
-use Rattle.history_model.specs.Table.{Knows, row_word, writer_word}
-use Rattle.history_model.specs.Views.{HasClaim}
-use Rattle.locks_rule.specs.Locks.{LocksHold}
-use Rattle.locks_rule.specs.Steps.{set_read_bit_action, clear_read_bit_action}
-use Rattle.history_model.proofs.SetLemmas.{bool_cases}
 use Rattle.locks_rule.proofs.Own.{own_word, writer_same, own_seat, so_many}
-use Rattle.word_table.specs.declared.limits.TheConstants.{MOST_PASSES}
-use Rattle.word_table.specs.Copies.{ShowsLocks}
-use Rattle.word_table.specs.Kinds.{Stores}
 
 -- in these views seat i stands on lock k
 abbrev pub StandsIn : List View → ℕ → ℕ → Type 0

@@ -1,25 +1,14 @@
 -- What judge comes to: it gives way exactly if the other seat shows an earlier timestamp, and the attempt's cause is that.
-use Rattle.std.proofs.Common.{◌≡◌, ℕ, suc, ◌<◌, ◌≤◌, Bool, true, false, ◌&&◌, ◌⊎◌, inl, inr, ⊎_elim, List, Option, Some, None, nat_lt}
-use Rattle.std.proofs.Common.{if◌then◌else◌, refl, sym, ap, ◌∙◌, subst, arith}
+use Rattle.word_table.proofs.Common.{◌≡◌, ℕ, suc, ◌<◌, ◌≤◌, Bool, true, false, ◌&&◌, ◌⊎◌, inl, inr, ⊎_elim, List, Option, Some, None, if◌then◌else◌, refl, sym}
+use Rattle.word_table.proofs.Common.{ap, ◌∙◌, subst, arith, Cause, View, without, number, put_here, Action, found_by, words_after, views_after, newest}
+use Rattle.word_table.proofs.Common.{past_causes, AreRestartsBounded, restarts_bounded, past_added, MayJudgeStamp, judge_stamp_action, judged, after_judgement}
+use Rattle.word_table.proofs.Common.{Judged, JudgeStamp, judged_of, JudgedBy, IsSound}
+use Rattle.std.proofs.Common.{nat_lt}
 use Rattle.std.proofs.lemmas.Bool.Decides.{leb_tells}
-use Rattle.history_model.specs.declared.event.Cause.{Cause}
-use Rattle.history_model.specs.declared.view.View.{View}
-use Rattle.history_model.specs.Sets.{without}
-use Rattle.history_model.specs.Views.{number}
-use Rattle.history_model.proofs.Views.Places.{put_here}
-use Rattle.locks_rule.specs.Actions.{Action, found_by, words_after, views_after}
-use Rattle.stamps_rule.specs.Causes.{newest, past_causes}
-use Rattle.stamps_rule.specs.Stamps.{AreRestartsBounded}
-use Rattle.stamps_rule.proofs.Bounds.{restarts_bounded}
-use Rattle.stamps_rule.proofs.CauseLists.{past_added, newest_added}
-use Rattle.stamps_rule.specs.Steps.{MayJudgeStamp, judge_stamp_action, judged, after_judgement}
+use Rattle.stamps_rule.proofs.CauseLists.{newest_added}
 use Rattle.values_rule.specs.Steps.{attempt_of, after_giving_way}
-use Rattle.word_table.specs.declared.answer.Judged.{Judged}
-use Rattle.word_table.specs.declared.answer.Judged.TheVariants as answer
-use Rattle.word_table.specs.declared.step.Step.TheVariants.{JudgeStamp}
-use Rattle.word_table.specs.Calls.{judged_of, JudgedBy}
-use Rattle.word_table.specs.Sound.{IsSound}
 use Rattle.word_table.proofs.Kept.KeptKinds.{sound_kept}
+use Rattle.word_table.specs.declared.answer.Judged.TheVariants as answer
 
 -- both are chosen by one test
 shown_cases : (shown own : ℕ) → (((nat_lt 0 shown && nat_lt shown own) ≡ true) × (0 < shown) × (shown < own))
@@ -54,13 +43,6 @@ pub wait_due : (i shown own : ℕ) → judged_of shown own ≡ answer.Wait → (
 wait_due i shown own e = ⊎_elim
     (λ t. absurd (let z : answer.Yield shown ≡ answer.Wait = sym (ap (λ (b : Bool). if b then answer.Yield shown else answer.Wait) t.0) ∙ e in cc))
     (λ t. (ap (λ (b : Bool). if b then Some (record { seat = i; stamp = shown }) else None) t.0, t.1))
-    (shown_cases shown own)
-
--- an earlier timestamp that is shown is given way to
-pub earlier_yields : (shown own : ℕ) → 0 < shown → shown < own → judged_of shown own ≡ answer.Yield shown
-earlier_yields shown own low high = ⊎_elim
-    (λ t. ap (λ (b : Bool). if b then answer.Yield shown else answer.Wait) t.0)
-    (λ t. absurd (⊎_elim (λ (z : shown ≡ 0). omega arith) (λ (z : own ≤ shown). omega arith) t.1))
     (shown_cases shown own)
 
 -- an answer is one of the two

@@ -1,18 +1,10 @@
 -- What a step on locks leaves: the call, and every lock that was held.
-use Rattle.std.proofs.Common.{◌≡◌, ◌≢◌, ℕ, suc, ◌-◌, ◌%◌, Bool, true, false, inl, inr, List, ◌∷◌, length, refl, sym, ap, arith, ◌∙◌, subst, ◌==◌}
-use Rattle.std.proofs.Common.{if◌then◌else◌}
-use Rattle.std.specs.Int.{bit_at}
-use Rattle.history_model.specs.declared.view.View.{View}
-use Rattle.history_model.specs.Locks.{lock_of_word}
-use Rattle.history_model.specs.Sets.{has, without_first}
-use Rattle.history_model.specs.Views.{number, HasBit, HasReadGrant, HasClaim, IsGranted}
-use Rattle.locks_rule.specs.Steps.{is_free, set_read_bit_action, clear_read_bit_action, load_writer_action, claim_writer_action, scan_row_action}
-use Rattle.locks_rule.specs.Steps.{release_writer_action, after_asking, after_meeting}
-use Rattle.history_model.proofs.SetLemmas.{differ, has-without_same}
-use Rattle.word_table.specs.declared.answer.Shared.{Shared}
-use Rattle.word_table.specs.declared.answer.Claimed.{Claimed}
-use Rattle.word_table.specs.declared.answer.Scanned.{Scanned}
-use Rattle.word_table.specs.Calls.{with_bit, SharedBy, ClaimedBy, ScannedBy, SameCall, GrantsStay}
+use Rattle.word_table.proofs.Common.{◌≡◌, ◌≢◌, ℕ, suc, ◌-◌, ◌%◌, Bool, true, false, inl, inr, List, ◌∷◌, length, refl, sym, ap, arith, ◌∙◌, subst, ◌==◌}
+use Rattle.word_table.proofs.Common.{if◌then◌else◌, bit_at, View, lock_of_word, has, without_first, number, HasBit, HasReadGrant, HasClaim, IsGranted, is_free}
+use Rattle.word_table.proofs.Common.{set_read_bit_action, clear_read_bit_action, load_writer_action, claim_writer_action, scan_row_action}
+use Rattle.word_table.proofs.Common.{release_writer_action, after_asking, after_meeting, differ, has-without_same, Shared, Claimed, Scanned, with_bit, SharedBy}
+use Rattle.word_table.proofs.Common.{ClaimedBy, ScannedBy, GrantsStay}
+use Rattle.word_table.specs.Calls.{SameCall}
 use Rattle.word_table.proofs.Calls.Answering.{with_bit_cases}
 use Rattle.word_table.proofs.Copied.After.{grants_read, grants_claim, grants_scan}
 

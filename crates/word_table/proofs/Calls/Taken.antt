@@ -1,13 +1,6 @@
 -- What a step tells of its seat, it tells of the pass that has the seat, and of the desk that has the table.
-use Rattle.std.proofs.Common.{◌≡◌, ℕ, List, [], ◌∷◌, slice_index, sym, ap, ◌∙◌, subst}
-use Rattle.atomic_table.specs.Table.{Me}
-use Rattle.atomic_table.specs.Seated.{TableId}
-use Rattle.history_model.specs.declared.view.View.{View}
-use Rattle.history_model.specs.Views.{number}
-use Rattle.locks_rule.specs.Actions.{Action}
-use Rattle.word_table.specs.Copies.{PassView}
-use Rattle.word_table.specs.Desks.{DeskView, DeskHolds}
-use Rattle.word_table.specs.Kinds.{TakenIn}
+use Rattle.word_table.proofs.Common.{◌≡◌, ℕ, List, [], ◌∷◌, slice_index, sym, ap, ◌∙◌, subst, Me, TableId, View, number, Action, PassView, DeskView, DeskHolds}
+use Rattle.word_table.proofs.Common.{TakenIn}
 
 -- a step by the seat's number and a lock is one by the number of the pass's view and the same lock
 pub taken_in : {steps : ℕ} (sound : List ℕ → List View → Type 0) (action : ℕ → ℕ → View → Action) (who lock k : ℕ)

@@ -1,23 +1,9 @@
 -- Read bits given up, by rising lock.
-use Rattle.std.proofs.Common.{◌≡◌, ◌≢◌, ℕ, zero, suc, ◌+◌, ◌*◌, ◌/◌, ◌<◌, ◌≤◌, Bool, true, false, ◌⊎◌, inl, inr, ⊎_elim}
-use Rattle.std.proofs.Common.{List, [], ◌∷◌, length, Some, refl, sym, ap, ◌∙◌, subst, arith}
+use Rattle.word_table.proofs.Common.{◌≡◌, ◌≢◌, ℕ, zero, suc, ◌+◌, ◌*◌, ◌/◌, ◌<◌, ◌≤◌, Bool, true, false, ◌⊎◌, inl, inr, ⊎_elim, List, [], ◌∷◌, length, Some}
+use Rattle.word_table.proofs.Common.{refl, sym, ap, ◌∙◌, subst, arith, filter, range_with_len, cases_lt, dite, ℕ_discrete, LOCKS, View, Phase, Idle, Running}
+use Rattle.word_table.proofs.Common.{Yielding, Withdrawing, Releasing, has, without, number, HasBit, HasReadGrant, differ, not_true, has-without}
+use Rattle.word_table.proofs.Common.{has-without_same, has-without_other, clear_read_bit_action, released_phase, PassView, ClearsMore, TakenIn, IsLeast}
 use Rattle.std.proofs.Math.Bool.{cond}
-use Rattle.std.specs.List.{filter, range_with_len}
-use Rattle.std.proofs.lemmas.Bool.{cases_lt}
-use mathlib.Core.Logic.{dite}
-use native.Mathlib.Decide.{ℕ_discrete}
-use Rattle.history_model.specs.declared.TheConstants.{LOCKS}
-use Rattle.history_model.specs.declared.view.View.{View}
-use Rattle.history_model.specs.declared.view.Phase.{Phase}
-use Rattle.history_model.specs.declared.view.Phase.TheVariants.{Idle, Running, Yielding, Withdrawing, Releasing}
-use Rattle.history_model.specs.Sets.{has, without}
-use Rattle.history_model.specs.Views.{number, HasBit, HasReadGrant}
-use Rattle.history_model.proofs.SetLemmas.{differ, not_true, has-without, has-without_same, has-without_other}
-use Rattle.locks_rule.specs.Steps.{clear_read_bit_action, released_phase}
-use Rattle.word_table.specs.Copies.{PassView}
-use Rattle.word_table.specs.Inner.Unsharing.{ClearsMore}
-use Rattle.word_table.specs.Kinds.{TakenIn}
-use Rattle.word_table.specs.Least.{IsLeast}
 use Rattle.word_table.specs.Unsharing.{ClearsEach, rising}
 use Rattle.word_table.proofs.Copied.After.{releases_on}
 

@@ -1,28 +1,13 @@
 -- A pass's copy after a step.
-use Rattle.std.proofs.Common.{◌≡◌, ◌≢◌, ℕ, ◌-◌, ◌%◌, ◌^◌, ◌/◌, ◌<◌, ◌≤◌, Bool, true, false, List, [], ◌∷◌, length, inl, inr, ⊎_elim}
-use Rattle.std.proofs.Common.{refl, sym, ap, ◌∙◌, subst, ◌==◌}
-use Rattle.std.proofs.Common.{if◌then◌else◌}
-use Rattle.std.specs.Prelude.{bit_and}
-use Rattle.std.specs.Int.{bit_at}
+use Rattle.word_table.proofs.Common.{◌≡◌, ◌≢◌, ℕ, ◌-◌, ◌%◌, ◌^◌, ◌/◌, ◌<◌, ◌≤◌, Bool, true, false, List, [], ◌∷◌, length, inl, inr, ⊎_elim, refl, sym, ap, ◌∙◌}
+use Rattle.word_table.proofs.Common.{subst, ◌==◌, if◌then◌else◌, bit_and, bit_at, Me, TableId, View, Phase, Idle, Running, Yielding, Withdrawing, Releasing}
+use Rattle.word_table.proofs.Common.{has, without_first, row_word, writer_word, version_word, value_word, table_words, HasClaim, differ, has-nil, has-join_old}
+use Rattle.word_table.proofs.Common.{pair-without_other, is_free, released_phase, load_writer_action, claim_writer_action, scan_row_action, after_asking}
+use Rattle.word_table.proofs.Common.{after_meeting, undoing_phase, after_waiting, after_restarting, MOST_PASSES, MOST_WORDS, CallCopy, LockCopy, GrantsStay}
+use Rattle.word_table.proofs.Common.{ShowsLocks, ShowsOthers, ShowsPairs, IsVersionCopy, IsCopy, locks_found}
 use Rattle.std.proofs.lemmas.Nat.Bits.{shr_and_one}
-use Rattle.atomic_table.specs.Table.{Me}
-use Rattle.atomic_table.specs.Seated.{TableId}
-use Rattle.history_model.specs.declared.view.View.{View}
-use Rattle.history_model.specs.declared.view.Phase.{Phase}
-use Rattle.history_model.specs.declared.view.Phase.TheVariants.{Idle, Running, Yielding, Withdrawing, Releasing}
-use Rattle.history_model.specs.Sets.{has, without_first}
-use Rattle.history_model.specs.Table.{row_word, writer_word, version_word, value_word, table_words}
-use Rattle.history_model.specs.Views.{HasClaim}
-use Rattle.history_model.proofs.SetLemmas.{differ, has-nil, has-join_old, pair-join_old, pair-without_other}
-use Rattle.locks_rule.specs.Steps.{is_free, released_phase, load_writer_action, claim_writer_action, scan_row_action, after_asking, after_meeting}
-use Rattle.values_rule.specs.Steps.{undoing_phase}
-use Rattle.stamps_rule.specs.Steps.{after_waiting, after_restarting}
-use Rattle.word_table.specs.declared.limits.TheConstants.{MOST_PASSES, MOST_WORDS}
-use Rattle.word_table.specs.declared.copies.CallCopy.{CallCopy}
-use Rattle.word_table.specs.declared.copies.LockCopy.{LockCopy}
-use Rattle.word_table.specs.Calls.{GrantsStay}
-use Rattle.word_table.specs.Copies.{ShowsLocks, ShowsOthers, ShowsPairs, HoldsNothing, HoldsUsed, IsVersionCopy, IsLockCopy, IsCallCopy, IsCopy}
-use Rattle.word_table.specs.Versions.{locks_found}
+use Rattle.history_model.proofs.SetLemmas.{pair-join_old}
+use Rattle.word_table.specs.Copies.{HoldsNothing, HoldsUsed, IsLockCopy, IsCallCopy}
 use Rattle.word_table.proofs.Copied.VersionCopies.{versions_restarted}
 
 -- what a pass relies on beside its copies
@@ -178,18 +163,6 @@ VersionsAre copy v = IsVersionCopy copy.versions v.uses v.owed v.trace v.undo v.
 pub lock_copy : (copy : LockCopy) (v : View) → ShowsLocks copy.bits v.bits → ShowsLocks copy.reads v.reads
     → ShowsLocks copy.claims v.claims → ShowsPairs copy.scans.items v.scans → VersionsAre copy v → IsLockCopy copy v
 lock_copy copy v sb sr sc ss sv = record { bits_are = sb; reads_are = sr; claims_are = sc; scans_are = ss; versions_are = sv }
-
--- a copy of a view's locks with other versions
-pub with_versions : (copy copy' : LockCopy) (v w : View) → IsLockCopy copy v → w.bits ≡ v.bits → w.reads ≡ v.reads → w.claims ≡ v.claims
-    → w.scans ≡ v.scans → copy'.bits ≡ copy.bits → copy'.reads ≡ copy.reads → copy'.claims ≡ copy.claims → copy'.scans ≡ copy.scans
-    → VersionsAre copy' w → IsLockCopy copy' w
-with_versions copy copy' v w i eb er ec es fb fr fc fs sv = record {
-  bits_are = subst (λ (row : List ℕ). ShowsLocks row w.bits) (sym fb) (subst (λ (l : List ℕ). ShowsLocks copy.bits l) (sym eb) i.bits_are);
-  reads_are = subst (λ (row : List ℕ). ShowsLocks row w.reads) (sym fr) (subst (λ (l : List ℕ). ShowsLocks copy.reads l) (sym er) i.reads_are);
-  claims_are = subst (λ (row : List ℕ). ShowsLocks row w.claims) (sym fc) (subst (λ (l : List ℕ). ShowsLocks copy.claims l) (sym ec) i.claims_are);
-  scans_are = subst (λ (s : _). ShowsPairs s.items w.scans) (sym fs) (subst (λ (l : List (ℕ × ℕ)). ShowsPairs copy.scans.items l) (sym es) i.scans_are);
-  versions_are = sv;
-}
 
 -- after a look at a writer word, by whether it was granted
 pub load_same : (j k a : ℕ) (v : View) (w : ℕ) → SameSeat v ((load_writer_action j k a v).view w)

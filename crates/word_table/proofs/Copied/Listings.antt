@@ -1,30 +1,16 @@
 -- The uses that a pass keeps, listed by rising lock, word by word of its set.
-use Rattle.std.proofs.Common.{◌≡◌, ◌≢◌, ℕ, zero, suc, ◌+◌, ◌*◌, ◌/◌, ◌%◌, ◌^◌, ◌<◌, ◌≤◌, ◌⊎◌, inl, inr, ⊎_elim, List, [], ◌∷◌, ◌++◌, Some, None}
-use Rattle.std.proofs.Common.{true, length, sum_by, drop, slice_index, refl, sym, ap, ◌∙◌, subst, arith}
-use Rattle.std.specs.Prelude.{bit_and, count_ones}
-use Rattle.std.specs.Int.{bit_at, bit_not, trailing_zeros}
+use Rattle.word_table.proofs.Common.{◌≡◌, ◌≢◌, ℕ, zero, suc, ◌+◌, ◌*◌, ◌/◌, ◌%◌, ◌^◌, ◌<◌, ◌≤◌, ◌⊎◌, inl, inr, ⊎_elim, List, [], ◌∷◌, ◌++◌, true, length}
+use Rattle.word_table.proofs.Common.{sum_by, drop, slice_index, refl, sym, ap, ◌∙◌, subst, arith, bit_and, count_ones, bit_at, bit_not, trailing_zeros}
+use Rattle.word_table.proofs.Common.{bit_at-trailing_zeros, bit_at_clear_same, bit_at_clear_other, cases_lt, w64, dite, ℕ_discrete, LOCKS, LockUse, View}
+use Rattle.word_table.proofs.Common.{Running, Withdrawing, IsIn, has, flag, in_first, in_second, VersionCopy, IsVersionCopy, AreUsesOf, ListsBelow, locks_found}
+use Rattle.values_rule.proofs.Common.{get_cases}
 use Rattle.std.proofs.lemmas.Nat.{and_comm, and-not, pow_below}
-use Rattle.std.proofs.lemmas.Nat.Bits.{bit_at_lowest, bit_at-suc, bit_at-zero, bit_at-trailing_zeros, bit_at_clear_same, bit_at_clear_other, and_pow}
+use Rattle.std.proofs.lemmas.Nat.Bits.{bit_at_lowest, bit_at-suc, and_pow}
 use Rattle.std.proofs.lemmas.List.{at_drop_more}
 use Rattle.std.proofs.lemmas.List.Sums.{sum_by-cons}
-use Rattle.std.proofs.lemmas.Bool.{cases_lt}
-use mir.Syntax.{w64}
 use lib.Count.{ones_step}
-use mathlib.Core.Logic.{dite}
 use native.Mathlib.Nat.{pow-suc}
-use native.Mathlib.Decide.{ℕ_discrete}
-use Rattle.history_model.specs.declared.TheConstants.{LOCKS}
-use Rattle.history_model.specs.declared.item.LockUse.{LockUse}
-use Rattle.history_model.specs.declared.view.View.{View}
-use Rattle.history_model.specs.declared.view.Phase.TheVariants.{Running, Withdrawing}
-use Rattle.history_model.specs.Legal.{IsIn}
-use Rattle.history_model.specs.Sets.{has, flag}
-use Rattle.history_model.proofs.ListPlaces.{get_cases}
-use Rattle.values_rule.proofs.Members.{none_in, in_first, in_second}
-use Rattle.word_table.specs.declared.copies.VersionCopy.{VersionCopy}
-use Rattle.word_table.specs.Copies.{IsVersionCopy}
-use Rattle.word_table.specs.Uses.{AreRising, AreUsesOf, IsMarked, IsCopied, IsMarkedUse, ListsBelow}
-use Rattle.word_table.specs.Versions.{locks_found}
+use Rattle.word_table.specs.Uses.{AreRising, IsMarked, IsCopied, IsMarkedUse}
 use Rattle.word_table.proofs.Copied.VersionCopies.{bit_used, bit_written, used_found}
 use Rattle.word_table.proofs.Kept.Bounded.{in_push}
 
@@ -79,17 +65,6 @@ word_begun copy i listed h = record {
       inr (late, subst (λ (m : ℕ). bit_at (slice_index copy.used m) (k % 64) ≡ 1) same marked)) (cases_lt k (64 * i));
 }
 
-pub word_done : (copy : VersionCopy) (i left : ℕ) (listed : List LockUse) → left ≡ 0 → WordListed copy i left listed
-    → ListsBelow copy (64 * i + 64) listed
-word_done copy i left listed none h = record {
-  rising = h.rising;
-  each = h.each;
-  below = h.below;
-  all = λ k lt marked. ⊎_elim (λ t. t)
-      (λ t. let set = t.1 in let clear : bit_at left (k % 64) ≡ 0 = ap (λ (w : ℕ). bit_at w (k % 64)) none ∙ bit_at-zero (k % 64) in absurd (omega arith))
-      (h.all k lt marked);
-}
-
 -- the use of the lowest bit is listed
 pub word_more : (copy : VersionCopy) (i left : ℕ) (listed : List LockUse) (u : LockUse) → i < 16 → left ≢ 0 → left < 2 ^ 64
     → u.lock ≡ 64 * i + trailing_zeros w64 left → IsCopied copy u → WordListed copy i left listed
@@ -126,14 +101,6 @@ word_more copy i left listed u small some fits at copied h = let t : ℕ = trail
           (λ ne. let close : k % 64 < 64 = omega arith in inr (new.0, bit_at_clear_other w64 left t near (k % 64) close ne ∙ new.1)))
           (h.all k lt is);
     }
-
-pub none_listed : (copy : VersionCopy) → ListsBelow copy 0 []
-none_listed copy = record {
-  rising = λ p q x y e f lt. absurd (let z : None ≡ Some x = e in cc);
-  each = λ u t. absurd (none_in u t);
-  below = λ u t. absurd (none_in u t);
-  all = λ k lt. absurd (omega arith);
-}
 
 -- what is left to count, of the words from i on
 pub count_more : (row : List ℕ) (i : ℕ) → i < length row

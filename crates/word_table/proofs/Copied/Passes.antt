@@ -1,20 +1,12 @@
 -- What a pass's own copy says of its view.
-use Rattle.std.proofs.Common.{◌≡◌, ◌≢◌, ℕ, ◌-◌, ◌^◌, ◌<◌, ◌≤◌, min, Bool, true, false, ⊎_elim, List, [], ◌∷◌, refl, sym, ap, ◌∙◌, subst, arith}
-use Rattle.std.specs.Prelude.{bit_and, IfSome, IsNone, Option, Some, None}
-use Rattle.std.specs.Int.{bit_at, bit_not}
-use Rattle.std.proofs.lemmas.Bool.{cases_lt}
-use Rattle.std.proofs.lemmas.Nat.Bits.{bit_at_and, bit_at_not}
-use mir.Syntax.{w64}
-use Rattle.history_model.specs.declared.TheConstants.{LOCKS}
-use Rattle.history_model.specs.declared.view.View.{View}
-use Rattle.history_model.specs.Sets.{has, has_pair, flag}
-use Rattle.history_model.specs.Views.{HasClaim, HasWriteGrant}
-use Rattle.history_model.proofs.SetLemmas.{differ, bool_cases}
-use Rattle.locks_rule.proofs.Own.{not_own, other_number}
-use Rattle.word_table.specs.declared.limits.TheConstants.{MOST_PASSES}
-use Rattle.word_table.specs.Copies.{ShowsLocks, ShowsOthers}
-use Rattle.word_table.specs.Least.{IsLeast}
-use Rattle.word_table.specs.Unscanned.{IsUnscanned}
+use Rattle.word_table.proofs.Common.{◌≡◌, ◌≢◌, ℕ, ◌-◌, ◌^◌, ◌<◌, ◌≤◌, Bool, true, false, ⊎_elim, List, [], ◌∷◌, refl, sym, ap, ◌∙◌, subst, arith, bit_and}
+use Rattle.word_table.proofs.Common.{bit_at, bit_not, cases_lt, bit_at_and, w64, LOCKS, View, has, has_pair, flag, HasClaim, bool_cases, other_number}
+use Rattle.word_table.proofs.Common.{MOST_PASSES, ShowsLocks, ShowsOthers, IsLeast, IsUnscanned}
+use Rattle.values_rule.proofs.Common.{HasWriteGrant}
+use Rattle.std.proofs.Common.{min}
+use Rattle.std.specs.Prelude.{IfSome, IsNone, Option, Some, None}
+use Rattle.std.proofs.lemmas.Nat.Bits.{bit_at_not}
+use Rattle.locks_rule.proofs.Own.{not_own}
 
 flag_zero : (b : Bool) → flag b ≡ 0 → b ≡ false
 flag_zero true e = absurd (omega arith)
@@ -63,10 +55,6 @@ all_scanned v k None none is claim = (
       (λ f. absurd (none j record { claim = claim; seat = lt; other = away; unscanned = f })) (bool_cases (has_pair k j v.scans)),
 )
 all_scanned v k (Some j) least is claim = cc
-
--- without a claim there is nobody to scan
-pub no_claim_none : (v : View) (k : ℕ) → has k v.claims ≡ false → IsLeast (IsUnscanned v k) None
-no_claim_none v k none j u = differ (has k v.claims) u.claim none
 
 -- the least lock of some kind of a set that is shown is one of the locks
 pub near_least : (row locks : List ℕ) (P : ℕ → Type 0) (o : Option ℕ) → ShowsLocks row locks

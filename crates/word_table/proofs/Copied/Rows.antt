@@ -1,24 +1,15 @@
 -- Bits of a pass's own rows and masks.
-use Rattle.std.proofs.Common.{◌≡◌, ◌≢◌, ℕ, zero, suc, ◌+◌, ◌*◌, ◌/◌, ◌%◌, ◌^◌, ◌<◌, ◌≤◌, ◌-◌, Bool, true, false, inl, inr, ⊎_elim, List, [], ◌∷◌, length}
-use Rattle.std.proofs.Common.{slice_index, slice_index_or, slice_set, refl, sym, ap, ◌∙◌, subst, arith, length-set, get_or-set_other, get_or-set_same}
-use Rattle.std.proofs.Common.{replicate}
-use Rattle.std.proofs.Common.{if◌then◌else◌}
-use Rattle.std.specs.Prelude.{bit_and, bit_or}
-use Rattle.std.specs.Int.{bit_at, bit_not, trailing_zeros}
-use Rattle.std.proofs.lemmas.Nat.Bits.{bit_at-zero, bit_at-trailing_zeros, bit_at_set_same, bit_at_set_other, bit_at_and, bit_at_clear_same, bit_at_clear_other}
-use Rattle.std.proofs.lemmas.Nat.Bits.{bit_at_ones, bit_at_ones_above, bit_at-lt, bit_at_mask_inside, bit_at_mask_below, ones_shl, ones_shr}
-use Rattle.std.proofs.lemmas.Bool.{cases_lt}
-use mir.Syntax.{w64}
-use mathlib.Core.Logic.{dite}
-use native.Mathlib.Decide.{ℕ_discrete}
-use Rattle.history_model.specs.declared.TheConstants.{LOCKS}
-use Rattle.history_model.specs.Sets.{has, without, has_pair, without_first, flag}
-use Rattle.history_model.proofs.SetLemmas.{differ, has-nil, has-join, has-join_same, has-join_other, has-without, has-without_same, has-without_other}
-use Rattle.history_model.proofs.SetLemmas.{pair-join_same}
-use Rattle.history_model.proofs.SetLemmas.{pair-join_other, pair-without_same, pair-without_other}
+use Rattle.word_table.proofs.Common.{◌≡◌, ◌≢◌, ℕ, zero, suc, ◌+◌, ◌*◌, ◌/◌, ◌%◌, ◌^◌, ◌<◌, ◌≤◌, ◌-◌, Bool, true, false, inl, inr, ⊎_elim, List, [], ◌∷◌, length}
+use Rattle.word_table.proofs.Common.{slice_index, slice_set, refl, sym, ap, ◌∙◌, subst, arith, length-set, get_or-set_other, get_or-set_same, replicate}
+use Rattle.word_table.proofs.Common.{if◌then◌else◌, bit_and, bit_or, bit_at, bit_not, trailing_zeros, bit_at-zero, bit_at-trailing_zeros, bit_at_and}
+use Rattle.word_table.proofs.Common.{bit_at_clear_same, bit_at_clear_other, cases_lt, w64, dite, ℕ_discrete, LOCKS, has, without, has_pair, without_first, flag}
+use Rattle.word_table.proofs.Common.{differ, has-nil, has-join, has-join_same, has-without, has-without_same, has-without_other, pair-join_same}
+use Rattle.word_table.proofs.Common.{pair-without_other, MOST_PASSES, ShowsLocks, ShowsOthers, ShowsPairs}
+use Rattle.std.proofs.Common.{slice_index_or}
+use Rattle.std.proofs.lemmas.Nat.Bits.{bit_at_set_same, bit_at_set_other, bit_at_ones, bit_at_ones_above, bit_at-lt, bit_at_mask_inside, bit_at_mask_below}
+use Rattle.std.proofs.lemmas.Nat.Bits.{ones_shl, ones_shr}
+use Rattle.history_model.proofs.SetLemmas.{has-join_other, pair-join_other, pair-without_same}
 use Rattle.locks_rule.proofs.Bits.{put_same, put_other, raise_here, raise_there, lower_here, lower_there}
-use Rattle.word_table.specs.declared.limits.TheConstants.{MOST_PASSES}
-use Rattle.word_table.specs.Copies.{ShowsLocks, ShowsOthers, ShowsPairs}
 
 shows_put : (f : ℕ → ℕ) (row before after : List ℕ) (k : ℕ) → k < LOCKS
     → ((w : ℕ) → bit_at (f w) (k % 64) ≡ flag (has k after)) → ((w i : ℕ) → i < 64 → i ≢ k % 64 → bit_at (f w) i ≡ bit_at w i)
@@ -151,26 +142,6 @@ least_at row locks from i w small some_bit fits agree low_clear before h =
           (cases_lt k (64 * i)),
     )
 
--- if the words before the end have none, there is none
-pub least_none : (row locks : List ℕ) (from m : ℕ) → 16 ≤ m → NoneBefore row from m → ShowsLocks row locks → (k : ℕ) → ¬ ((from ≤ k) × (has k locks ≡ true))
-least_none row locks from m end before h k it = let near : k < 1024 = h.near k it.1 in
-    let set : bit_at (slice_index row (k / 64)) (k % 64) ≡ 1 = word_of_lock row locks k h it.1 in
-    let clear : bit_at (slice_index row (k / 64)) (k % 64) ≡ 0 = before k it.0 (omega arith) in absurd (omega arith)
-
--- one word more that has none
-pub none_first : (row : List ℕ) (from rest : ℕ) → rest ≡ 0
-    → ((b : ℕ) → from % 64 ≤ b → b < 64 → bit_at rest b ≡ bit_at (slice_index row (from / 64)) b) → NoneBefore row from (from / 64 + 1)
-none_first row from rest zeroed agree k le lt = let same : k / 64 ≡ from / 64 = omega arith in
-    let start : from % 64 ≤ k % 64 = omega arith in let close : k % 64 < 64 = omega arith in
-    ap (λ (m : ℕ). bit_at (slice_index row m) (k % 64)) same ∙ (sym (agree (k % 64) start close) ∙ no_bit rest (k % 64) zeroed)
-
-pub none_more : (row : List ℕ) (from i : ℕ) → NoneBefore row from i → slice_index row i ≡ 0 → NoneBefore row from (i + 1)
-none_more row from i before zeroed k le lt = ⊎_elim
-    (λ (early : k < 64 * i). before k le early)
-    (λ (late : 64 * i ≤ k). let same : k / 64 ≡ i = omega arith in
-    ap (λ (m : ℕ). bit_at (slice_index row m) (k % 64)) same ∙ no_bit (slice_index row i) (k % 64) zeroed)
-    (cases_lt k (64 * i))
-
 -- the least lock that has its bit in the word i, and none if the word is 0
 pub least_within : (row locks : List ℕ) (i : ℕ) → i < 16 → slice_index row i ≢ 0 → slice_index row i < 2 ^ 64 → ShowsLocks row locks
     → (((64 * i + trailing_zeros w64 (slice_index row i)) / 64 ≡ i) × (has (64 * i + trailing_zeros w64 (slice_index row i)) locks ≡ true))
@@ -203,10 +174,6 @@ shows_others seats who lt few =
           ∙ (let none : bit_at (2 ^ seats - 1) j ≡ 0 = bit_at_ones_above seats j far in omega arith);
     }
 
--- the least bit of a word
-pub no_seat : (w k : ℕ) → w ≡ 0 → ¬ (bit_at w k ≡ 1)
-no_seat w k e one = let zero_bit : bit_at w k ≡ 0 = no_bit w k e in absurd (omega arith)
-
 pub least_bit : (w : ℕ) → w ≢ 0 → w < 2 ^ 64 → (bit_at w (trailing_zeros w64 w) ≡ 1) × ((k : ℕ) → k < trailing_zeros w64 w → ¬ (bit_at w k ≡ 1))
 least_bit w some fits = let low = bit_at-trailing_zeros w64 w (omega arith) fits in
     (low.1, λ k lt one. let clear : bit_at w k ≡ 0 = low.2 k lt in absurd (omega arith))
@@ -234,6 +201,3 @@ shows_none = record {
 -- a row that is cleared unless a test says so
 pub cleared_unless : (row locks : List ℕ) (b : Bool) → b ≡ false → ShowsLocks (zeros 16) (if b then locks else [])
 cleared_unless row locks b off = subst (λ (x : Bool). ShowsLocks (zeros 16) (if x then locks else [])) (sym off) shows_none
-
-pub kept_if : (row locks : List ℕ) (b : Bool) → b ≡ true → ShowsLocks row locks → ShowsLocks row (if b then locks else [])
-kept_if row locks b on h = subst (λ (x : Bool). ShowsLocks row (if x then locks else [])) (sym on) h

@@ -1,33 +1,17 @@
 -- What a pass keeps of versions, and what it is after a step.
-use Rattle.std.proofs.Common.{◌≡◌, ◌≢◌, ℕ, suc, ◌+◌, ◌/◌, ◌%◌, ◌^◌, ◌<◌, Bool, true, false, ◌⊎◌, inl, ⊎_elim, List, [], ◌∷◌, ◌++◌, length}
-use Rattle.std.proofs.Common.{slice_index, slice_set}
-use Rattle.std.proofs.Common.{refl, sym, ap, ◌∙◌, subst, arith, if◌then◌else◌, None, Some, take, length-set, get_or-set_other, get_or-set_same}
+use Rattle.word_table.proofs.Common.{◌≡◌, ◌≢◌, ℕ, suc, ◌+◌, ◌/◌, ◌%◌, ◌^◌, ◌<◌, Bool, true, false, ◌⊎◌, inl, ⊎_elim, List, [], ◌∷◌, ◌++◌, length, slice_index}
+use Rattle.word_table.proofs.Common.{slice_set, refl, sym, ap, ◌∙◌, subst, arith, if◌then◌else◌, None, Some, take, length-set, get_or-set_other}
+use Rattle.word_table.proofs.Common.{get_or-set_same, bit_at, dite, ℕ_discrete, LOCKS, Read, Phase, Idle, Running, Yielding, Withdrawing, Releasing, is_open}
+use Rattle.word_table.proofs.Common.{IsIn, lock_of_word, has, without, flag, Trace, Notes, get_last, differ, has-nil, has-join, has-join_same, has-join_old}
+use Rattle.word_table.proofs.Common.{has-without, released_phase, has-append, undoing_phase, in_join, none_in, VersionCopy, ShowsLocks, IsVersionCopy}
+use Rattle.word_table.proofs.Common.{locks_found}
+use Rattle.values_rule.proofs.Common.{Touches, locks_of}
 use Rattle.std.proofs.lemmas.List.{map-append}
-use Rattle.std.specs.Int.{bit_at}
-use mathlib.Core.Logic.{dite}
-use native.Mathlib.Decide.{ℕ_discrete}
-use Rattle.history_model.specs.declared.TheConstants.{LOCKS}
-use Rattle.history_model.specs.declared.event.Event.TheVariants.{Read, Write}
-use Rattle.history_model.specs.declared.view.Phase.{Phase}
-use Rattle.history_model.specs.declared.view.Phase.TheVariants.{Idle, Running, Yielding, Withdrawing, Releasing}
-use Rattle.history_model.specs.Counts.{is_open}
-use Rattle.history_model.specs.Legal.{IsIn}
-use Rattle.history_model.specs.Locks.{lock_of_word}
-use Rattle.history_model.specs.Sets.{has, without, flag}
-use Rattle.history_model.specs.Traces.{Trace, Touches}
-use Rattle.history_model.specs.Undoing.{Notes}
-use Rattle.history_model.proofs.ListPlaces.{map_at, at_map, get-front, get_last}
-use Rattle.history_model.proofs.SetLemmas.{differ, has-nil, has-join, has-join_same, has-join_old, has-without}
+use Rattle.history_model.specs.declared.event.Event.TheVariants.{Write}
+use Rattle.history_model.proofs.ListPlaces.{map_at, at_map, get-front}
 use Rattle.history_model.proofs.Traces.EndEvents.{touches_read, touches_write}
-use Rattle.locks_rule.specs.Steps.{released_phase}
-use Rattle.locks_rule.specs.Versions.{locks_of}
 use Rattle.locks_rule.proofs.Frame.{flag_false}
-use Rattle.locks_rule.proofs.Joining.{has-append}
-use Rattle.values_rule.specs.Steps.{undoing_phase}
-use Rattle.values_rule.proofs.Members.{in_join, none_in}
-use Rattle.word_table.specs.declared.copies.VersionCopy.{VersionCopy}
-use Rattle.word_table.specs.Copies.{ShowsLocks, IsVersionCopy, written_or_owed}
-use Rattle.word_table.specs.Versions.{locks_found}
+use Rattle.word_table.specs.Copies.{written_or_owed}
 use Rattle.word_table.proofs.Kept.Bounded.{in_push}
 
 -- sets as lists

@@ -1,23 +1,18 @@
 -- How many of the records wrote a lock: as many as its version says.
-use Rattle.std.proofs.Common.{◌≡◌, ◌≢◌, ℕ, zero, suc, ◌<◌, ◌≤◌, ◌&&◌, ◌||◌, ◌==◌, Bool, true, false, cond, ⊎_elim, inl, List, [], ◌∷◌, AllPairs}
-use Rattle.std.proofs.Common.{flat_map, length, get_or, slice_get, Some, refl, sym, ap, ◌∙◌, subst, arith, zero-add, eq-eqb}
-use Rattle.std.specs.List.{filter, range_with_len}
-use Rattle.std.proofs.lemmas.Bool.{eqb-true}
+use Rattle.word_table.proofs.Common.{◌≡◌, ◌≢◌, ℕ, zero, suc, ◌<◌, ◌≤◌, ◌&&◌, ◌==◌, Bool, true, false, ⊎_elim, inl, List, [], ◌∷◌, length, slice_get, Some, refl}
+use Rattle.word_table.proofs.Common.{sym, ap, ◌∙◌, subst, arith, eq-eqb, filter, range_with_len, eqb-true, same_Some, slice_get-get_or, slice_get_within, Entry}
+use Rattle.word_table.proofs.Common.{Item, LockUse, AgreeWithVersions, IsIn, item_of_entry, items_of_entry, none_in, entry_from, writes_of}
+use Rattle.values_rule.proofs.Common.{Uses}
+use Rattle.std.proofs.Common.{◌||◌, cond, AllPairs, flat_map, get_or, zero-add}
 use Rattle.std.proofs.lemmas.List.Elements.{filter_passes}
 use Rattle.std.proofs.lemmas.List.FromFn.{get_or-range_with_len, length-range_with_len}
 use Rattle.std.proofs.lemmas.List.Kept.{AllPairs-filter}
 use Rattle.std.proofs.lemmas.List.Sums.{length-filter}
-use Rattle.std.proofs.lemmas.Option.{get_or_from_slice_get, same_Some, slice_get-get_or, slice_get_within}
-use Rattle.history_model.specs.declared.entry.Entry.{Entry}
-use Rattle.history_model.specs.declared.item.Item.{Item}
-use Rattle.history_model.specs.declared.item.LockUse.{LockUse}
-use Rattle.history_model.specs.Items.{AgreeWithVersions, HasUse, Uses}
-use Rattle.history_model.specs.Legal.{IsIn}
-use Rattle.values_rule.specs.History.{item_of_entry, items_of_entry}
+use Rattle.std.proofs.lemmas.Option.{get_or_from_slice_get}
+use Rattle.history_model.specs.Items.{HasUse}
 use Rattle.values_rule.specs.Records.{IsApart}
-use Rattle.values_rule.proofs.Members.{none_in}
-use Rattle.values_rule.proofs.Told.ItemsIn.{entry_from, entry_into, flat_map_in, in_flat_map, IsAttemptOf}
-use Rattle.word_table.specs.Closing.{writes_of, wrote_lock}
+use Rattle.values_rule.proofs.Told.ItemsIn.{entry_into, flat_map_in, in_flat_map, IsAttemptOf}
+use Rattle.word_table.specs.Closing.{wrote_lock}
 
 -- a list without what stands at a place
 abbrev without : {X : Type 0} → ℕ → List X → List X

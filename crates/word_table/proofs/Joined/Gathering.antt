@@ -1,48 +1,24 @@
 -- All passes of a table come together: the last seat has all numbers, and what it knows says what the table left.
-use Rattle.std.proofs.Common.{◌≡◌, ◌≢◌, ℕ, zero, suc, ◌+◌, ◌<◌, ◌≤◌, true, false, ◌⊎◌, inl, inr, ⊎_elim, List, [], ◌∷◌, ◌++◌, length, drop, Some, slice_get}
-use Rattle.std.proofs.Common.{slice_index, slice_set, refl, sym, ap, ◌∙◌, subst, arith, length-drop}
+use Rattle.word_table.proofs.Common.{◌≡◌, ◌≢◌, ℕ, zero, suc, ◌+◌, ◌<◌, true, false, ◌⊎◌, inl, inr, ⊎_elim, List, [], ◌∷◌, ◌++◌, length, drop, Some, slice_get}
+use Rattle.word_table.proofs.Common.{slice_index, slice_set, refl, sym, ap, ◌∙◌, subst, arith, slice_get_within, same_Some, get_elem?, some, some-injective}
+use Rattle.word_table.proofs.Common.{some-ne-none, dite, ℕ_discrete, State, Me, Final, Seen, TableId, Entry, AgreeWithVersions, Item, View, Phase, Idle}
+use Rattle.word_table.proofs.Common.{Running, Yielding, Withdrawing, Releasing, IsGood, IsIn, has, Knows, value_word, Notes, number, same_view, put_cases}
+use Rattle.word_table.proofs.Common.{has-join_same, spent_view, IsSeat, in_first, in_second, in_join, none_in, items_of_entry, after_joining, IsRecorded}
+use Rattle.word_table.proofs.Common.{gains_first, gains_second, gains_cases, place, writes_of, ClosedView, AreAllPasses, fresh_pass, PassView, DeskView}
+use Rattle.word_table.proofs.Common.{IsGathered, IsSound}
+use Rattle.values_rule.proofs.Common.{IsArrangement, memory_of, version_at, items_of}
+use Rattle.std.proofs.Common.{length-drop}
 use Rattle.std.proofs.lemmas.List.{ext_get_or, get_or-drop, get_or-set_same, get_or-set_other}
-use Rattle.std.proofs.lemmas.Option.{slice_get_within, same_Some}
-use lib.ListN.{get_elem?}
-use mathlib.Core.Option.{some, some-injective, some-ne-none}
-use mathlib.Core.Logic.{dite}
-use native.Mathlib.Decide.{ℕ_discrete}
-use Rattle.atomic_table.specs.Table.{State, Me, Joins, Final, Seen}
-use Rattle.atomic_table.specs.Seated.{TableId}
+use Rattle.atomic_table.specs.Table.{Joins}
 use Rattle.std.specs.List.{flat_map}
-use Rattle.history_model.specs.declared.entry.Entry.{Entry}
-use Rattle.history_model.specs.Items.{AgreeWithVersions}
-use Rattle.history_model.specs.declared.item.Item.{Item}
-use Rattle.history_model.specs.declared.view.View.{View}
-use Rattle.history_model.specs.declared.view.Phase.{Phase}
-use Rattle.history_model.specs.declared.view.Phase.TheVariants.{Idle, Running, Yielding, Withdrawing, Releasing}
-use Rattle.history_model.specs.Arrangements.{IsArrangement}
-use Rattle.history_model.specs.Fitting.{IsGood}
-use Rattle.history_model.specs.Legal.{IsIn}
-use Rattle.history_model.specs.Sets.{has}
-use Rattle.history_model.specs.Table.{Knows, value_word}
-use Rattle.history_model.specs.Undoing.{Notes, written_back}
-use Rattle.history_model.specs.Views.{number}
-use Rattle.history_model.proofs.Views.Places.{same_view, put_cases}
-use Rattle.history_model.proofs.SetLemmas.{has-join_same}
-use Rattle.locks_rule.specs.Joins.{spent_view}
-use Rattle.locks_rule.specs.Locks.{IsSeat}
+use Rattle.history_model.specs.Undoing.{written_back}
 use Rattle.locks_rule.proofs.Joining.{has-append_first, has-append_second}
-use Rattle.values_rule.specs.Undone.{memory_of, undone_by}
-use Rattle.values_rule.proofs.Members.{in_first, in_second, in_join, none_in}
-use Rattle.values_rule.specs.History.{version_at, items_of_entry, items_of}
-use Rattle.locks_rule.specs.Joins.{after_joining}
-use Rattle.values_rule.specs.Records.{IsRecorded}
-use Rattle.values_rule.proofs.CutsAndJoins.Gains.{gains_first, gains_second, gains_cases}
+use Rattle.values_rule.specs.Undone.{undone_by}
 use Rattle.values_rule.proofs.Whole.Closing.{of_all, agree_with_table, has_arrangement}
-use Rattle.values_rule.proofs.Whole.Legality.{place}
 use Rattle.values_rule.proofs.Whole.Undone.{undoing_restores}
-use Rattle.word_table.specs.Closing.{writes_of, ClosedView, IsCoherent, IsLegalInEachOrder, AreRecords, AreAllPasses, AreSeenBy}
+use Rattle.word_table.specs.Closing.{IsCoherent, IsLegalInEachOrder, AreRecords, AreSeenBy}
 use Rattle.word_table.proofs.Joined.Counting.{writes_counted}
-use Rattle.word_table.specs.Copies.{fresh_pass, PassView}
-use Rattle.word_table.specs.Desks.{DeskView}
-use Rattle.word_table.specs.Gathering.{HasTaken, IsGathered}
-use Rattle.word_table.specs.Sound.{IsSound}
+use Rattle.word_table.specs.Gathering.{HasTaken}
 use Rattle.word_table.proofs.Kept.KeptChanges.{join_seats_sound}
 
 module _ (good : List ℕ → Type 0) (n : ℕ) (base : List ℕ) where
@@ -266,10 +242,6 @@ desk_closed {S} word_count good desk seen passes made closed is e h =
 pub all_of_desk : {S : Type 0} (desk seen : DeskView S) (passes : List PassView) → desk ≡ seen
     → AreAllPasses seen.table seen.seats passes → AreAllPasses desk.table desk.seats passes
 all_of_desk {S} desk seen passes is all = subst (λ (d : DeskView S). AreAllPasses d.table d.seats passes) (sym is) all
-
--- a table has a pass
-pub some_pass : (table : TableId) (n : ℕ) (passes : List PassView) → AreAllPasses table n passes → 1 ≤ n → passes ≡ [] → ⊥
-some_pass table n passes all least none = let p = all.all 0 least in none_in p.0 (subst (λ (l : List PassView). IsIn p.0 l) none p.1)
 
 pub seat_view : (me : Me (Unit {0}) View) (v : View) → me ≡ (v, []) → (me.0 ≡ v) × (me.1 ≡ [])
 seat_view me v e = (ap (λ (m : Me (Unit {0}) View). m.0) e, ap (λ (m : Me (Unit {0}) View). m.1) e)

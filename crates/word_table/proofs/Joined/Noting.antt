@@ -1,18 +1,9 @@
 -- Notes are taken and met.
-use Rattle.std.proofs.Common.{◌≡◌, ◌↔◌, ◌⊎◌, ℕ, ⊎_elim, List, [], sym, ap, ◌∙◌, subst}
-use Rattle.atomic_table.specs.Table.{State, Splits, Joins}
-use Rattle.atomic_table.specs.Seated.{TableId}
-use Rattle.history_model.specs.declared.entry.Entry.{Entry}
-use Rattle.history_model.specs.declared.view.View.{View}
-use Rattle.history_model.specs.declared.view.Phase.TheVariants.{Idle}
-use Rattle.history_model.specs.Legal.{IsIn}
-use Rattle.history_model.proofs.Views.Places.{put_cases}
-use Rattle.locks_rule.specs.Joins.{left_by_note, note_of, spent_view}
-use Rattle.locks_rule.specs.Joins.{gains, after_note}
-use Rattle.values_rule.proofs.CutsAndJoins.Gains.{gains_first, gains_second, gains_cases}
-use Rattle.word_table.specs.Copies.{PassView}
+use Rattle.word_table.proofs.Common.{◌≡◌, ◌⊎◌, ℕ, ⊎_elim, List, [], sym, ap, ◌∙◌, subst, State, Splits, TableId, Entry, View, Idle, IsIn, put_cases}
+use Rattle.word_table.proofs.Common.{left_by_note, note_of, spent_view, gains, after_note, gains_first, gains_second, gains_cases, PassView, IsSound}
+use Rattle.std.proofs.Common.{◌↔◌}
+use Rattle.atomic_table.specs.Table.{Joins}
 use Rattle.word_table.specs.Notes.{NoteView}
-use Rattle.word_table.specs.Sound.{IsSound}
 use Rattle.word_table.proofs.Kept.KeptChanges.{take_note_sound, meet_note_sound}
 
 module _ (good : List ℕ → Type 0) (n : ℕ) (base : List ℕ) where

@@ -1,42 +1,21 @@
 -- Every kind of step, every cut and every join keeps that no version is above the number of calls that are no longer open.
-use Rattle.std.proofs.Common.{◌≡◌, ◌≢◌, ℕ, suc, ◌+◌, ◌-◌, ◌%◌, ◌<◌, ◌≤◌, Bool, true, false, ◌⊎◌, inl, inr, ⊎_elim, List, Option, None, [], ◌∷◌, ◌++◌, length}
-use Rattle.std.proofs.Common.{slice_index, slice_set}
-use Rattle.std.proofs.Common.{refl, sym, ap, ◌∙◌, subst, arith, ◌==◌, if◌then◌else◌, Some, get_or-set_other, get_or-set_same}
-use Rattle.std.proofs.lemmas.List.{set-get_or}
-use Rattle.std.specs.Int.{bit_at}
-use mathlib.Core.Logic.{dite}
-use native.Mathlib.Decide.{ℕ_discrete}
-use Rattle.history_model.specs.declared.TheConstants.{LOCKS}
-use Rattle.history_model.specs.declared.event.Cause.{Cause}
-use Rattle.history_model.specs.declared.view.View.{View}
-use Rattle.history_model.specs.declared.view.Phase.{Phase}
-use Rattle.history_model.specs.declared.view.Phase.TheVariants.{Idle, Running, Yielding, Withdrawing, Releasing}
-use Rattle.history_model.specs.Counts.{is_attempt, is_open, calls_sum, open_count}
-use Rattle.history_model.specs.Legal.{IsIn}
-use Rattle.history_model.specs.Sets.{has, without, without_first, flag}
-use Rattle.history_model.specs.Table.{Knows, clock_word, calls_word, stamps_word, row_word, writer_word, commits_word, version_word, value_word}
-use Rattle.history_model.proofs.SetLemmas.{differ, has-nil, has-without}
-use Rattle.history_model.proofs.Views.Places.{put_cases, put_there, added_cases}
-use Rattle.locks_rule.specs.Actions.{words_after, views_after}
-use Rattle.locks_rule.specs.Joins.{left_by_note, note_of, spent_view, views_joined}
-use Rattle.locks_rule.specs.Locks.{LocksHold}
-use Rattle.locks_rule.specs.Splits.{left_by_split, given_by_split}
-use Rattle.locks_rule.specs.Steps.{is_free, released_phase, after_asking, after_meeting}
-use Rattle.locks_rule.proofs.Asides.{picked}
-use Rattle.locks_rule.proofs.Counting.{calls_below-same, calls_below-more}
-use Rattle.locks_rule.proofs.Own.{own, lock_below, lock_near, granted_near, own_claim}
-use Rattle.values_rule.specs.Steps.{undoing_phase}
+use Rattle.word_table.proofs.Common.{◌≡◌, ◌≢◌, ℕ, suc, ◌+◌, ◌-◌, ◌%◌, ◌<◌, ◌≤◌, Bool, true, false, ◌⊎◌, inl, inr, ⊎_elim, List, Option, None, [], ◌∷◌, ◌++◌}
+use Rattle.word_table.proofs.Common.{length, slice_index, slice_set, refl, sym, ap, ◌∙◌, subst, arith, ◌==◌, if◌then◌else◌, Some, get_or-set_other}
+use Rattle.word_table.proofs.Common.{get_or-set_same, set-get_or, bit_at, dite, ℕ_discrete, LOCKS, Cause, View, Phase, Idle, Running, Yielding, Withdrawing}
+use Rattle.word_table.proofs.Common.{Releasing, is_attempt, is_open, calls_sum, IsIn, has, without, without_first, flag, Knows, clock_word, calls_word}
+use Rattle.word_table.proofs.Common.{stamps_word, row_word, writer_word, commits_word, version_word, value_word, differ, has-nil, has-without, put_cases}
+use Rattle.word_table.proofs.Common.{put_there, words_after, views_after, left_by_note, note_of, spent_view, views_joined, LocksHold, left_by_split}
+use Rattle.word_table.proofs.Common.{given_by_split, is_free, released_phase, after_asking, after_meeting, picked, own, lock_near, undoing_phase, in_join}
+use Rattle.word_table.proofs.Common.{none_in, judged, after_giving_way, after_judgement, after_waiting, after_restarting, after_note, after_joining, Step}
+use Rattle.word_table.proofs.Common.{SetReadBit, ClearReadBit, LoadWriter, ClaimWriter, ScanRow, ReleaseWriter, BeginCall, LoadValue, StoreValue, UndoStore}
+use Rattle.word_table.proofs.Common.{CommitCall, ClearStamp, DrawStamp, AnnounceStamp, JudgeStamp, LoadCauseStamp, LoadVersion, StoreVersion, action_of, May}
+use Rattle.word_table.proofs.Common.{IsSound, VersionsBounded}
+use Rattle.stamps_rule.proofs.Common.{calls_below-same}
+use Rattle.history_model.specs.Counts.{open_count}
+use Rattle.history_model.proofs.Views.Places.{added_cases}
+use Rattle.locks_rule.proofs.Counting.{calls_below-more}
+use Rattle.locks_rule.proofs.Own.{lock_below, granted_near, own_claim}
 use Rattle.values_rule.proofs.Counting.{open_count-set}
-use Rattle.values_rule.proofs.Members.{in_join, none_in}
-use Rattle.stamps_rule.specs.Steps.{judged, after_giving_way, after_judgement, after_waiting, after_restarting}
-use Rattle.locks_rule.specs.Joins.{after_note, after_joining}
-use Rattle.word_table.specs.declared.step.Step.{Step}
-use Rattle.word_table.specs.declared.step.Step.TheVariants.{SetReadBit, ClearReadBit, LoadWriter, ClaimWriter, ScanRow, ReleaseWriter, BeginCall, LoadValue}
-use Rattle.word_table.specs.declared.step.Step.TheVariants.{StoreValue, UndoStore, CommitCall, ClearStamp, DrawStamp, AnnounceStamp, JudgeStamp}
-use Rattle.word_table.specs.declared.step.Step.TheVariants.{LoadCauseStamp, LoadVersion, StoreVersion}
-use Rattle.word_table.specs.Kinds.{action_of, May}
-use Rattle.word_table.specs.Sound.{IsSound}
-use Rattle.word_table.specs.Versions.{VersionsBounded}
 
 -- what stands in a list with one more at its end
 pub in_push : {A : Type 0} (xs : List A) (y x : A) → IsIn x (xs ++ y ∷ []) → IsIn x xs ⊎ (y ≡ x)

@@ -1,36 +1,21 @@
 -- The kinds of step on timestamps keep the value invariant: one that gives way has a cause in another seat with an
 -- earlier timestamp, to which no attempt of the call gave way before.
-use Rattle.std.proofs.Common.{◌≡◌, ℕ, ◌+◌, ◌<◌, ◌≤◌, Bool, true, ◌⊎◌, inl, inr, ⊎_elim, List, ◌∷◌, [], ◌++◌, length, slice_get, Option, Some, None, slice_index}
-use Rattle.std.proofs.Common.{slice_set, ◌==◌, refl, sym, ◌∙◌}
-use Rattle.std.proofs.Common.{subst, arith, get_or-set_other}
-use Rattle.std.proofs.lemmas.List.{set-get_or}
-use Rattle.std.proofs.lemmas.Option.{slice_get_within}
-use Rattle.history_model.specs.declared.event.Cause.{Cause}
-use Rattle.history_model.specs.declared.view.View.{View}
-use Rattle.history_model.specs.declared.view.Phase.TheVariants.{Idle, Yielding}
-use Rattle.history_model.specs.Legal.{IsIn}
-use Rattle.history_model.specs.Sets.{has, without}
-use Rattle.history_model.specs.Table.{Knows, clock_word, calls_word, commits_word, stamps_word, version_word, value_word}
-use Rattle.history_model.proofs.ListPlaces.{get_first, get_last}
-use Rattle.history_model.proofs.SetLemmas.{not_true}
-use Rattle.history_model.proofs.Views.Places.{put_here}
-use Rattle.locks_rule.specs.Actions.{Action, words_after, views_after}
-use Rattle.locks_rule.proofs.Asides.{picked}
-use Rattle.locks_rule.proofs.Own.{own}
-use Rattle.values_rule.specs.Keeping.{IsNewCause, SameValues, SameValueWords}
-use Rattle.stamps_rule.specs.Causes.{past_causes}
-use Rattle.stamps_rule.specs.Stamps.{StampsHold}
-use Rattle.stamps_rule.specs.Steps.{MayDrawStamp, MayAnnounceStamp, MayJudgeStamp, MayLoadCauseStamp, draw_stamp_action, announce_stamp_action}
-use Rattle.stamps_rule.specs.Steps.{judge_stamp_action, load_cause_stamp_action, judged, after_judgement, after_giving_way, attempt_of}
-use Rattle.stamps_rule.specs.Steps.{after_waiting, after_restarting}
-use Rattle.stamps_rule.proofs.CauseLists.{attempt_cause, past_added}
-use Rattle.stamps_rule.proofs.StampKinds.{judge_stamp_stamps}
-use Rattle.values_rule.specs.Versions.{ValuesHold}
+use Rattle.word_table.proofs.Common.{◌≡◌, ℕ, ◌+◌, ◌<◌, ◌≤◌, Bool, true, ◌⊎◌, inl, inr, ⊎_elim, List, ◌∷◌, [], ◌++◌, length, slice_get, Option, Some, None}
+use Rattle.word_table.proofs.Common.{slice_index, slice_set, ◌==◌, refl, sym, ◌∙◌, subst, arith, get_or-set_other, set-get_or, slice_get_within, Cause, View}
+use Rattle.word_table.proofs.Common.{Idle, Yielding, IsIn, has, without, Knows, clock_word, calls_word, commits_word, stamps_word, version_word, value_word}
+use Rattle.word_table.proofs.Common.{get_first, get_last, not_true, put_here, Action, words_after, views_after, picked, own, past_causes, StampsHold}
+use Rattle.word_table.proofs.Common.{MayJudgeStamp, MayLoadCauseStamp, draw_stamp_action, announce_stamp_action, judge_stamp_action, load_cause_stamp_action}
+use Rattle.word_table.proofs.Common.{judged, after_judgement, after_giving_way, after_waiting, after_restarting, past_added, judge_stamp_stamps, ValuesHold}
+use Rattle.word_table.proofs.Common.{IsSound}
+use Rattle.values_rule.proofs.Common.{SameValues, SameValueWords}
+use Rattle.stamps_rule.proofs.Common.{MayDrawStamp, MayAnnounceStamp}
+use Rattle.values_rule.specs.Keeping.{IsNewCause}
+use Rattle.stamps_rule.specs.Steps.{attempt_of}
+use Rattle.stamps_rule.proofs.CauseLists.{attempt_cause}
 use Rattle.values_rule.proofs.StepKinds.Giving.{giving_way_values}
 use Rattle.values_rule.proofs.StepKinds.Quiet.{restart_values}
 use Rattle.values_rule.proofs.StepKinds.Same.{aside_values}
 use Rattle.values_rule.proofs.Told.Owing.{version_kept}
-use Rattle.word_table.specs.Sound.{IsSound}
 
 -- a step of a seat that may take it keeps the value invariant of a sound table
 abbrev pub ValuesStay : (List ℕ → Type 0) → (View → Type 0) → (View → Action) → Type 0

@@ -1,15 +1,8 @@
 -- The clock has room for one more, and so has a version: there are no more timestamps than calls that were begun, and no
 -- version is greater than their number.
-use Rattle.std.proofs.Common.{◌≡◌, ℕ, zero, suc, ◌*◌, ◌^◌, ◌<◌, ◌≤◌, List, [], ◌∷◌, slice_index, sym, ap, subst, arith}
-use Rattle.history_model.specs.declared.view.View.{View}
+use Rattle.word_table.proofs.Common.{◌≡◌, ℕ, zero, suc, ◌*◌, ◌^◌, ◌<◌, ◌≤◌, List, [], ◌∷◌, slice_index, sym, ap, subst, arith, View, calls_word, version_word}
+use Rattle.word_table.proofs.Common.{LOCKS, load_version_action, draw_stamp_action, own, MOST_PASSES, Grows}
 use Rattle.history_model.specs.Counts.{calls_below}
-use Rattle.history_model.specs.Table.{calls_word, version_word}
-use Rattle.history_model.specs.declared.TheConstants.{LOCKS}
-use Rattle.locks_rule.specs.Versions.{load_version_action}
-use Rattle.stamps_rule.specs.Steps.{draw_stamp_action}
-use Rattle.locks_rule.proofs.Own.{own}
-use Rattle.word_table.specs.declared.limits.TheConstants.{MOST_PASSES}
-use Rattle.word_table.specs.Kinds.{Grows}
 
 calls_small : (n m : ℕ) (ws : List ℕ) → ((j : ℕ) → j < m → slice_index ws (calls_word n j) < 2 ^ 32) → calls_below n m ws ≤ m * 2 ^ 32
 unfolding calls_below

@@ -1,15 +1,14 @@
 -- The cuts of a view and the joins of two keep what holds of a table, in its four parts.
-use Rattle.std.proofs.Common.{ℕ, List}
-use Rattle.locks_rule.specs.Joins.{MayTakeNote, left_by_note, note_of, MayMeetNote, MayJoinSeats, KeepsJoin}
-use Rattle.locks_rule.specs.Splits.{KeepsSplit, MaySplitSeat, left_by_split, given_by_split}
+use Rattle.word_table.proofs.Common.{ℕ, List, left_by_note, note_of, MayMeetNote, MayJoinSeats, KeepsJoin, MaySplitSeat, left_by_split, given_by_split, gains}
+use Rattle.word_table.proofs.Common.{after_note, after_joining, IsSound}
+use Rattle.locks_rule.specs.Joins.{MayTakeNote}
+use Rattle.locks_rule.specs.Splits.{KeepsSplit}
 use Rattle.locks_rule.proofs.Splitting.{split_seat_keeps, take_note_keeps}
 use Rattle.values_rule.proofs.CutsAndJoins.Cuts.{split_seat_values, take_note_values}
 use Rattle.values_rule.proofs.CutsAndJoins.Joins.{meet_note_values, join_seats_values}
 use Rattle.stamps_rule.proofs.Cuts.{split_seat_stamps, take_note_stamps}
 use Rattle.stamps_rule.proofs.Joins.{meets_note, joins_seats}
-use Rattle.locks_rule.specs.Joins.{gains, after_note, after_joining}
 use Rattle.locks_rule.proofs.Joining.{meet_note_keeps, join_seats_keeps}
-use Rattle.word_table.specs.Sound.{IsSound}
 use Rattle.word_table.proofs.Kept.Bounded.{split_seat_bounded, take_note_bounded, meet_note_bounded, join_seats_bounded}
 
 pub split_seat_sound : (good : List ℕ → Type 0) (n : ℕ) (base : List ℕ) (j : ℕ) → KeepsSplit (IsSound good n base) (MaySplitSeat j) left_by_split given_by_split

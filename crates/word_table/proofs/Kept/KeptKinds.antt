@@ -1,13 +1,14 @@
 -- Every kind of step keeps what holds of a table, in its four parts.
-use Rattle.std.proofs.Common.{ℕ, List}
-use Rattle.locks_rule.specs.Actions.{Keeps}
-use Rattle.locks_rule.specs.Locks.{LocksHold}
+use Rattle.word_table.proofs.Common.{ℕ, List, LocksHold, judge_stamp_stamps, Step, SetReadBit, ClearReadBit, LoadWriter, ClaimWriter, ScanRow, ReleaseWriter}
+use Rattle.word_table.proofs.Common.{BeginCall, LoadValue, StoreValue, UndoStore, CommitCall, ClearStamp, DrawStamp, AnnounceStamp, JudgeStamp, LoadCauseStamp}
+use Rattle.word_table.proofs.Common.{LoadVersion, StoreVersion, action_of, May, IsSound}
+use Rattle.locks_rule.proofs.Common.{Keeps}
 use Rattle.locks_rule.proofs.Readers.{set_read_bit_keeps, clear_read_bit_keeps, load_writer_keeps}
 use Rattle.locks_rule.proofs.Writers.{claim_writer_keeps, scan_row_keeps, release_writer_keeps}
 use Rattle.stamps_rule.proofs.LockKinds.{set_read_bit_stamps, clear_read_bit_stamps, load_writer_stamps, claim_writer_stamps, scan_row_stamps}
 use Rattle.stamps_rule.proofs.LockKinds.{release_writer_stamps}
 use Rattle.stamps_rule.proofs.LocksStand.{draw_stamp_locks, announce_stamp_locks, judge_stamp_locks, load_cause_stamp_locks}
-use Rattle.stamps_rule.proofs.StampKinds.{draw_stamp_stamps, announce_stamp_stamps, judge_stamp_stamps, load_cause_stamp_stamps}
+use Rattle.stamps_rule.proofs.StampKinds.{draw_stamp_stamps, announce_stamp_stamps, load_cause_stamp_stamps}
 use Rattle.values_rule.proofs.StepKinds.Begins.{begin_call_values}
 use Rattle.values_rule.proofs.StepKinds.Commits.{commit_call_values}
 use Rattle.values_rule.proofs.StepKinds.LockKinds.{set_read_bit_values, clear_read_bit_values, load_writer_values, claim_writer_values, scan_row_values}
@@ -17,12 +18,6 @@ use Rattle.values_rule.proofs.StepKinds.LocksStand.{undo_store_locks, commit_cal
 use Rattle.values_rule.proofs.StepKinds.ValueKinds.{load_value_values, store_value_values, undo_store_values}
 use Rattle.values_rule.proofs.StepKinds.VersionLoads.{load_version_values}
 use Rattle.values_rule.proofs.StepKinds.VersionStores.{store_version_values}
-use Rattle.word_table.specs.declared.step.Step.{Step}
-use Rattle.word_table.specs.declared.step.Step.TheVariants.{SetReadBit, ClearReadBit, LoadWriter, ClaimWriter, ScanRow, ReleaseWriter, BeginCall, LoadValue}
-use Rattle.word_table.specs.declared.step.Step.TheVariants.{StoreValue, UndoStore, CommitCall, ClearStamp, DrawStamp, AnnounceStamp, JudgeStamp}
-use Rattle.word_table.specs.declared.step.Step.TheVariants.{LoadCauseStamp, LoadVersion, StoreVersion}
-use Rattle.word_table.specs.Kinds.{action_of, May}
-use Rattle.word_table.specs.Sound.{IsSound}
 use Rattle.word_table.proofs.Kept.Bounded.{bounded_kept}
 use Rattle.word_table.proofs.Kept.VersionPairs.{load_version_stamps, store_version_stamps}
 use Rattle.word_table.proofs.Kept.ClockPairs.{ValuesStay, draw_stamp_values, announce_stamp_values, judge_stamp_values, load_cause_stamp_values}

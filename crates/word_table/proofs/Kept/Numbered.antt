@@ -1,10 +1,7 @@
 -- A rule of views alone, of seats whose steps are counted.
-use Rattle.std.proofs.Common.{◌≡◌, ℕ, zero, suc, ◌+◌, ◌<◌, List, [], ◌∷◌, ◌++◌, slice_index, slice_set, refl, sym, ap, ◌∙◌, subst}
-use lib.ListN.{get_elem?}
-use mathlib.Core.Option.{some}
-use Rattle.atomic_table.specs.Seated.{TableId}
-use Rattle.atomic_table.specs.Table.{Allows, Final, Joins, Me, Seen, Splits, State}
-use Rattle.history_model.specs.declared.view.View.{View}
+use Rattle.word_table.proofs.Common.{◌≡◌, ℕ, zero, suc, ◌+◌, ◌<◌, List, [], ◌∷◌, ◌++◌, slice_index, slice_set, refl, sym, ap, ◌∙◌, subst, get_elem?, some}
+use Rattle.word_table.proofs.Common.{TableId, Allows, Final, Me, Seen, Splits, State, View}
+use Rattle.atomic_table.specs.Table.{Joins}
 use Rattle.word_table.specs.declared.rule.Counted.{Counted}
 use Rattle.word_table.specs.declared.rule.Ground.{Ground}
 use Rattle.word_table.specs.Words.{known, views_of, SeatView, WordsView}

@@ -1,14 +1,10 @@
 -- Each atomic operation may be any kind of step that fits it.
-use Rattle.std.proofs.Common.{◌≡◌, ℕ, ◌+◌, ◌%◌, ◌^◌, ◌<◌, Bool, true, false, List, slice_index, slice_set, refl, sym, ap, ◌∙◌, subst, ◌==◌, if◌then◌else◌}
+use Rattle.word_table.proofs.Common.{◌≡◌, ℕ, ◌+◌, ◌%◌, ◌^◌, ◌<◌, Bool, true, false, List, slice_index, slice_set, refl, sym, ap, ◌∙◌, subst, ◌==◌}
+use Rattle.word_table.proofs.Common.{if◌then◌else◌, either, State, Me, Allows, View, Knows, Action, found_by, views_after, Step, action_of, May, Stores, Grows}
+use Rattle.word_table.proofs.Common.{IsSound}
 use Rattle.std.proofs.Math.Nat.{mod-eq_of_lt}
-use prog.Atomic.{either}
-use Rattle.atomic_table.specs.Table.{State, Me, Act, keeps, Allows}
-use Rattle.history_model.specs.declared.view.View.{View}
-use Rattle.history_model.specs.Table.{Knows}
-use Rattle.locks_rule.specs.Actions.{Action, found_by, views_after}
-use Rattle.word_table.specs.declared.step.Step.{Step}
-use Rattle.word_table.specs.Kinds.{action_of, May, Stores, Grows, Took}
-use Rattle.word_table.specs.Sound.{IsSound}
+use Rattle.atomic_table.specs.Table.{Act, keeps}
+use Rattle.word_table.specs.Kinds.{Took}
 use Rattle.word_table.proofs.Kept.KeptKinds.{sound_kept}
 
 -- a view with what the seat has taken, which is nothing here

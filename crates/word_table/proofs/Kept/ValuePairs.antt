@@ -1,19 +1,12 @@
 -- The kinds of step on calls, values and entries keep the timestamp invariant: one begins a call, one ends it, and
 -- the others leave timestamps and causes alone.
-use Rattle.std.proofs.Common.{◌≡◌, ℕ, ◌+◌, Bool, true, false, List, slice_index, refl, sym, ap, ◌∙◌, arith}
-use Rattle.history_model.specs.declared.view.View.{View}
-use Rattle.history_model.specs.declared.view.Phase.{Phase}
-use Rattle.history_model.specs.declared.view.Phase.TheVariants.{Idle, Running, Yielding, Withdrawing, Releasing}
-use Rattle.history_model.specs.Counts.{is_attempt, is_open}
-use Rattle.history_model.specs.Table.{Knows, calls_word, stamps_word}
-use Rattle.locks_rule.specs.Actions.{Action, found_by, words_after, views_after}
-use Rattle.locks_rule.proofs.Own.{own}
-use Rattle.values_rule.specs.Steps.{begin_call_action, load_value_action, store_value_action, undo_store_action, undoing_phase, clear_stamp_action}
-use Rattle.values_rule.specs.Steps.{MayBeginCall, MayLoadValue, MayStoreValue, MayUndoStore, MayCommitCall, commit_call_action, MayClearStamp}
-use Rattle.stamps_rule.specs.Causes.{is_yielding}
-use Rattle.stamps_rule.specs.Stamps.{is_idle, StampsHold}
-use Rattle.stamps_rule.proofs.Asides.{aside_keeps, opens_keeps, ends_keeps, notes_same}
-use Rattle.word_table.specs.Sound.{IsSound}
+use Rattle.word_table.proofs.Common.{◌≡◌, ℕ, ◌+◌, Bool, true, false, List, slice_index, refl, sym, ap, ◌∙◌, arith, View, Phase, Idle, Running, Yielding}
+use Rattle.word_table.proofs.Common.{Withdrawing, Releasing, is_attempt, is_open, Knows, calls_word, stamps_word, Action, found_by, words_after, views_after}
+use Rattle.word_table.proofs.Common.{own, begin_call_action, load_value_action, store_value_action, undo_store_action, undoing_phase, clear_stamp_action}
+use Rattle.word_table.proofs.Common.{MayBeginCall, MayLoadValue, commit_call_action, is_yielding, StampsHold, notes_same, IsSound}
+use Rattle.values_rule.proofs.Common.{MayStoreValue, MayUndoStore, MayCommitCall, MayClearStamp}
+use Rattle.stamps_rule.proofs.Common.{is_idle}
+use Rattle.stamps_rule.proofs.Asides.{aside_keeps, opens_keeps, ends_keeps}
 
 -- a step of a seat that may take it keeps the timestamp invariant of a sound table
 abbrev pub StampsStay : (List ℕ → Type 0) → (View → Type 0) → (View → Action) → Type 0

@@ -1,15 +1,11 @@
 -- The kinds of step on versions keep the timestamp invariant: their words are of nobody else, and a seat that takes one knows
 -- the same of timestamps.
-use Rattle.std.proofs.Common.{ℕ, List, refl, arith}
-use Rattle.history_model.specs.declared.view.View.{View}
-use Rattle.locks_rule.specs.Actions.{found_by}
-use Rattle.locks_rule.specs.Versions.{MayLoadVersion, load_version_action, store_version_action}
-use Rattle.locks_rule.proofs.Own.{own}
-use Rattle.stamps_rule.specs.Asides.{SameStamps}
-use Rattle.stamps_rule.proofs.Asides as stamps
-use Rattle.stamps_rule.proofs.Asides.{notes_same}
+use Rattle.word_table.proofs.Common.{ℕ, List, refl, arith, View, found_by, load_version_action, store_version_action, own, notes_same}
+use Rattle.values_rule.proofs.Common.{MayLoadVersion}
+use Rattle.stamps_rule.proofs.Common.{SameStamps}
 use Rattle.word_table.specs.Versions.{MayRaiseVersion}
 use Rattle.word_table.proofs.Kept.ValuePairs.{StampsStay}
+use Rattle.stamps_rule.proofs.Asides as stamps
 
 -- a view with other uses, or which owes something else
 abbrev used : View → List (ℕ × ℕ) → List ℕ → View

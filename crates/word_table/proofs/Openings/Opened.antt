@@ -1,18 +1,10 @@
 -- The passes of a desk, taken from the end of their list, as a test opens it.
-use Rattle.std.proofs.Common.{◌≡◌, ℕ, ◌+◌, List, [], ◌∷◌, ◌++◌, length, length-append, slice_get, Some, refl, sym, ap, ◌∙◌, arith}
-use Rattle.std.proofs.lemmas.Option.{same_Some}
-use Rattle.word_table.specs.Copies.{fresh_pass, PassView}
-use Rattle.word_table.specs.Desks.{DeskView}
+use Rattle.word_table.proofs.Common.{◌≡◌, ℕ, ◌+◌, List, [], ◌∷◌, ◌++◌, length, length-append, slice_get, Some, refl, sym, ap, ◌∙◌, arith, same_Some, fresh_pass}
+use Rattle.word_table.proofs.Common.{PassView, DeskView}
 
 none_left : {A : Type 0} (xs : List A) → length xs ≡ 0 → xs ≡ []
 none_left [] e = refl
 none_left (x ∷ xs) e = absurd (omega arith)
-
--- one that was taken from the end is all of a list of one
-pub one_of : {A : Type 0} (all none : List A) (a : A) → all ≡ none ++ a ∷ [] → length all ≡ 1 → all ≡ a ∷ []
-one_of all none a s one =
-    let last : length all ≡ length none + 1 = ap length s ∙ length-append none (a ∷ []) in
-    s ∙ ap (λ l. l ++ a ∷ []) (none_left none (omega (arith, last, one)))
 
 -- two that were taken from the end are all of a list of two
 pub two_of : {A : Type 0} (all one none : List A) (a b : A) → all ≡ one ++ b ∷ [] → one ≡ none ++ a ∷ [] → length all ≡ 2 → all ≡ a ∷ b ∷ []
@@ -29,15 +21,6 @@ three_of all two one none a b c q r s three =
     let long : length all ≡ length two + 1 = ap length q ∙ length-append two (c ∷ []) in
     let left : length two ≡ 2 = omega (arith, long, three) in
     q ∙ ap (λ l. l ++ c ∷ []) (two_of two one none a b r s left)
-
--- four that were taken from the end are all of a list of four
-pub four_of : {A : Type 0} (all three two one none : List A) (a b c d : A) → all ≡ three ++ d ∷ []
-    → three ≡ two ++ c ∷ [] → two ≡ one ++ b ∷ [] → one ≡ none ++ a ∷ [] → length all ≡ 4 → all ≡ a ∷ b ∷ c ∷ d ∷ []
-four_of all three two one none a b c d p q r s four =
-    let long : length all ≡ length three + 1 = ap length p ∙ length-append three (d ∷ []) in
-    let less : length three ≡ length two + 1 = ap length q ∙ length-append two (c ∷ []) in
-    let left : length two ≡ 2 = omega (arith, long, less, four) in
-    p ∙ ap (λ l. l ++ d ∷ []) (q ∙ ap (λ l. l ++ c ∷ []) (two_of two one none a b r s left))
 
 -- the pass at place j has done nothing, over the desk's own words
 pub has_opened : {S : Type 0} (desk : DeskView S) (words : List ℕ) (n j : ℕ) (all list : List PassView)

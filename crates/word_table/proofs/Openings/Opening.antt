@@ -1,30 +1,15 @@
 -- How a table begins: one view has all numbers, and no lock is held. Its first numbers are dealt out.
-use Rattle.std.proofs.Common.{◌≡◌, ℕ, zero, suc, ◌+◌, ◌-◌, ◌%◌, ◌^◌, ◌<◌, ◌≤◌, true, false, ⊎_elim, List, [], ◌∷◌, ◌++◌, length, slice_index, replicate, refl}
-use Rattle.std.proofs.Common.{sym, ap, ◌∙◌, subst, arith, length-append, eq-eqb}
+use Rattle.word_table.proofs.Common.{◌≡◌, ℕ, zero, suc, ◌+◌, ◌-◌, ◌%◌, ◌^◌, ◌<◌, ◌≤◌, true, false, ⊎_elim, List, [], ◌∷◌, ◌++◌, length, slice_index, replicate}
+use Rattle.word_table.proofs.Common.{refl, sym, ap, ◌∙◌, subst, arith, length-append, eq-eqb, bit_at, bit_at-zero, dite, ℕ_discrete, State, Me, Splits, TableId}
+use Rattle.word_table.proofs.Common.{LOCKS, View, Idle, Running, is_open, has, flag, Knows, clock_word, stamps_word, row_word, writer_word, version_word}
+use Rattle.word_table.proofs.Common.{value_word, table_words, LocksHold, IsSeat, IsIn, none_in, opening_view, left_by_split, given_by_split, MaySplitSeat}
+use Rattle.word_table.proofs.Common.{differ, not_true, has-nil, has-join, has-join_same, has-join_old, without-absent, MOST_PASSES, MOST_WORDS, CallCopy}
+use Rattle.word_table.proofs.Common.{LockCopy, fresh_pass, ShowsLocks, ShowsOthers, ShowsPairs, IsCopy, PassView, IsSound, opening_words, numbers}
+use Rattle.word_table.proofs.Common.{VersionsBounded}
 use Rattle.std.specs.Prelude.{Some, slice_get}
-use Rattle.std.specs.Int.{bit_at}
-use Rattle.std.proofs.lemmas.Nat.Bits.{bit_at-zero}
-use mathlib.Core.Logic.{dite}
-use native.Mathlib.Decide.{ℕ_discrete}
-use Rattle.atomic_table.specs.Table.{State, Me, Splits}
-use Rattle.atomic_table.specs.Seated.{TableId}
-use Rattle.history_model.specs.declared.TheConstants.{LOCKS}
-use Rattle.history_model.specs.declared.view.View.{View}
-use Rattle.history_model.specs.declared.view.Phase.TheVariants.{Idle, Running}
-use Rattle.history_model.specs.Counts.{is_open, open_count}
-use Rattle.history_model.specs.Sets.{has, without, flag}
-use Rattle.history_model.specs.Table.{Knows, clock_word, stamps_word, row_word, writer_word, version_word, value_word, table_words}
-use Rattle.locks_rule.specs.Locks.{LocksHold, IsSeat}
-use Rattle.history_model.specs.Legal.{IsIn}
-use Rattle.values_rule.proofs.Members.{none_in}
-use Rattle.locks_rule.specs.Splits.{opening_view, left_by_split, given_by_split, MaySplitSeat}
-use Rattle.history_model.proofs.SetLemmas.{differ, not_true, has-nil, pair-nil, has-join, has-join_same, has-join_old, without-absent}
-use Rattle.word_table.specs.declared.limits.TheConstants.{MOST_PASSES, MOST_WORDS}
-use Rattle.word_table.specs.declared.copies.CallCopy.{CallCopy}
-use Rattle.word_table.specs.declared.copies.LockCopy.{LockCopy}
-use Rattle.word_table.specs.Copies.{fresh_pass, ShowsLocks, ShowsOthers, ShowsPairs, IsCopy, PassView}
-use Rattle.word_table.specs.Sound.{IsSound, opening_words, numbers}
-use Rattle.word_table.specs.Versions.{VersionsBounded}
+use Rattle.history_model.specs.Counts.{open_count}
+use Rattle.history_model.specs.Sets.{without}
+use Rattle.history_model.proofs.SetLemmas.{pair-nil}
 use Rattle.word_table.proofs.Copied.Rows.{zeros, zero_at, zeros_count, shows_none}
 use Rattle.word_table.proofs.Copied.VersionCopies.{untouched}
 use Rattle.stamps_rule.specs.Opening.{IsUnused}
@@ -238,9 +223,6 @@ get_before : (xs : List PassView) (x : PassView) (i : ℕ) → i < length xs →
 get_before [] x i h = absurd (omega arith)
 get_before (y ∷ ys) x zero h = refl
 get_before (y ∷ ys) x (suc i) h = get_before ys x i (omega arith)
-
-pub dealt_none : (base : List ℕ) (n : ℕ) (t : TableId) → Dealt base n t 0 []
-dealt_none base n t = record { count = refl; each = λ i h. absurd (omega arith) }
 
 pub dealt_more : (base : List ℕ) (n : ℕ) (t : TableId) (j : ℕ) (passes : List PassView) (x : PassView)
     → Dealt base n t j passes → x.table ≡ t → x.view ≡ opening_view base n (j ∷ []) [] → x.steps ≡ 0 → Dealt base n t (j + 1) (passes ++ x ∷ [])

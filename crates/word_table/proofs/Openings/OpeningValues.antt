@@ -1,14 +1,8 @@
 -- At the start no call was begun and no version was raised, and the values are those that the memory began with.
-use Rattle.std.proofs.Common.{◌≡◌, ℕ, ◌+◌, List, [], ◌∷◌, Some, slice_index, refl, sym, ap, ◌∙◌, subst, arith}
-use Rattle.std.proofs.lemmas.Option.{slice_get-get_or}
-use Rattle.history_model.specs.declared.view.View.{View}
-use Rattle.history_model.specs.Table.{calls_word, commits_word, version_word, value_word}
-use Rattle.locks_rule.specs.Locks.{LocksHold}
-use Rattle.locks_rule.specs.Splits.{opening_view}
+use Rattle.word_table.proofs.Common.{◌≡◌, ℕ, ◌+◌, List, [], ◌∷◌, Some, slice_index, refl, sym, ap, ◌∙◌, subst, arith, slice_get-get_or, View, calls_word}
+use Rattle.word_table.proofs.Common.{commits_word, version_word, value_word, LocksHold, opening_view, ValuesHold, opening_words, numbers}
 use Rattle.values_rule.specs.Opening.{IsUnused}
-use Rattle.values_rule.specs.Versions.{ValuesHold}
 use Rattle.values_rule.proofs.Whole.Opening.{opening_holds}
-use Rattle.word_table.specs.Sound.{opening_words, numbers}
 use Rattle.word_table.proofs.Openings.Zeros.{zeros_at, past_zeros, one_view}
 
 pub opening_values : (good : List ℕ → Type 0) (n : ℕ) (base : List ℕ) → good base

@@ -1,8 +1,6 @@
 -- Words behind zeros, and the places of one view.
-use Rattle.std.proofs.Common.{◌≡◌, ℕ, zero, suc, ◌+◌, ◌<◌, List, [], ◌∷◌, ◌++◌, length, slice_index, replicate, refl, sym, ap, ◌∙◌, arith}
-use mathlib.Core.Option.{some-injective, some-ne-none}
-use Rattle.history_model.specs.declared.view.View.{View}
-use Rattle.history_model.specs.Table.{Knows}
+use Rattle.word_table.proofs.Common.{◌≡◌, ℕ, zero, suc, ◌+◌, ◌<◌, List, [], ◌∷◌, ◌++◌, length, slice_index, replicate, refl, sym, ap, ◌∙◌, arith}
+use Rattle.word_table.proofs.Common.{some-injective, some-ne-none, View, Knows}
 
 pub zeros_at : (k : ℕ) (xs : List ℕ) (i : ℕ) → i < k → slice_index (replicate k 0 ++ xs) i ≡ 0
 zeros_at zero xs i h = absurd (omega arith)

@@ -1,24 +1,13 @@
 -- Waits arise: a run of two seats, each of which claims a lock and then the other's.
-use Rattle.std.proofs.Common.{◌≡◌, ◌≢◌, ℕ, zero, suc, ◌+◌, ◌<◌, Bool, true, inl, inr, List, [], ◌∷◌, ◌++◌, length, length-append, length-set, Some, slice_get}
-use Rattle.std.proofs.Common.{slice_index, slice_set, refl, sym, ap, ◌∙◌, subst, arith, get_or-set_other, get_or-set_same, eq-eqb, ne_eqb, ◌==◌, if◌then◌else◌}
+use Rattle.word_table.proofs.Common.{◌≡◌, ◌≢◌, ℕ, zero, suc, ◌+◌, ◌<◌, Bool, true, inl, inr, List, [], ◌∷◌, ◌++◌, length, length-append, length-set, Some}
+use Rattle.word_table.proofs.Common.{slice_get, slice_index, slice_set, refl, sym, ap, ◌∙◌, subst, arith, get_or-set_other, get_or-set_same, eq-eqb, ne_eqb}
+use Rattle.word_table.proofs.Common.{◌==◌, if◌then◌else◌, dite, ℕ_discrete, View, Idle, Yielding, has, TableState, Knows, value_word, differ, has-nil, has-one}
+use Rattle.word_table.proofs.Common.{has-join_same, has-join_old, has-without, pair-join_same, opening_view, Step, BeginCall, ClaimWriter, DrawStamp}
+use Rattle.word_table.proofs.Common.{AnnounceStamp, JudgeStamp, ReleaseWriter, judged_of, action_of, May, IsReached, IsRun, opening_words, WaitsAtLock}
+use Rattle.word_table.proofs.Common.{WaitsForCause}
 use Rattle.std.proofs.Math.Dec.{leb}
 use Rattle.std.proofs.lemmas.Bool.{leb-true}
-use mathlib.Core.Logic.{dite}
-use native.Mathlib.Decide.{ℕ_discrete}
-use Rattle.history_model.specs.declared.view.View.{View}
-use Rattle.history_model.specs.declared.view.Phase.TheVariants.{Idle, Yielding}
-use Rattle.history_model.specs.Sets.{has}
-use Rattle.history_model.specs.Table.{TableState, Knows, value_word}
-use Rattle.history_model.proofs.SetLemmas.{differ, has-nil, has-one, has-join_same, has-join_old, has-without, pair-join_same}
-use Rattle.locks_rule.specs.Splits.{opening_view}
-use Rattle.word_table.specs.declared.step.Step.{Step}
-use Rattle.word_table.specs.declared.step.Step.TheVariants.{BeginCall, ClaimWriter, DrawStamp, AnnounceStamp, JudgeStamp, ReleaseWriter}
-use Rattle.word_table.specs.Calls.{judged_of}
-use Rattle.word_table.specs.Kinds.{action_of, May}
-use Rattle.word_table.specs.Meetings.{IsReached}
-use Rattle.word_table.specs.Runs.{IsRun}
-use Rattle.word_table.specs.Sound.{opening_words}
-use Rattle.word_table.specs.Waits.{WaitsAtLock, WaitsForCause, WaitsArise}
+use Rattle.word_table.specs.Waits.{WaitsArise}
 use Rattle.word_table.proofs.Openings.Zeros.{zeros_at, zeros_long}
 use Rattle.word_table.proofs.Runs.Dealing.{one_more, run_to, run_runs, run_long, run_last, get_last}
 

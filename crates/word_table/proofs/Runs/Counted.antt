@@ -1,7 +1,6 @@
 -- The seats of a desk begin fewer than 2^37 calls together, and no timestamp and no version is as great.
-use Rattle.std.proofs.Common.{ℕ, zero, suc, ◌*◌, ◌^◌, ◌<◌, ◌≤◌, List, slice_index, arith}
-use Rattle.history_model.specs.Counts.{calls_below, calls_sum}
-use Rattle.history_model.specs.Table.{calls_word}
+use Rattle.word_table.proofs.Common.{ℕ, zero, suc, ◌*◌, ◌^◌, ◌<◌, ◌≤◌, List, slice_index, arith, calls_sum, calls_word}
+use Rattle.history_model.specs.Counts.{calls_below}
 use Rattle.word_table.specs.Meetings.{NumbersStayBelow}
 use Rattle.word_table.proofs.Runs.Meetings.{reached_sound}
 

@@ -1,17 +1,9 @@
 -- The run in which the seats are dealt out: one cut after another, until each number has a view of its own.
-use Rattle.std.proofs.Common.{◌≡◌, ℕ, zero, suc, ◌+◌, ◌<◌, inl, inr, List, [], ◌∷◌, ◌++◌, length, length-append, Some, slice_get, refl, sym, ap, ◌∙◌, subst}
-use Rattle.std.proofs.Common.{arith}
-use Rattle.std.proofs.lemmas.Option.{slice_get_within}
-use mathlib.Core.Logic.{dite}
-use native.Mathlib.Decide.{ℕ_discrete}
-use Rattle.history_model.specs.declared.view.View.{View}
-use Rattle.history_model.specs.Table.{TableState, Knows}
-use Rattle.history_model.proofs.ListPlaces.{get_first}
-use Rattle.history_model.proofs.Views.Places.{added_here, added_there}
-use Rattle.locks_rule.specs.Splits.{opening_view}
+use Rattle.word_table.proofs.Common.{◌≡◌, ℕ, zero, suc, ◌+◌, ◌<◌, inl, inr, List, [], ◌∷◌, ◌++◌, length, length-append, Some, slice_get, refl, sym, ap, ◌∙◌}
+use Rattle.word_table.proofs.Common.{subst, arith, slice_get_within, dite, ℕ_discrete, View, TableState, Knows, get_first, added_there, opening_view, CutsSeat}
+use Rattle.word_table.proofs.Common.{Steps, IsRun, opening_words, numbers}
+use Rattle.history_model.proofs.Views.Places.{added_here}
 use Rattle.word_table.specs.Meetings.{AreFreshSeats, SeatsAreDealt}
-use Rattle.word_table.specs.Runs.{CutsSeat, Steps, IsRun}
-use Rattle.word_table.specs.Sound.{opening_words, numbers}
 use Rattle.word_table.proofs.Openings.Opening.{rest_of_numbers}
 use Rattle.word_table.proofs.Runs.RunLaws.{opening_run}
 

@@ -1,18 +1,10 @@
 -- The clock counts the timestamps that were drawn, so no step but a draw changes it.
-use Rattle.std.proofs.Common.{◌≡◌, ◌≢◌, ℕ, ◌-◌, ◌%◌, Bool, true, false, List, ◌∷◌, ◌==◌, if◌then◌else◌, Option, Some, None, refl, arith}
-use Rattle.std.specs.Int.{bit_at}
-use Rattle.history_model.specs.declared.event.Cause.{Cause}
-use Rattle.history_model.specs.declared.view.View.{View}
-use Rattle.history_model.specs.Sets.{without, without_first}
-use Rattle.locks_rule.specs.Actions.{found_by}
-use Rattle.locks_rule.specs.Steps.{is_free, after_asking, after_meeting}
-use Rattle.stamps_rule.specs.Steps.{judged, after_judgement, after_waiting, after_restarting}
+use Rattle.word_table.proofs.Common.{◌≡◌, ◌≢◌, ℕ, ◌-◌, ◌%◌, Bool, true, false, List, ◌∷◌, ◌==◌, if◌then◌else◌, Option, Some, None, refl, arith, bit_at, Cause}
+use Rattle.word_table.proofs.Common.{View, without, without_first, found_by, is_free, after_asking, after_meeting, judged, after_judgement, after_waiting}
+use Rattle.word_table.proofs.Common.{after_restarting, Step, SetReadBit, ClearReadBit, LoadWriter, ClaimWriter, ScanRow, ReleaseWriter, BeginCall, LoadValue}
+use Rattle.word_table.proofs.Common.{StoreValue, UndoStore, CommitCall, ClearStamp, DrawStamp, AnnounceStamp, JudgeStamp, LoadCauseStamp, LoadVersion}
+use Rattle.word_table.proofs.Common.{StoreVersion, action_of}
 use Rattle.stamps_rule.proofs.Counting.{draws_of-set}
-use Rattle.word_table.specs.declared.step.Step.{Step}
-use Rattle.word_table.specs.declared.step.Step.TheVariants.{SetReadBit, ClearReadBit, LoadWriter, ClaimWriter, ScanRow, ReleaseWriter, BeginCall, LoadValue}
-use Rattle.word_table.specs.declared.step.Step.TheVariants.{StoreValue, UndoStore, CommitCall, ClearStamp, DrawStamp, AnnounceStamp, JudgeStamp}
-use Rattle.word_table.specs.declared.step.Step.TheVariants.{LoadCauseStamp, LoadVersion, StoreVersion}
-use Rattle.word_table.specs.Kinds.{action_of}
 use Rattle.word_table.specs.Meetings.{ClockCountsDraws, OnlyDrawsMoveClock}
 use Rattle.word_table.proofs.Kept.KeptKinds.{sound_kept}
 use Rattle.word_table.proofs.Runs.RunLaws.{run_sound}

@@ -1,31 +1,16 @@
 -- From each call waits lead to one that waits for no seat: whether a seat waits is decided, and something falls from wait
 -- to wait.
-use Rattle.std.proofs.Common.{◌≡◌, ◌≢◌, ℕ, zero, suc, ◌<◌, ◌⊎◌, Bool, true, false, inl, inr, ⊎_elim, List, [], ◌∷◌, Option, Some, None}
-use Rattle.std.proofs.Common.{slice_index, refl, sym, ap, ◌∙◌, subst, arith}
-use mathlib.Core.Logic.{dite}
-use native.Mathlib.Decide.{ℕ_discrete}
-use Rattle.history_model.specs.declared.TheConstants.{LOCKS}
-use Rattle.history_model.specs.declared.event.Cause.{Cause}
-use Rattle.history_model.specs.declared.view.View.{View}
-use Rattle.history_model.specs.declared.view.Phase.{Phase}
-use Rattle.history_model.specs.declared.view.Phase.TheVariants.{Idle, Running, Yielding, Withdrawing, Releasing}
-use Rattle.history_model.specs.Sets.{has, has_pair}
-use Rattle.history_model.specs.Table.{TableState, Knows, clock_word, stamps_word}
-use Rattle.history_model.specs.Views.{HasBit, HasClaim}
-use Rattle.history_model.proofs.SetLemmas.{differ, has-join_same, empty-has}
-use Rattle.history_model.proofs.Views.Places.{same_view}
-use Rattle.locks_rule.specs.Locks.{LocksHold, IsSeat}
-use Rattle.locks_rule.proofs.Own.{own_number, is_own, lock_near}
-use Rattle.stamps_rule.specs.Causes.{newest, past_causes}
-use Rattle.stamps_rule.specs.Stamps.{StampsHold, shown_stamp}
-use Rattle.stamps_rule.proofs.CauseLists.{pending_yielding, pending_is_cause}
-use Rattle.word_table.specs.declared.answer.Judged.{Judged}
-use Rattle.word_table.specs.declared.answer.Judged.TheVariants as answer
-use Rattle.word_table.specs.Calls.{judged_of}
-use Rattle.word_table.specs.Meetings.{StandsElsewhere}
-use Rattle.word_table.specs.Waits.{WaitsAtLock, WaitsForCause, WaitsFor, IsCalling, LeadsTo, WaitsEnd}
+use Rattle.word_table.proofs.Common.{◌≡◌, ◌≢◌, ℕ, zero, suc, ◌<◌, ◌⊎◌, Bool, true, false, inl, inr, ⊎_elim, List, [], ◌∷◌, Option, Some, None, slice_index}
+use Rattle.word_table.proofs.Common.{refl, sym, ap, ◌∙◌, subst, arith, dite, ℕ_discrete, LOCKS, Cause, View, Phase, Idle, Running, Yielding, Withdrawing}
+use Rattle.word_table.proofs.Common.{Releasing, has, has_pair, TableState, Knows, clock_word, stamps_word, HasBit, HasClaim, differ, has-join_same, same_view}
+use Rattle.word_table.proofs.Common.{LocksHold, IsSeat, own_number, is_own, lock_near, newest, past_causes, StampsHold, shown_stamp, pending_yielding, Judged}
+use Rattle.word_table.proofs.Common.{judged_of, StandsElsewhere, WaitsAtLock, WaitsForCause, WaitsFor}
+use Rattle.stamps_rule.proofs.Common.{empty-has}
+use Rattle.stamps_rule.proofs.CauseLists.{pending_is_cause}
+use Rattle.word_table.specs.Waits.{IsCalling, LeadsTo, WaitsEnd}
 use Rattle.word_table.proofs.Runs.Meetings.{reached_sound}
 use Rattle.word_table.proofs.Runs.Waiting.{rank, waiter, falls, shown_is}
+use Rattle.word_table.specs.declared.answer.Judged.TheVariants as answer
 
 is_true : (b : Bool) → Dec (b ≡ true)
 is_true true = yes refl

@@ -1,47 +1,22 @@
 -- What a pass has seen, the calls that it begins later knew: so it stands before their entries, in every arrangement. And
 -- where an entry stands.
-use Rattle.std.proofs.Common.{◌≡◌, ◌⊎◌, inl, inr, ⊎_elim, ℕ, zero, suc, ◌-◌, ◌%◌, ◌+◌, ◌<◌, ◌≤◌, Bool, true, false, List, [], ◌∷◌, ◌++◌, Option, Some, None}
-use Rattle.std.proofs.Common.{slice_get, slice_index, slice_set, refl, sym, ap, ◌∙◌, subst, arith, ◌==◌, if◌then◌else◌, take}
-use Rattle.std.specs.Int.{bit_at}
-use mathlib.Core.Logic.{dite}
-use native.Mathlib.Decide.{ℕ_discrete, dec_lt}
-use Rattle.history_model.specs.declared.entry.Entry.{Entry}
-use Rattle.history_model.specs.declared.event.Cause.{Cause}
-use Rattle.history_model.specs.declared.item.Item.{Item}
-use Rattle.history_model.specs.declared.view.View.{View}
+use Rattle.word_table.proofs.Common.{◌≡◌, ◌⊎◌, inl, inr, ⊎_elim, ℕ, zero, suc, ◌-◌, ◌%◌, ◌+◌, ◌<◌, ◌≤◌, Bool, true, false, List, [], ◌∷◌, ◌++◌, Option, Some}
+use Rattle.word_table.proofs.Common.{None, slice_get, slice_index, slice_set, refl, sym, ap, ◌∙◌, subst, arith, ◌==◌, if◌then◌else◌, take, bit_at, dite}
+use Rattle.word_table.proofs.Common.{ℕ_discrete, Entry, Cause, Item, View, IsIn, has, without, without_first, TableState, Knows, number, Change, StepTouches}
+use Rattle.word_table.proofs.Common.{NewByStep, change_step, NewByCut, change_cut, NewByJoin, JoinTouches, change_join, same_view, differ, has-nil, has-one}
+use Rattle.word_table.proofs.Common.{has-without, has-join_same, found_by, MayMeetNote, left_by_note, note_of, MayJoinSeats, spent_view, after_note}
+use Rattle.word_table.proofs.Common.{after_joining, IsSeat, MaySplitSeat, left_by_split, given_by_split, is_free, after_asking, after_meeting, has-append}
+use Rattle.word_table.proofs.Common.{own_number, judged, after_judgement, after_waiting, after_restarting, item_of_entry, IsRecorded, Knew, entry_of}
+use Rattle.word_table.proofs.Common.{gains_first, gains_second, gains_cases, in_join, none_in, place, Step, SetReadBit, ClearReadBit, LoadWriter, ClaimWriter}
+use Rattle.word_table.proofs.Common.{ScanRow, ReleaseWriter, BeginCall, LoadValue, StoreValue, UndoStore, CommitCall, ClearStamp, DrawStamp, AnnounceStamp}
+use Rattle.word_table.proofs.Common.{JudgeStamp, LoadCauseStamp, LoadVersion, StoreVersion, action_of, May, view_after, TakesStep, CutsSeat, TakesNote, Joins}
+use Rattle.word_table.proofs.Common.{Steps, IsRun, IsSound}
+use Rattle.values_rule.proofs.Common.{replay_items}
+use native.Mathlib.Decide.{dec_lt}
 use Rattle.history_model.specs.Histories.{replay_effects}
-use Rattle.history_model.specs.Items.{replay_items}
-use Rattle.history_model.specs.Legal.{IsIn}
-use Rattle.history_model.specs.Sets.{has, without, without_first}
-use Rattle.history_model.specs.Table.{TableState, Knows}
-use Rattle.history_model.specs.Views.{number}
-use Rattle.history_model.proofs.Views.Changes.{Change, StepTouches, NewByStep, change_step, NewByCut, change_cut, NewByJoin, JoinTouches, change_join}
-use Rattle.history_model.proofs.Views.Places.{same_view}
-use Rattle.history_model.proofs.SetLemmas.{differ, has-nil, has-one, has-without, has-join_same}
-use Rattle.locks_rule.specs.Actions.{found_by}
-use Rattle.locks_rule.specs.Joins.{MayMeetNote, left_by_note, note_of, MayJoinSeats, spent_view, after_note, after_joining}
-use Rattle.locks_rule.specs.Locks.{IsSeat}
-use Rattle.locks_rule.specs.Splits.{MaySplitSeat, left_by_split, given_by_split}
-use Rattle.locks_rule.specs.Steps.{is_free, after_asking, after_meeting}
-use Rattle.locks_rule.proofs.Joining.{has-append}
-use Rattle.locks_rule.proofs.Own.{own_number}
-use Rattle.stamps_rule.specs.Steps.{judged, after_judgement, after_waiting, after_restarting}
 use Rattle.values_rule.specs.Closing.{IsPlaced}
-use Rattle.values_rule.specs.History.{item_of_entry}
-use Rattle.values_rule.specs.Records.{IsRecorded, Knew}
-use Rattle.values_rule.specs.Steps.{entry_of}
-use Rattle.values_rule.proofs.CutsAndJoins.Gains.{gains_first, gains_second, gains_cases}
-use Rattle.values_rule.proofs.Members.{in_join, none_in}
 use Rattle.values_rule.proofs.Told.ItemsIn.{in_parts, entry_in_items}
-use Rattle.values_rule.proofs.Whole.Legality.{place}
-use Rattle.word_table.specs.declared.step.Step.{Step}
-use Rattle.word_table.specs.declared.step.Step.TheVariants.{SetReadBit, ClearReadBit, LoadWriter, ClaimWriter, ScanRow, ReleaseWriter, BeginCall, LoadValue}
-use Rattle.word_table.specs.declared.step.Step.TheVariants.{StoreValue, UndoStore, CommitCall, ClearStamp, DrawStamp, AnnounceStamp, JudgeStamp}
-use Rattle.word_table.specs.declared.step.Step.TheVariants.{LoadCauseStamp, LoadVersion, StoreVersion}
-use Rattle.word_table.specs.Kinds.{action_of, May}
-use Rattle.word_table.specs.Meetings.{view_after, EntriesStand, LaterStandBehind}
-use Rattle.word_table.specs.Runs.{TakesStep, CutsSeat, TakesNote, Joins, Steps, IsRun}
-use Rattle.word_table.specs.Sound.{IsSound}
+use Rattle.word_table.specs.Meetings.{EntriesStand, LaterStandBehind}
 use Rattle.word_table.proofs.Calls.Committing.{knew_seen}
 use Rattle.word_table.proofs.Runs.Recorded.{sees, entries_stay}
 use Rattle.word_table.proofs.Runs.RunLaws.{before, run_sound}

@@ -1,30 +1,15 @@
 -- A look that leaves an attempt as it was is a wait: a judgement of a seat that stands on the lock if it was met, and a
 -- look at a cause.
-use Rattle.std.proofs.Common.{◌≡◌, ℕ, Bool, true, inl, inr, ⊎_elim, List, [], ◌∷◌, Option, slice_index}
-use Rattle.std.proofs.Common.{◌==◌, ne_eqb, if◌then◌else◌, refl, sym, ap, ◌∙◌, subst}
-use mathlib.Core.Logic.{dite}
-use native.Mathlib.Decide.{ℕ_discrete}
-use Rattle.history_model.specs.declared.event.Cause.{Cause}
-use Rattle.history_model.specs.declared.view.View.{View}
-use Rattle.history_model.specs.declared.view.Phase.TheVariants.{Running, Yielding}
-use Rattle.history_model.specs.Sets.{has, has_pair, without}
-use Rattle.history_model.specs.Table.{TableState, Knows, stamps_word}
-use Rattle.history_model.specs.Views.{number}
-use Rattle.history_model.proofs.SetLemmas.{differ}
-use Rattle.history_model.proofs.Views.Places.{same_view}
-use Rattle.locks_rule.specs.Locks.{LocksHold}
-use Rattle.locks_rule.proofs.Own.{own_number}
-use Rattle.stamps_rule.specs.Steps.{MayJudgeStamp, MayLoadCauseStamp, judged, after_judgement, after_waiting, after_restarting, load_cause_stamp_action}
-use Rattle.word_table.specs.declared.answer.Judged.{Judged}
-use Rattle.word_table.specs.declared.answer.Judged.TheVariants as answer
-use Rattle.word_table.specs.Calls.{JudgedBy, judged_of}
-use Rattle.word_table.specs.Kinds.{TakenIn}
-use Rattle.word_table.specs.Meetings.{StandsElsewhere}
-use Rattle.word_table.specs.Sound.{IsSound}
-use Rattle.word_table.specs.Waits.{WaitsAtLock, WaitsForCause, LooksAreWaits, FoundWait, WaitedForCause}
+use Rattle.word_table.proofs.Common.{◌≡◌, ℕ, Bool, true, inl, inr, ⊎_elim, List, [], ◌∷◌, Option, slice_index, ◌==◌, ne_eqb, if◌then◌else◌, refl, sym, ap, ◌∙◌}
+use Rattle.word_table.proofs.Common.{subst, dite, ℕ_discrete, Cause, View, Running, Yielding, has, has_pair, without, TableState, Knows, stamps_word, number}
+use Rattle.word_table.proofs.Common.{differ, same_view, LocksHold, own_number, MayJudgeStamp, MayLoadCauseStamp, judged, after_judgement, after_waiting}
+use Rattle.word_table.proofs.Common.{after_restarting, load_cause_stamp_action, Judged, JudgedBy, judged_of, TakenIn, StandsElsewhere, IsSound, WaitsAtLock}
+use Rattle.word_table.proofs.Common.{WaitsForCause, FoundWait, WaitedForCause}
+use Rattle.word_table.specs.Waits.{LooksAreWaits}
 use Rattle.word_table.proofs.Calls.Judging.{yield_due, judged_cases, judged_waits}
 use Rattle.word_table.proofs.Runs.Ending.{stands}
 use Rattle.word_table.proofs.Runs.Meetings.{reached_sound}
+use Rattle.word_table.specs.declared.answer.Judged.TheVariants as answer
 
 module _ (n : ℕ) (base : List ℕ) (s : TableState) (h : LocksHold n base s.words s.views) (place i j : ℕ) (v : View) (me : Knows s.views place v) where
   -- what the seat looks at is of this table

@@ -1,32 +1,15 @@
 -- In every state of every run: who meets whom, and what holds of each call.
-use Rattle.std.proofs.Common.{◌≡◌, ◌≢◌, ⊎_elim, ℕ, ◌+◌, ◌-◌, ◌%◌, ◌<◌, ◌≤◌, Bool, true, false, List, [], ◌∷◌, ◌++◌, length, Option, Some, None, slice_index}
-use Rattle.std.proofs.Common.{refl, sym, ap, ◌∙◌, subst, arith, eq-eqb, ne_eqb, ◌==◌, if◌then◌else◌}
+use Rattle.word_table.proofs.Common.{◌≡◌, ◌≢◌, ⊎_elim, ℕ, ◌+◌, ◌-◌, ◌%◌, ◌<◌, ◌≤◌, Bool, true, false, List, [], ◌∷◌, ◌++◌, length, Option, Some, None}
+use Rattle.word_table.proofs.Common.{slice_index, refl, sym, ap, ◌∙◌, subst, arith, eq-eqb, ne_eqb, ◌==◌, if◌then◌else◌, bit_at, dite, ℕ_discrete, LOCKS, Cause}
+use Rattle.word_table.proofs.Common.{View, IsAt, has, without, without_first, TableState, Knows, stamps_word, row_word, writer_word, same_view, has-join_same}
+use Rattle.word_table.proofs.Common.{LocksHold, AskedFor, is_free, after_asking, after_meeting, is_own, lock_near, free_cases, judged, after_judgement}
+use Rattle.word_table.proofs.Common.{after_waiting, after_restarting, restarts_bounded, place, Step, SetReadBit, ClearReadBit, LoadWriter, ClaimWriter, ScanRow}
+use Rattle.word_table.proofs.Common.{ReleaseWriter, BeginCall, LoadValue, StoreValue, UndoStore, CommitCall, ClearStamp, DrawStamp, AnnounceStamp, JudgeStamp}
+use Rattle.word_table.proofs.Common.{LoadCauseStamp, LoadVersion, StoreVersion, May, IsReached, view_after, StandsElsewhere, IsSound}
 use Rattle.std.proofs.lemmas.List.{append_cancel_left, length_push}
-use Rattle.std.specs.Int.{bit_at}
-use mathlib.Core.Logic.{dite}
-use native.Mathlib.Decide.{ℕ_discrete}
-use Rattle.history_model.specs.declared.TheConstants.{LOCKS}
-use Rattle.history_model.specs.declared.event.Cause.{Cause}
-use Rattle.history_model.specs.declared.view.View.{View}
-use Rattle.history_model.specs.Conflicts.{Meets, IsAt}
-use Rattle.history_model.specs.Sets.{has, without, without_first}
-use Rattle.history_model.specs.Table.{TableState, Knows, stamps_word, row_word, writer_word}
-use Rattle.history_model.proofs.Views.Places.{same_view}
-use Rattle.history_model.proofs.SetLemmas.{has-join_same}
-use Rattle.locks_rule.specs.Locks.{LocksHold, AskedFor}
-use Rattle.locks_rule.specs.Steps.{MayLoadWriter, MayClaimWriter, MayScanRow, is_free, after_asking, after_meeting}
-use Rattle.locks_rule.proofs.Own.{is_own, lock_near}
-use Rattle.locks_rule.proofs.Readers.{free_cases}
-use Rattle.stamps_rule.specs.Steps.{judged, after_judgement, after_waiting, after_restarting}
-use Rattle.stamps_rule.proofs.Bounds.{restarts_bounded}
-use Rattle.values_rule.proofs.Whole.Legality.{place}
-use Rattle.word_table.specs.declared.step.Step.{Step}
-use Rattle.word_table.specs.declared.step.Step.TheVariants.{SetReadBit, ClearReadBit, LoadWriter, ClaimWriter, ScanRow, ReleaseWriter, BeginCall, LoadValue}
-use Rattle.word_table.specs.declared.step.Step.TheVariants.{StoreValue, UndoStore, CommitCall, ClearStamp, DrawStamp, AnnounceStamp, JudgeStamp}
-use Rattle.word_table.specs.declared.step.Step.TheVariants.{LoadCauseStamp, LoadVersion, StoreVersion}
-use Rattle.word_table.specs.Kinds.{May}
-use Rattle.word_table.specs.Meetings.{IsReached, view_after, StandsElsewhere, MeetsInConflict, NeverMeetsApart, RestartsFew, ReadsOneState, IsArranged}
-use Rattle.word_table.specs.Sound.{IsSound}
+use Rattle.history_model.specs.Conflicts.{Meets}
+use Rattle.locks_rule.specs.Steps.{MayLoadWriter, MayClaimWriter, MayScanRow}
+use Rattle.word_table.specs.Meetings.{MeetsInConflict, NeverMeetsApart, RestartsFew, ReadsOneState, IsArranged}
 use Rattle.word_table.proofs.Calls.Found.{StandsIn, claimant_found, not_own_found, reader_found}
 use Rattle.word_table.proofs.Runs.RunLaws.{run_sound}
 

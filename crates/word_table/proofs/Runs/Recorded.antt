@@ -1,33 +1,13 @@
 -- An entry that was made stands in every later state of the run: whoever has seen it goes on having seen it.
-use Rattle.std.proofs.Common.{◌≡◌, ◌≢◌, ℕ, zero, suc, ◌-◌, ◌%◌, ◌≤◌, Bool, true, false, ⊎_elim, List, [], ◌∷◌, ◌++◌, Option, Some, None, slice_get, slice_set}
-use Rattle.std.proofs.Common.{sym, ap, ◌∙◌, subst, arith, ◌==◌, if◌then◌else◌}
-use Rattle.std.specs.Int.{bit_at}
-use mathlib.Core.Logic.{dite}
-use native.Mathlib.Decide.{ℕ_discrete}
-use Rattle.history_model.specs.declared.entry.Entry.{Entry}
-use Rattle.history_model.specs.declared.event.Cause.{Cause}
-use Rattle.history_model.specs.declared.view.View.{View}
-use Rattle.history_model.specs.Legal.{IsIn}
-use Rattle.history_model.specs.Sets.{without, without_first}
-use Rattle.history_model.specs.Table.{TableState, Knows}
-use Rattle.history_model.proofs.Views.Places.{same_view, put_here, put_there, added_there}
-use Rattle.locks_rule.specs.Actions.{found_by}
-use Rattle.locks_rule.specs.Joins.{MayMeetNote, left_by_note, MayJoinSeats, views_joined}
-use Rattle.locks_rule.specs.Splits.{left_by_split}
-use Rattle.locks_rule.specs.Steps.{is_free, after_asking, after_meeting}
-use Rattle.values_rule.proofs.Members.{in_first}
-use Rattle.stamps_rule.specs.Steps.{judged, after_judgement, after_waiting, after_restarting}
-use Rattle.locks_rule.specs.Joins.{after_note, after_joining}
-use Rattle.values_rule.specs.Records.{IsRecorded}
-use Rattle.values_rule.specs.Steps.{entry_of}
-use Rattle.values_rule.proofs.CutsAndJoins.Gains.{gains_first, gains_second}
-use Rattle.word_table.specs.declared.step.Step.{Step}
-use Rattle.word_table.specs.declared.step.Step.TheVariants.{SetReadBit, ClearReadBit, LoadWriter, ClaimWriter, ScanRow, ReleaseWriter, BeginCall, LoadValue}
-use Rattle.word_table.specs.declared.step.Step.TheVariants.{StoreValue, UndoStore, CommitCall, ClearStamp, DrawStamp, AnnounceStamp, JudgeStamp}
-use Rattle.word_table.specs.declared.step.Step.TheVariants.{LoadCauseStamp, LoadVersion, StoreVersion}
-use Rattle.word_table.specs.Kinds.{action_of}
+use Rattle.word_table.proofs.Common.{◌≡◌, ◌≢◌, ℕ, zero, suc, ◌-◌, ◌%◌, ◌≤◌, Bool, true, false, ⊎_elim, List, [], ◌∷◌, ◌++◌, Option, Some, None, slice_get}
+use Rattle.word_table.proofs.Common.{slice_set, sym, ap, ◌∙◌, subst, arith, ◌==◌, if◌then◌else◌, bit_at, dite, ℕ_discrete, Entry, Cause, View, IsIn, without}
+use Rattle.word_table.proofs.Common.{without_first, TableState, Knows, same_view, put_here, put_there, added_there, found_by, MayMeetNote, left_by_note}
+use Rattle.word_table.proofs.Common.{MayJoinSeats, views_joined, left_by_split, is_free, after_asking, after_meeting, in_first, judged, after_judgement}
+use Rattle.word_table.proofs.Common.{after_waiting, after_restarting, after_note, after_joining, IsRecorded, entry_of, gains_first, gains_second, Step}
+use Rattle.word_table.proofs.Common.{SetReadBit, ClearReadBit, LoadWriter, ClaimWriter, ScanRow, ReleaseWriter, BeginCall, LoadValue, StoreValue, UndoStore}
+use Rattle.word_table.proofs.Common.{CommitCall, ClearStamp, DrawStamp, AnnounceStamp, JudgeStamp, LoadCauseStamp, LoadVersion, StoreVersion, action_of, Joins}
+use Rattle.word_table.proofs.Common.{Steps, IsRun}
 use Rattle.word_table.specs.Meetings.{EntriesStay}
-use Rattle.word_table.specs.Runs.{Joins, Steps, IsRun}
 use Rattle.word_table.proofs.Runs.RunLaws.{before}
 
 -- what v has seen, w has seen

@@ -1,16 +1,11 @@
 -- Every state of a run meets the rule.
-use Rattle.std.proofs.Common.{◌≡◌, ⊎_elim, ℕ, zero, suc, inl, List, [], ◌∷◌, ◌++◌, refl, sym, ap, true≢false, subst, slice_set}
+use Rattle.word_table.proofs.Common.{◌≡◌, ⊎_elim, ℕ, zero, suc, inl, List, [], ◌∷◌, ◌++◌, refl, sym, ap, subst, slice_set, View, TableState, Knows, words_after}
+use Rattle.word_table.proofs.Common.{views_after, KeepsJoin, left_by_note, note_of, MayMeetNote, MayJoinSeats, views_joined, after_note, after_joining}
+use Rattle.word_table.proofs.Common.{opening_view, left_by_split, given_by_split, Step, action_of, May, TakesStep, CutsSeat, TakesNote, Joins, Steps, IsRun}
+use Rattle.word_table.proofs.Common.{IsSound, opening_words, numbers}
+use Rattle.std.proofs.Common.{true≢false}
 use Rattle.std.specs.Prelude.{Option, Some, None, Bool, true, false, slice_get}
-use Rattle.history_model.specs.declared.view.View.{View}
-use Rattle.history_model.specs.Table.{TableState, Knows}
-use Rattle.locks_rule.specs.Actions.{words_after, views_after}
-use Rattle.locks_rule.specs.Joins.{KeepsJoin, left_by_note, note_of, MayMeetNote, MayJoinSeats, views_joined}
-use Rattle.locks_rule.specs.Joins.{after_note, after_joining}
-use Rattle.locks_rule.specs.Splits.{opening_view, left_by_split, given_by_split}
-use Rattle.word_table.specs.declared.step.Step.{Step}
-use Rattle.word_table.specs.Kinds.{action_of, May}
-use Rattle.word_table.specs.Runs.{TakesStep, CutsSeat, TakesNote, Joins, Steps, IsOpening, IsRun}
-use Rattle.word_table.specs.Sound.{IsSound, opening_words, numbers}
+use Rattle.word_table.specs.Runs.{IsOpening}
 use Rattle.word_table.proofs.Kept.KeptChanges.{split_seat_sound, take_note_sound, meet_note_sound, join_seats_sound}
 use Rattle.word_table.proofs.Kept.KeptKinds.{sound_kept}
 use Rattle.word_table.proofs.Openings.Opening.{opening_sound}

@@ -1,35 +1,16 @@
 -- A call has one timestamp at most, from the step that draws it until the call ends.
-use Rattle.std.proofs.Common.{◌≡◌, ◌≢◌, ℕ, zero, suc, ◌+◌, ◌-◌, ◌%◌, ◌<◌, ◌≤◌, Bool, true, false, ◌⊎◌, inl, inr, ⊎_elim, List, [], ◌∷◌, ◌++◌, slice_index, ◌==◌}
-use Rattle.std.proofs.Common.{if◌then◌else◌, Option, Some, None, slice_get, slice_set, refl, sym, ap, ◌∙◌, subst, arith}
-use Rattle.history_model.specs.declared.event.Cause.{Cause}
-use Rattle.history_model.specs.declared.view.View.{View}
-use Rattle.history_model.specs.declared.view.Phase.{Phase}
-use Rattle.history_model.specs.declared.view.Phase.TheVariants.{Idle, Running, Releasing}
-use Rattle.history_model.specs.Counts.{is_attempt, is_open}
-use Rattle.history_model.specs.Sets.{has, without, without_first}
-use Rattle.history_model.specs.Table.{TableState, Knows}
-use Rattle.history_model.specs.Views.{number}
-use Rattle.std.specs.Int.{bit_at}
-use mathlib.Core.Logic.{dite}
-use native.Mathlib.Decide.{ℕ_discrete}
-use Rattle.history_model.proofs.Views.Changes.{Change, StepTouches, NewByStep, change_step, NewByCut, change_cut, NewByJoin, JoinTouches, change_join}
-use Rattle.history_model.proofs.Views.Places.{same_view}
-use Rattle.history_model.proofs.SetLemmas.{differ, has-nil, has-one, has-without, has-join_same}
-use Rattle.locks_rule.specs.Actions.{found_by}
-use Rattle.locks_rule.specs.Joins.{MayMeetNote, left_by_note, note_of, MayJoinSeats, spent_view}
-use Rattle.locks_rule.specs.Steps.{is_free, after_asking, after_meeting}
-use Rattle.locks_rule.specs.Splits.{MaySplitSeat, left_by_split, given_by_split}
-use Rattle.locks_rule.proofs.Own.{own_number}
+use Rattle.word_table.proofs.Common.{◌≡◌, ◌≢◌, ℕ, zero, suc, ◌+◌, ◌-◌, ◌%◌, ◌<◌, ◌≤◌, Bool, true, false, ◌⊎◌, inl, inr, ⊎_elim, List, [], ◌∷◌, ◌++◌}
+use Rattle.word_table.proofs.Common.{slice_index, ◌==◌, if◌then◌else◌, Option, Some, None, slice_get, slice_set, refl, sym, ap, ◌∙◌, subst, arith, Cause, View}
+use Rattle.word_table.proofs.Common.{Idle, Running, Releasing, is_attempt, is_open, has, without, without_first, TableState, Knows, number, bit_at, dite}
+use Rattle.word_table.proofs.Common.{ℕ_discrete, Change, StepTouches, NewByStep, change_step, NewByCut, change_cut, NewByJoin, JoinTouches, change_join}
+use Rattle.word_table.proofs.Common.{same_view, differ, has-nil, has-one, has-without, has-join_same, found_by, MayMeetNote, left_by_note, note_of}
+use Rattle.word_table.proofs.Common.{MayJoinSeats, spent_view, is_free, after_asking, after_meeting, MaySplitSeat, left_by_split, given_by_split, own_number}
+use Rattle.word_table.proofs.Common.{judged, after_judgement, after_giving_way, after_waiting, after_restarting, after_note, after_joining, Step, SetReadBit}
+use Rattle.word_table.proofs.Common.{ClearReadBit, LoadWriter, ClaimWriter, ScanRow, ReleaseWriter, BeginCall, LoadValue, StoreValue, UndoStore, CommitCall}
+use Rattle.word_table.proofs.Common.{ClearStamp, DrawStamp, AnnounceStamp, JudgeStamp, LoadCauseStamp, LoadVersion, StoreVersion, action_of, May, view_after}
+use Rattle.word_table.proofs.Common.{TakesStep, CutsSeat, TakesNote, Joins, Steps, IsRun}
 use Rattle.stamps_rule.proofs.LocksStand.{runs, yields}
-use Rattle.stamps_rule.specs.Steps.{judged, after_judgement, after_giving_way, after_waiting, after_restarting}
-use Rattle.locks_rule.specs.Joins.{after_note, after_joining}
-use Rattle.word_table.specs.declared.step.Step.{Step}
-use Rattle.word_table.specs.declared.step.Step.TheVariants.{SetReadBit, ClearReadBit, LoadWriter, ClaimWriter, ScanRow, ReleaseWriter, BeginCall, LoadValue}
-use Rattle.word_table.specs.declared.step.Step.TheVariants.{StoreValue, UndoStore, CommitCall, ClearStamp, DrawStamp, AnnounceStamp, JudgeStamp}
-use Rattle.word_table.specs.declared.step.Step.TheVariants.{LoadCauseStamp, LoadVersion, StoreVersion}
-use Rattle.word_table.specs.Kinds.{action_of, May}
-use Rattle.word_table.specs.Meetings.{view_after, StampsAreKept}
-use Rattle.word_table.specs.Runs.{TakesStep, CutsSeat, TakesNote, Joins, Steps, IsRun}
+use Rattle.word_table.specs.Meetings.{StampsAreKept}
 use Rattle.word_table.proofs.Runs.RunLaws.{before, run_sound}
 
 -- what a step does to call and timestamp of the view that takes it: it leaves them, or it ends the call, or it begins the
@@ -80,10 +61,6 @@ keeps_step j c s v w some goes = ⊎_elim
   where
     idle_runs : v.phase ≡ Idle → v.phase ≡ Running → ⊥
     idle_runs a b = let z : Idle ≡ Running = sym a ∙ b in cc
-
--- the kinds of step, one by one
-not_idle : (p : Phase) → p ≢ Idle → {A : Type 0} → p ≡ Idle → A
-not_idle p busy e = absurd (busy e)
 
 attempt_not : (v : View) → is_attempt v.phase ≡ true → v.phase ≢ Idle
 attempt_not v r e = let z : true ≡ false = sym r ∙ ap is_attempt e in cc

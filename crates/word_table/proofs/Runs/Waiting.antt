@@ -1,23 +1,10 @@
 -- No circle of waits. Along waits at locks timestamps rise, along waits for causes they fall, and a wait at a lock leads to
 -- no seat that waits for its cause, since such a seat stands on no lock.
-use Rattle.std.proofs.Common.{◌≡◌, ◌≢◌, ℕ, zero, suc, ◌+◌, ◌-◌, ◌<◌, ◌≤◌, Bool, true, false, ◌⊎◌, inl, inr, ⊎_elim, List, [], ◌∷◌, length}
-use Rattle.std.proofs.Common.{Option, Some, None, slice_get, slice_index, if◌then◌else◌, refl, sym, ap, ◌∙◌, subst, arith}
-use Rattle.history_model.specs.declared.event.Cause.{Cause}
-use Rattle.history_model.specs.declared.view.View.{View}
-use Rattle.history_model.specs.declared.view.Phase.{Phase}
-use Rattle.history_model.specs.declared.view.Phase.TheVariants.{Running, Yielding}
-use Rattle.history_model.specs.Legal.{IsIn}
-use Rattle.history_model.specs.Sets.{has}
-use Rattle.history_model.specs.Table.{TableState, clock_word, stamps_word}
-use Rattle.history_model.specs.Views.{HasBit, HasClaim}
-use Rattle.history_model.proofs.SetLemmas.{bool_cases, has-join_same}
-use Rattle.history_model.proofs.Views.Places.{same_view}
-use Rattle.locks_rule.specs.Locks.{LocksHold, IsSeat}
-use Rattle.locks_rule.proofs.Own.{own_number}
-use Rattle.stamps_rule.specs.Causes.{is_yielding}
-use Rattle.stamps_rule.specs.Stamps.{StampsHold, shown_stamp}
-use Rattle.stamps_rule.proofs.CauseLists.{pending_yielding}
-use Rattle.word_table.specs.Waits.{WaitsAtLock, WaitsForCause, WaitsFor, IsCircle, HasNoCircle, HasNoDeadlock}
+use Rattle.word_table.proofs.Common.{◌≡◌, ◌≢◌, ℕ, zero, suc, ◌+◌, ◌-◌, ◌<◌, ◌≤◌, Bool, true, false, ◌⊎◌, inl, inr, ⊎_elim, List, [], ◌∷◌, length, Option, Some}
+use Rattle.word_table.proofs.Common.{None, slice_get, slice_index, if◌then◌else◌, refl, sym, ap, ◌∙◌, subst, arith, Cause, View, Phase, Running, Yielding, IsIn}
+use Rattle.word_table.proofs.Common.{has, TableState, clock_word, stamps_word, HasBit, HasClaim, bool_cases, has-join_same, same_view, LocksHold, IsSeat}
+use Rattle.word_table.proofs.Common.{own_number, is_yielding, StampsHold, shown_stamp, pending_yielding, WaitsAtLock, WaitsForCause, WaitsFor}
+use Rattle.word_table.specs.Waits.{IsCircle, HasNoCircle, HasNoDeadlock}
 use Rattle.word_table.proofs.Calls.Judging.{wait_due}
 use Rattle.word_table.proofs.Runs.Meetings.{reached_sound}
 

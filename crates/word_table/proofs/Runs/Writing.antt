@@ -1,27 +1,13 @@
 -- Which words the steps of a call write, kind by kind; and that calls which share no lock have none in common.
-use Rattle.std.proofs.Common.{◌≡◌, ◌≢◌, ◌⊎◌, inl, inr, ℕ, ◌-◌, ◌<◌, Bool, true, false, List, [], ◌∷◌, ◌++◌}
-use Rattle.std.proofs.Common.{Option, Some, None, slice_index, refl, sym, ap, ◌∙◌, subst, arith, ◌==◌, if◌then◌else◌}
+use Rattle.word_table.proofs.Common.{◌≡◌, ◌≢◌, ◌⊎◌, inl, inr, ℕ, ◌-◌, ◌<◌, Bool, true, false, List, [], ◌∷◌, ◌++◌, Option, Some, None, slice_index, refl, sym}
+use Rattle.word_table.proofs.Common.{ap, ◌∙◌, subst, arith, ◌==◌, if◌then◌else◌, LOCKS, View, lock_of_word, has, without_first, Knows, writer_word, Notes}
+use Rattle.word_table.proofs.Common.{number, HasClaim, has-join_same, AskedFor, after_asking, after_meeting, own, lock_near, Step, SetReadBit, ClearReadBit}
+use Rattle.word_table.proofs.Common.{LoadWriter, ClaimWriter, ScanRow, ReleaseWriter, BeginCall, LoadValue, StoreValue, UndoStore, CommitCall, ClearStamp}
+use Rattle.word_table.proofs.Common.{DrawStamp, AnnounceStamp, JudgeStamp, LoadCauseStamp, LoadVersion, StoreVersion, May, action_of, view_after, IsSound}
+use Rattle.values_rule.proofs.Common.{oldest}
 use Rattle.std.proofs.Math.Nat.{mod-lt}
-use Rattle.history_model.specs.declared.TheConstants.{LOCKS}
-use Rattle.history_model.specs.declared.view.View.{View}
-use Rattle.history_model.specs.Locks.{lock_of_word}
-use Rattle.history_model.specs.Sets.{has, without_first}
-use Rattle.history_model.specs.Table.{Knows, writer_word}
-use Rattle.history_model.specs.Undoing.{Notes}
-use Rattle.values_rule.specs.Values.{oldest}
-use Rattle.history_model.specs.Views.{number, HasClaim}
-use Rattle.history_model.proofs.SetLemmas.{has-join_same}
-use Rattle.locks_rule.specs.Locks.{AskedFor}
-use Rattle.locks_rule.specs.Steps.{after_asking, after_meeting}
-use Rattle.locks_rule.proofs.Own.{own, lock_near}
 use Rattle.values_rule.proofs.Notes.{oldest_first, oldest_more, oldest_one}
-use Rattle.word_table.specs.declared.step.Step.{Step}
-use Rattle.word_table.specs.declared.step.Step.TheVariants.{SetReadBit, ClearReadBit, LoadWriter, ClaimWriter, ScanRow, ReleaseWriter, BeginCall, LoadValue}
-use Rattle.word_table.specs.declared.step.Step.TheVariants.{StoreValue, UndoStore, CommitCall, ClearStamp, DrawStamp, AnnounceStamp, JudgeStamp}
-use Rattle.word_table.specs.declared.step.Step.TheVariants.{LoadCauseStamp, LoadVersion, StoreVersion}
-use Rattle.word_table.specs.Kinds.{May, action_of}
-use Rattle.word_table.specs.Meetings.{view_after, AsksApart}
-use Rattle.word_table.specs.Sound.{IsSound}
+use Rattle.word_table.specs.Meetings.{AsksApart}
 use Rattle.word_table.specs.Writes.{HaveNoCommonWord, IsAskedWord, IsOwnWord, IsWordOfLock, Loads, MayWrite, WritesOwnAndAsked}
 use Rattle.word_table.proofs.Runs.Meetings.{reached_sound}
 

@@ -1,11 +1,11 @@
 -- A worker before its thread begins, and after it has ended; and what all passes ran.
-use Rattle.std.specs.Prelude.{◌≡◌, ℕ, ◌*◌, ◌≤◌, List, [], ◌∷◌, length, map, sum_by, All, false}
+use Rattle.std.specs.Prelude.{◌≡◌, ℕ, ◌*◌, ◌<◌, ◌≤◌, List, [], length, get_or, map, sum_by, All}
 use Rattle.std.specs.List.{range_with_len}
 use Rattle.crossbeam_utils.specs.declared.cache_padded.CachePadded.{CachePadded}
 use Rattle.crossbeam_utils.specs.Padded.{padded_value}
 use Rattle.history_model.specs.Views.{number}
 use Rattle.word_table.specs.Desks.{DeskView}
-use Rattle.txn_threads.specs.Passes.{IsFresh}
+use Rattle.word_table.specs.Copies.{PassView}
 use Rattle.script_reader.specs.Input.{ClearingInput, IsInput}
 use Rattle.script_reader.specs.declared.limits.TheConstants.{MOST_CALLERS, MOST_SCRIPTS}
 use Rattle.txn_books.specs.declared.shape.BooksShape.{BooksShape}
@@ -14,18 +14,15 @@ use Rattle.worker_pool.specs.declared.worker.Share.{Share}
 use Rattle.worker_pool.specs.declared.worker.Worker.{Worker}
 use Rattle.worker_pool.specs.Counting.{once_below}
 use Rattle.worker_pool.specs.Inner.Makers.{HasMade, RanScripts, RunsEach}
-use Rattle.worker_pool.specs.Inner.Queues.{had, Stealers, IsQueueOf, HadNone}
+use Rattle.worker_pool.specs.Inner.Queues.{dealt_to, had, Stealers, IsQueueOf, HadNone}
 
--- the number of a share's seat, and of a worker's
+-- the number of a share's seat
 abbrev pub seat_of : Share → ℕ
 seat_of share = number share.pass.view
 
-abbrev pub number_of : Worker → ℕ
-number_of worker = seat_of worker.share
-
--- the workers of a list in which they stand apart
-abbrev pub workers_of : List (CachePadded Worker) → List Worker
-workers_of apart = map padded_value apart
+-- the worker that stands apart from others
+abbrev pub worker_of : CachePadded Worker → Worker
+worker_of apart = padded_value apart
 
 -- what all workers share fits together: the table is for books of the input's sizes
 pub record IsTableFor (desk : DeskView BooksShape) (shape : BooksShape) (input : ClearingInput) : Type 0 where
@@ -33,25 +30,40 @@ pub record IsTableFor (desk : DeskView BooksShape) (shape : BooksShape) (input :
   pub sizes : shape ≡ shape_of input.books
   pub valid : IsInput input
 
--- a worker at these deques and this desk, that did nothing yet
-pub record IsSeated (stealers : Stealers) (desk : DeskView BooksShape) (worker : Worker) : Type 0 where
-  pub queue : IsQueueOf stealers (number_of worker) worker.queue
+-- a worker at these deques that did nothing yet
+pub record IsSeated (stealers : Stealers) (worker : Worker) : Type 0 where
+  pub queue : IsQueueOf stealers worker.queue.seat worker.queue
   pub unused : HadNone worker.queue
-  pub fresh : IsFresh desk worker.share.pass
-  pub who_is : worker.share.pass.view.who ≡ number_of worker ∷ []
-  pub nothing_done : worker.share.done.items ≡ []
-  pub going : worker.failed ≡ false
+  pub nothing_done : worker.done.items ≡ []
 
--- a worker that took callers and ran all scripts of each
-pub record HasDoneItsPart (stealers : Stealers) (desk : DeskView BooksShape) (input : ClearingInput) (worker : Worker) : Type 0 where
-  pub queue : IsQueueOf stealers (number_of worker) worker.queue
-  pub made : HasMade desk input (number_of worker) worker.share.pass worker.share.done.items
-  pub run : RunsEach input (had worker.queue) worker.share.done.items
-  pub few : length worker.share.done.items ≤ MOST_CALLERS * MOST_SCRIPTS
+-- a worker that may begin
+pub record MayBegin (stealers : Stealers) (input : ClearingInput) (shape : BooksShape) (worker : Worker) : Type 0 where
+  pub seated : IsSeated stealers worker
+  pub sizes : shape ≡ shape_of input.books
+  pub valid : IsInput input
 
--- a worker whose thread has ended: unless it found no memory, it has done its part
-abbrev pub HasEndedItsPart : Stealers → DeskView BooksShape → ClearingInput → Worker → Type 0
-HasEndedItsPart stealers desk input worker = worker.failed ≡ false → HasDoneItsPart stealers desk input worker
+-- a worker and the pass of this number: it took callers and ran all scripts of each
+pub record HasDoneItsPart (stealers : Stealers) (desk : DeskView BooksShape) (input : ClearingInput) (k : ℕ)
+    (worker : Worker) (pass : PassView) : Type 0 where
+  pub queue : IsQueueOf stealers k worker.queue
+  pub made : HasMade desk input k pass worker.done.items
+  pub run : RunsEach input (had worker.queue) worker.done.items
+  pub few : length worker.done.items ≤ MOST_CALLERS * MOST_SCRIPTS
+
+-- from what a worker was to what it is: if its deque has the number of its pass, it did its part, and was dealt no more
+pub record DoesItsPart (stealers : Stealers) (desk : DeskView BooksShape) (input : ClearingInput) (old new : Worker)
+    (pass : PassView) : Type 0 where
+  pub dealt : dealt_to new.queue ≡ dealt_to old.queue
+  pub part : old.queue.seat ≡ number pass.view → HasDoneItsPart stealers desk input (number pass.view) new pass
+
+-- all workers did their parts, each with the pass of its place
+pub record HaveDoneTheirParts (stealers : Stealers) (desk : DeskView BooksShape) (input : ClearingInput)
+    (workers : List Worker) (passes : List PassView) : Type 0 where
+  pub stealers_are : length stealers ≡ length workers
+  pub count : length passes ≡ length workers
+  pub seats : desk.seats ≡ length workers
+  pub each : (k : ℕ) (w : Worker) (p : PassView) → k < length workers
+      → HasDoneItsPart stealers desk input k (get_or workers k w) (get_or passes k p)
 
 -- a share, and how often each caller was had for it
 pub record CountedShare : Type 0 where

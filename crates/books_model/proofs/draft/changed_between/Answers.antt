@@ -1,11 +1,7 @@
-use Rattle.std.proofs.Common.{◌≡◌, ◌+◌, ℕ, unwrap_or, ap, ◌∙◌, arith}
-use Rattle.std.specs.List.{sum_by}
-use Rattle.std.proofs.lemmas.List.Sums.{sum_by-cons}
-use Rattle.books_model.specs.declared.overlay.Change.{Change}
-use Rattle.books_model.specs.Inner.Changes.{before_between, now_between}
+use Rattle.books_model.proofs.Common.{◌≡◌, ◌+◌, ℕ, unwrap_or, ap, ◌∙◌, arith, sum_by, sum_by-cons, Change, before_between, now_between}
 use Rattle.books_model.proofs.Sums.{sum_between}
-use Rattle.books_model.proofs.draft.changed_between.Goals as goal
 use Rattle.books_model.proofs.draft.changed_between.Goals.{In-Some}
+use Rattle.books_model.proofs.draft.changed_between.Goals as goal
 
 -- what the change's account had, and what is left
 before_step : (c : In-Some) → sum_by (λ (e : ℕ × Change). unwrap_or e.1.before 0) c.loop-change.change-iterator

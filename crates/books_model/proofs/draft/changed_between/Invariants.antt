@@ -1,6 +1,4 @@
-use Rattle.std.proofs.Common.{◌≡◌, ◌+◌, unwrap_or}
-use Rattle.std.specs.List.{sum_by}
-use Rattle.books_model.specs.Inner.Changes.{before_between, now_between}
+use Rattle.books_model.proofs.Common.{◌≡◌, ◌+◌, unwrap_or, sum_by, before_between, now_between}
 use Rattle.books_model.proofs.draft.changed_between.Given as goal
 
 -- the totals so far and those of the changes that are left are the whole

@@ -1,5 +1,4 @@
-use Rattle.books_model.specs.Ranges.{AreInRange}
-use Rattle.books_model.specs.Interpreter.{run_parts}
+use Rattle.books_model.proofs.Common.{AreInRange, run_parts}
 use Rattle.books_model.proofs.Scripts.Outcomes.{outcome_holds}
 use Rattle.books_model.proofs.Scripts.RangeLaws.{parts_stay}
 use Rattle.books_model.proofs.laws.books_stay_in_range.Goals as goal

@@ -1,5 +1,5 @@
 use Rattle.books_model.specs.declared.script.Op.TheVariants as op
-use Rattle.books_model.specs.Interpreter.{step_of}
+use Rattle.books_model.proofs.Common.{step_of}
 use Rattle.books_model.proofs.Scripts.Outcomes.{done}
 use Rattle.books_model.proofs.Scripts.CashLaws.{deposited}
 use Rattle.books_model.proofs.laws.deposit_adds_its_amount.Goals as goal

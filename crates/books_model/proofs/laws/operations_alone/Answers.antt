@@ -1,5 +1,4 @@
-use Rattle.std.proofs.Common.{ap}
-use Rattle.books_model.specs.Interpreter.{outcome_from}
+use Rattle.books_model.proofs.Common.{ap, outcome_from}
 use Rattle.books_model.proofs.Scripts.Runs.{operations_alone}
 use Rattle.books_model.proofs.laws.operations_alone.Goals as goal
 

@@ -1,4 +1,4 @@
-use Rattle.books_model.specs.Interpreter.{run_parts}
+use Rattle.books_model.proofs.Common.{run_parts}
 use Rattle.books_model.proofs.Scripts.Outcomes.{ends_done, stops_no_done}
 use Rattle.books_model.proofs.Scripts.QueueLaws.{parts_in_order}
 use Rattle.books_model.proofs.laws.queue_is_first_in_first_out.Goals as goal

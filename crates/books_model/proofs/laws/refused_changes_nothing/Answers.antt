@@ -1,4 +1,4 @@
-use Rattle.books_model.specs.Interpreter.{run_parts}
+use Rattle.books_model.proofs.Common.{run_parts}
 use Rattle.books_model.proofs.Scripts.Outcomes.{stops_refused}
 use Rattle.books_model.proofs.laws.refused_changes_nothing.Goals as goal
 

@@ -1,6 +1,4 @@
-use Rattle.std.proofs.lemmas.List.Elements.{All-weaker}
-use Rattle.books_model.specs.Scripts.{operations_of}
-use Rattle.books_model.specs.Ranges.{IsOperationFor}
+use Rattle.books_model.proofs.Common.{All-weaker, operations_of, IsOperationFor}
 use Rattle.books_model.proofs.Scripts.RangeLaws.{operation_for}
 use Rattle.books_model.proofs.laws.scripts_go_by_instruments.Goals as goal
 

@@ -1,5 +1,4 @@
-use Rattle.books_model.specs.Books.{HaveSameSizes}
-use Rattle.books_model.specs.Interpreter.{run_parts}
+use Rattle.books_model.proofs.Common.{HaveSameSizes, run_parts}
 use Rattle.books_model.proofs.Scripts.Outcomes.{outcome_holds}
 use Rattle.books_model.proofs.Scripts.SizeLaws.{parts_keep, same_sizes}
 use Rattle.books_model.proofs.laws.scripts_keep_sizes.Goals as goal

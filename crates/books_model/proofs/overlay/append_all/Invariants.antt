@@ -1,4 +1,5 @@
-use Rattle.std.proofs.Common.{◌≡◌, ◌≤◌, ◌+◌, ◌++◌, take, length}
+use Rattle.books_model.proofs.Common.{◌≡◌, ◌≤◌, ◌+◌, ◌++◌, length}
+use Rattle.std.proofs.Common.{take}
 use Rattle.std.specs.VecDeque.{deque_capacity, deque_len}
 use Rattle.books_model.proofs.overlay.append_all.Given as goal
 

@@ -1,11 +1,6 @@
-use Rattle.std.proofs.Common.{ap, subst, sym, ◌∙◌}
-use Rattle.std.specs.FinMap as map
-use Rattle.std.specs.Map.{keys_of}
-use Rattle.std.specs.List.Sorted.{IsStrictlySortedBy}
-use Rattle.std.proofs.lemmas.Map.Keys.{sorted_tail}
-use Rattle.books_model.specs.declared.overlay.Change.{Change}
-use Rattle.books_model.specs.Inner.Changes.{HasRoomFor, changed, set_at}
+use Rattle.books_model.proofs.Common.{ap, subst, sym, ◌∙◌, keys_of, IsStrictlySortedBy, sorted_tail, Change, HasRoomFor, changed, set_at}
 use Rattle.books_model.proofs.Maps.Changes.{HasRoomFor-further, changed-first, change_at_first}
+use Rattle.std.specs.FinMap as map
 use Rattle.books_model.proofs.overlay.apply_changes.Goals as goal
 
 pub set_value-requires : goal.set_value-requires

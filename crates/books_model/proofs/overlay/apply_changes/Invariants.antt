@@ -1,8 +1,5 @@
-use Rattle.std.proofs.Common.{◌≡◌}
+use Rattle.books_model.proofs.Common.{◌≡◌, keys_of, IsStrictlySortedBy, HasRoomFor, changed}
 use Rattle.std.specs.FinMap as map
-use Rattle.std.specs.Map.{keys_of}
-use Rattle.std.specs.List.Sorted.{IsStrictlySortedBy}
-use Rattle.books_model.specs.Inner.Changes.{HasRoomFor, changed}
 use Rattle.books_model.proofs.overlay.apply_changes.Given as goal
 
 -- the changes that are left lead to the same map, and there is room for them

@@ -1,4 +1,4 @@
-use Rattle.std.proofs.Common.{◌∙◌}
+use Rattle.books_model.proofs.Common.{◌∙◌}
 use Rattle.books_model.proofs.Maps.Changes.{changed-found, changed-missed}
 use Rattle.books_model.proofs.overlay.change_of.Goals as goal
 

@@ -1,4 +1,4 @@
-use Rattle.std.proofs.Common.{◌≡◌, drop}
+use Rattle.books_model.proofs.Common.{◌≡◌, drop}
 use Rattle.books_model.proofs.overlay.drop_front.Given as goal
 
 abbrev pub invariant-loop-index : goal.invariant-loop-index

@@ -1,11 +1,7 @@
-use Rattle.std.proofs.Common.{subst, sym, ◌∙◌}
-use Rattle.std.specs.FinMap as map
-use Rattle.std.specs.Map.{keys_of}
-use Rattle.std.specs.List.Sorted.{IsStrictlySortedBy}
-use Rattle.std.proofs.lemmas.Map.Keys.{sorted_tail}
-use Rattle.books_model.specs.declared.overlay.Change.{Change}
+use Rattle.books_model.proofs.Common.{subst, sym, ◌∙◌, keys_of, IsStrictlySortedBy, sorted_tail, Change}
 use Rattle.books_model.proofs.Maps.Trees.{from_entries-inserted}
 use Rattle.books_model.proofs.Maps.Changes.{IsMaking, making-new, making-old}
+use Rattle.std.specs.FinMap as map
 use Rattle.books_model.proofs.overlay.make_room.Goals as goal
 
 pub loop-key-preserved-in_ok-insert : goal.loop-key-preserved-in_ok-insert

@@ -1,6 +1,5 @@
 use Rattle.std.specs.FinMap as map
-use Rattle.std.specs.Map.{keys_of}
-use Rattle.std.specs.List.Sorted.{IsStrictlySortedBy}
+use Rattle.books_model.proofs.Common.{keys_of, IsStrictlySortedBy}
 use Rattle.books_model.proofs.Maps.Changes.{IsMaking}
 use Rattle.books_model.proofs.overlay.make_room.Given as goal
 

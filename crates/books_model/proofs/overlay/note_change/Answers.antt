@@ -1,4 +1,4 @@
-use Rattle.books_model.specs.declared.overlay.Change.{Change}
+use Rattle.books_model.proofs.Common.{Change}
 use Rattle.books_model.proofs.Maps.Changes.{changed-noted, KnowBefore-noted}
 use Rattle.books_model.proofs.overlay.note_change.Goals as goal
 

@@ -1,7 +1,6 @@
-use Rattle.std.proofs.Common.{◌≡◌, ℕ, None, IsSome, ap, subst, sym, refl, ◌∙◌}
-use Rattle.std.specs.FinMap as map
-use Rattle.books_model.specs.Inner.Changes.{set_at}
+use Rattle.books_model.proofs.Common.{◌≡◌, ℕ, None, IsSome, ap, subst, sym, refl, ◌∙◌, set_at}
 use Rattle.books_model.proofs.Maps.Trees.{get-lookup, from_entries-inserted, from_entries-removed}
+use Rattle.std.specs.FinMap as map
 use Rattle.books_model.proofs.overlay.set_value.Goals as goal
 
 pub unreachable-requires : goal.unreachable-requires

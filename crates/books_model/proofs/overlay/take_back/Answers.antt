@@ -1,12 +1,7 @@
-use Rattle.std.proofs.Common.{not, ap, subst, sym, ◌∙◌}
-use Rattle.std.specs.FinMap as map
-use Rattle.std.specs.Map.{keys_of}
-use Rattle.std.specs.List.Sorted.{IsStrictlySortedBy}
-use Rattle.std.proofs.lemmas.Map.Keys.{sorted_tail}
-use Rattle.books_model.specs.Inner.Changes.{KnowBefore, IsRoomier}
-use Rattle.books_model.specs.declared.overlay.Change.{Change}
+use Rattle.books_model.proofs.Common.{not, ap, subst, sym, ◌∙◌, keys_of, IsStrictlySortedBy, sorted_tail, KnowBefore, IsRoomier, Change}
 use Rattle.books_model.proofs.Maps.Trees.{from_entries-removed}
 use Rattle.books_model.proofs.Maps.Changes.{KnowBefore-further, change_at_first, roomier-taken, roomier-left, roomier-none}
+use Rattle.std.specs.FinMap as map
 use Rattle.books_model.proofs.overlay.take_back.Goals as goal
 
 pub loop-key-preserved-then-is_none : goal.loop-key-preserved-then-is_none

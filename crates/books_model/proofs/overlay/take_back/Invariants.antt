@@ -1,8 +1,5 @@
-use Rattle.std.proofs.Common.{ℕ}
+use Rattle.books_model.proofs.Common.{ℕ, keys_of, IsStrictlySortedBy, KnowBefore, IsRoomier}
 use Rattle.std.specs.FinMap as map
-use Rattle.std.specs.Map.{keys_of}
-use Rattle.std.specs.List.Sorted.{IsStrictlySortedBy}
-use Rattle.books_model.specs.Inner.Changes.{KnowBefore, IsRoomier}
 use Rattle.books_model.proofs.overlay.take_back.Given as goal
 
 -- room is left for the changes that are left alone

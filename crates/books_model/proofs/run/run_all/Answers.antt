@@ -1,16 +1,12 @@
-use Rattle.std.proofs.Common.{◌≡◌, ◌+◌, ◌∷◌, ◌++◌, [], length, All, sym, ap, subst, ◌∙◌, arith}
-use Rattle.std.specs.Slice.Iter.{iter_rest}
+use Rattle.books_model.proofs.Common.{◌≡◌, ◌+◌, ◌∷◌, ◌++◌, [], length, All, sym, ap, subst, ◌∙◌, arith, iter_rest, Part, operations_of, IsOperationFor}
+use Rattle.books_model.proofs.Common.{after_step, after_values, run_from, run_parts, step_with}
 use Rattle.std.proofs.lemmas.List.{length-append}
-use Rattle.books_model.specs.declared.script.Part.{Part}
-use Rattle.books_model.specs.declared.script.Part.TheVariants as part
-use Rattle.books_model.specs.Scripts.{operations_of}
-use Rattle.books_model.specs.Ranges.{IsOperationFor}
-use Rattle.books_model.specs.Interpreter.{after_step, after_values, run_from, run_parts}
-use Rattle.books_model.specs.Inner.Steps.{run_with, step_with}
+use Rattle.books_model.specs.Inner.Steps.{run_with}
 use Rattle.books_model.proofs.Scripts.Branches.{All-front, All-back}
 use Rattle.books_model.proofs.Scripts.Runs.{part_ends}
-use Rattle.books_model.proofs.run.run_all.Goals as goal
 use Rattle.books_model.proofs.run.run_all.Goals.{In-Some}
+use Rattle.books_model.specs.declared.script.Part.TheVariants as part
+use Rattle.books_model.proofs.run.run_all.Goals as goal
 
 -- the parts that are left, of which this is the first
 from_here : (c : In-Some) (p : Part) → c.in-Some.part.now ≡ p → iter_rest c.loop-part.part-iterator ≡ p ∷ iter_rest c.next.new.self

@@ -1,9 +1,5 @@
-use Rattle.std.proofs.Common.{◌≡◌, ◌+◌, ◌≤◌, length, All}
-use Rattle.std.specs.Slice.Iter.{iter_rest}
+use Rattle.books_model.proofs.Common.{◌≡◌, ◌+◌, ◌≤◌, length, All, iter_rest, IsOperationFor, operations_of, after_values, run_parts}
 use Rattle.books_model.specs.declared.limits.TheConstants.{MOST_OPERATIONS}
-use Rattle.books_model.specs.Ranges.{IsOperationFor}
-use Rattle.books_model.specs.Scripts.{operations_of}
-use Rattle.books_model.specs.Interpreter.{after_values, run_parts}
 use Rattle.books_model.proofs.run.run_all.Given as goal
 
 -- the values so far and the run of the parts that are left are the whole run

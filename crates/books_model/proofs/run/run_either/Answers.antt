@@ -1,6 +1,5 @@
-use Rattle.std.proofs.Common.{All, sym, subst, arith}
+use Rattle.books_model.proofs.Common.{All, sym, subst, arith, IsOperationFor}
 use Rattle.books_model.specs.Inner.Draft.{Drafted}
-use Rattle.books_model.specs.Ranges.{IsOperationFor}
 use Rattle.books_model.proofs.Scripts.Branches.{All-front, All-back}
 use Rattle.books_model.proofs.run.run_either.Goals as goal
 

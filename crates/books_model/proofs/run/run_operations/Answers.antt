@@ -1,14 +1,8 @@
-use Rattle.std.proofs.Common.{◌≡◌, ◌+◌, ◌∷◌, length, List, All, sym, ap, subst, ◌∙◌, arith}
-use Rattle.std.specs.Slice.Iter.{iter_rest}
-use Rattle.std.proofs.lemmas.List.{nil_from_length}
-use Rattle.std.proofs.lemmas.List.Elements.{All-drop}
-use Rattle.books_model.specs.declared.script.Op.{Op}
-use Rattle.books_model.specs.Ranges.{IsOperationFor}
-use Rattle.books_model.specs.Interpreter.{after_values, run_from}
-use Rattle.books_model.specs.Inner.Steps.{step_with}
+use Rattle.books_model.proofs.Common.{◌≡◌, ◌+◌, ◌∷◌, length, List, All, sym, ap, subst, ◌∙◌, arith, iter_rest, nil_from_length, All-drop, Op, IsOperationFor}
+use Rattle.books_model.proofs.Common.{after_values, run_from, step_with}
 use Rattle.books_model.proofs.Scripts.Runs.{goes_on, is_declined, finds_no_block, ends}
-use Rattle.books_model.proofs.run.run_operations.Goals as goal
 use Rattle.books_model.proofs.run.run_operations.Goals.{In-Some}
+use Rattle.books_model.proofs.run.run_operations.Goals as goal
 
 -- the whole run, from the operation that is next
 from_here : (c : In-Some) → after_values c.loop-operation.values

@@ -1,7 +1,4 @@
-use Rattle.std.proofs.Common.{◌≡◌, ◌+◌, length, All}
-use Rattle.std.specs.Slice.Iter.{iter_rest}
-use Rattle.books_model.specs.Ranges.{IsOperationFor}
-use Rattle.books_model.specs.Interpreter.{after_values, run_from}
+use Rattle.books_model.proofs.Common.{◌≡◌, ◌+◌, length, All, iter_rest, IsOperationFor, after_values, run_from}
 use Rattle.books_model.proofs.run.run_operations.Given as goal
 
 -- the values so far and the run of the operations that are left are the whole run

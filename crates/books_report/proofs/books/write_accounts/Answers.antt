@@ -1,10 +1,5 @@
-use Rattle.std.proofs.Common.{◌++◌, nat_lt, refl, sym, ap, ◌∙◌, append-nil}
-use Rattle.std.specs.Cmp.{nat_cmp_total}
-use Rattle.std.specs.String.{string_bytes}
-use Rattle.std.specs.List.{flat_map}
-use Rattle.std.specs.FinMap.{entries, entries_sorted}
-use Rattle.books_model.proofs.Maps.Keys.{is_lt-nat_cmp}
-use Rattle.script_reader.specs.Text.{account_line}
+use Rattle.books_report.proofs.Common.{◌++◌, nat_lt, refl, sym, ap, ◌∙◌, append-nil, nat_cmp_total, string_bytes, flat_map, entries, entries_sorted}
+use Rattle.books_report.proofs.Common.{is_lt-nat_cmp, account_line}
 use Rattle.books_report.proofs.Walking.Walks.{up_to, up_to-next, up_to_all, written_next}
 use Rattle.books_report.proofs.Walking.Walked.{accounts_from}
 use Rattle.books_report.proofs.books.write_accounts.Goals as goal

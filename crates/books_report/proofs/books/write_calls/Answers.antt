@@ -1,6 +1,4 @@
-use Rattle.std.specs.String.{string_bytes}
-use Rattle.std.proofs.Common.{take, ◌+◌}
-use Rattle.script_reader.specs.Text.{call_line}
+use Rattle.books_report.proofs.Common.{string_bytes, take, ◌+◌, call_line}
 use Rattle.books_report.proofs.Outputs.Journals.{take_next}
 use Rattle.books_report.proofs.Walking.Walks.{written_next}
 use Rattle.books_report.proofs.books.write_calls.Goals as goal
@@ -11,4 +9,4 @@ loop-place-preserved c =
     let place = c.loop-place.place in
     written_next (string_bytes c.args.text.now) (string_bytes c.loop-place.text) (string_bytes c.write_call.new.text)
     call_line (take place calls) (take (place + 1) calls) c.call_at-account.result
-    c.loop-place.invariant c.in_ok-write_call.ensures (take_next calls place c.call_at-account.result c.call_at-account.ensures)
+    c.loop-place.invariant c.in_ok-write_call.ensures (take_next calls place c.call_at-account.ensures)

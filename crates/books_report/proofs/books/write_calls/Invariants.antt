@@ -1,7 +1,4 @@
-use Rattle.std.proofs.Common.{◌≡◌, ◌++◌, take}
-use Rattle.std.specs.String.{string_bytes}
-use Rattle.std.specs.List.{flat_map}
-use Rattle.script_reader.specs.Text.{call_line}
+use Rattle.books_report.proofs.Common.{◌≡◌, ◌++◌, take, string_bytes, flat_map, call_line}
 use Rattle.books_report.proofs.books.write_calls.Given as goal
 
 -- the margin calls before this place are written

@@ -1,11 +1,5 @@
-use Rattle.std.proofs.Common.{◌++◌, ℕ, Bool, refl, ap, ◌∙◌, append-nil}
-use Rattle.std.specs.String.{string_bytes}
-use Rattle.std.specs.List.{flat_map}
-use Rattle.std.specs.Ordering.{is_lt}
-use Rattle.std.specs.FinMap.{entries, entries_sorted}
-use Rattle.books_model.specs.Books.{position_cmp}
-use Rattle.books_model.specs.Inner.Keys.{positions_total}
-use Rattle.script_reader.specs.Text.{position_line}
+use Rattle.books_report.proofs.Common.{◌++◌, ℕ, Bool, refl, ap, ◌∙◌, append-nil, string_bytes, flat_map, is_lt, entries, entries_sorted, position_cmp}
+use Rattle.books_report.proofs.Common.{positions_total, position_line}
 use Rattle.books_report.proofs.Walking.Walks.{up_to, up_to-next, up_to_all, fewer_left, written_next}
 use Rattle.books_report.proofs.Walking.Walked.{positions_from, found_entry, found_nothing}
 use Rattle.books_report.proofs.books.write_positions.Goals as goal

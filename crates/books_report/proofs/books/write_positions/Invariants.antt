@@ -1,10 +1,4 @@
-use Rattle.std.proofs.Common.{◌≡◌, ◌-◌, ◌++◌, length}
-use Rattle.std.specs.String.{string_bytes}
-use Rattle.std.specs.List.{flat_map}
-use Rattle.std.specs.Ordering.{is_lt}
-use Rattle.std.specs.FinMap.{entries}
-use Rattle.books_model.specs.Books.{position_cmp}
-use Rattle.script_reader.specs.Text.{position_line}
+use Rattle.books_report.proofs.Common.{◌≡◌, ◌-◌, ◌++◌, length, string_bytes, flat_map, is_lt, entries, position_cmp, position_line}
 use Rattle.books_report.proofs.Walking.Walks.{up_to}
 use Rattle.books_report.proofs.books.write_positions.Given as goal
 

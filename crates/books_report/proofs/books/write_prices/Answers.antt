@@ -1,16 +1,11 @@
-use Rattle.std.proofs.Common.{◌++◌, nat_lt, refl, sym, ap, ◌∙◌, append-nil}
-use Rattle.std.specs.Cmp.{nat_cmp_total}
-use Rattle.std.specs.String.{string_bytes}
-use Rattle.std.specs.List.{flat_map}
-use Rattle.std.specs.FinMap.{entries, entries_sorted}
-use Rattle.books_model.proofs.Maps.Keys.{is_lt-nat_cmp}
-use Rattle.script_reader.specs.Text.{price_line}
+use Rattle.books_report.proofs.Common.{◌++◌, nat_lt, refl, sym, ap, ◌∙◌, append-nil, nat_cmp_total, string_bytes, flat_map, entries, entries_sorted}
+use Rattle.books_report.proofs.Common.{is_lt-nat_cmp, price_line}
 use Rattle.books_report.proofs.Walking.Walks.{up_to, up_to-next, up_to_all, written_next}
 use Rattle.books_report.proofs.Walking.Walked.{prices_from}
 use Rattle.books_report.proofs.books.write_prices.Goals as goal
 
 pub loop-instrument-init : goal.loop-instrument-init
-loop-instrument-init c = rw (prices_from c.args.books.now c.requires, append-nil) refl
+loop-instrument-init c = rw (prices_from c.requires, append-nil) refl
 
 pub loop-instrument-preserved : goal.loop-instrument-preserved
 loop-instrument-preserved c =

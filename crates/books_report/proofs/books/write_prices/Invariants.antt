@@ -1,8 +1,4 @@
-use Rattle.std.proofs.Common.{◌≡◌, ◌-◌, ◌^◌, ◌++◌, nat_lt}
-use Rattle.std.specs.String.{string_bytes}
-use Rattle.std.specs.List.{flat_map}
-use Rattle.std.specs.FinMap.{entries}
-use Rattle.script_reader.specs.Text.{price_line}
+use Rattle.books_report.proofs.Common.{◌≡◌, ◌-◌, ◌^◌, ◌++◌, nat_lt, string_bytes, flat_map, entries, price_line}
 use Rattle.books_report.proofs.Walking.Walks.{up_to}
 use Rattle.books_report.proofs.books.write_prices.Given as goal
 

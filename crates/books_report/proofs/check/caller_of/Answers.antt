@@ -1,7 +1,4 @@
-use Rattle.std.proofs.Common.{◌≡◌, ◌≢◌, ℕ, ◌<◌, length, Option, Some, None, sym, ap, subst, ◌∙◌, rules}
-use Rattle.std.specs.Option.{IfSome, IfNone}
-use Rattle.std.specs.Str.{IsUtf8}
-use Rattle.script_reader.specs.Gathered.{caller_at}
+use Rattle.books_report.proofs.Common.{◌≡◌, ◌≢◌, ℕ, ◌<◌, length, Option, Some, None, sym, ap, subst, ◌∙◌, rules, IfSome, IfNone, IsUtf8, caller_at}
 use Rattle.script_reader.proofs.text.Tokens.Naming.{IsName-text}
 use Rattle.books_report.proofs.Outputs.Rows.{caller_named}
 use Rattle.books_report.proofs.Order.Histories.{one_caller}
@@ -12,7 +9,7 @@ returns-in_default c = record {
   within = tt;
   named = λ caller within same.
       absurd (c.in_default.ensures.cases.0
-      (subst IsUtf8 (sym same) (IsName-text (caller_at c.args.input.now.callers caller).name (caller_named c.args.input.now c.requires.valid caller within))));
+      (subst IsUtf8 (sym same) (IsName-text (caller_at c.args.input.now.callers caller).name (caller_named c.requires.valid within))));
 }
 
 pub returns : goal.returns
@@ -25,5 +22,5 @@ returns c = record {
     by : (caller : ℕ) → caller < length c.args.input.now.callers → c.in-Ok.name.now ≡ (caller_at c.args.input.now.callers caller).name → (r : Option ℕ)
         → IfSome r (λ d. (d < length c.args.input.now.callers) × ((caller_at c.args.input.now.callers d).name ≡ c.in-Ok.name.now))
         → IfNone r ((d : ℕ) → d < length c.args.input.now.callers → (caller_at c.args.input.now.callers d).name ≢ c.in-Ok.name.now) → r ≡ Some caller
-    by caller within same (Some d) found none = ap Some (one_caller c.args.input.now c.requires.valid d caller found.0 within (found.1 ∙ same))
+    by caller within same (Some d) found none = ap Some (one_caller c.requires.valid found.0 within (found.1 ∙ same))
     by caller within same None found none = absurd (none caller within (sym same))

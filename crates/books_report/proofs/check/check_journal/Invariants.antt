@@ -1,4 +1,4 @@
-use Rattle.std.proofs.Common.{◌++◌, codes}
+use Rattle.books_report.proofs.Common.{◌++◌, codes}
 use Rattle.books_report.proofs.Checks.Found.{IsRead}
 use Rattle.books_report.proofs.check.check_journal.Given as goal
 

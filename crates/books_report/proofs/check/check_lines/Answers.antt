@@ -1,6 +1,4 @@
-use Rattle.std.proofs.Common.{replicate, sym, ap, ◌∙◌, subst}
-use Rattle.std.specs.Result.{IfOk}
-use Rattle.books_report.specs.Inner.Audit.{IsFound}
+use Rattle.books_report.proofs.Common.{replicate, sym, ap, ◌∙◌, subst, IfOk, IsFound}
 use Rattle.books_report.proofs.check.check_lines.Goals as goal
 
 pub check_journal-requires : goal.check_journal-requires

@@ -1,12 +1,5 @@
-use Rattle.std.proofs.Common.{◌≡◌, ℕ, Result, Ok, Err}
-use Rattle.std.specs.Result.{IfOk}
+use Rattle.books_report.proofs.Common.{◌≡◌, ℕ, Result, Ok, Err, IfOk, RESTARTS_BELOW, Checked, Agrees, Differs, IsOutput, IsFirstWrongLine, IsFound}
 use Rattle.io_ends.specs.declared.OutOfMemory.{OutOfMemory}
-use Rattle.books_report.specs.declared.limits.TheConstants.{RESTARTS_BELOW}
-use Rattle.books_report.specs.declared.check.Checked.{Checked}
-use Rattle.books_report.specs.declared.check.Checked.TheVariants.{Agrees, Differs}
-use Rattle.books_report.specs.Output.{IsOutput}
-use Rattle.books_report.specs.Checking.{IsFirstWrongLine}
-use Rattle.books_report.specs.Inner.Audit.{IsFound}
 use Rattle.books_report.proofs.Checks.Found.{agrees_found, differs_found}
 use Rattle.books_report.proofs.check.check_text.Goals as goal
 
@@ -15,7 +8,7 @@ returns-clause-output c = λ output. by output c.check_lines.result c.check_line
   where
     by : IsOutput c.args.input.now RESTARTS_BELOW c.args.text.now → (r : Result Checked OutOfMemory)
         → IfOk r (IsFound c.args.input.now c.args.text.now) → IfOk r (λ checked. checked ≡ Agrees)
-    by output (Ok checked) found = agrees_found c.args.input.now c.args.text.now checked c.callers.ensures.valid found output
+    by output (Ok checked) found = agrees_found checked c.callers.ensures.valid found output
     by output (Err e) found = tt
 
 pub returns-clause-wrong : goal.returns-clause-wrong
@@ -23,5 +16,5 @@ returns-clause-wrong c = λ line wrong. by line wrong c.check_lines.result c.che
   where
     by : (line : ℕ) → IsFirstWrongLine c.args.input.now RESTARTS_BELOW c.args.text.now line
         → (r : Result Checked OutOfMemory) → IfOk r (IsFound c.args.input.now c.args.text.now) → IfOk r (λ checked. checked ≡ Differs line)
-    by line wrong (Ok checked) found = differs_found c.args.input.now c.args.text.now checked line c.callers.ensures.valid found wrong
+    by line wrong (Ok checked) found = differs_found checked c.callers.ensures.valid found wrong
     by line wrong (Err e) found = tt

@@ -1,7 +1,4 @@
-use Rattle.std.proofs.Common.{◌≡◌, ◌⊎◌, inl, inr, ℕ, List, [], ◌∷◌, length, refl, arith}
-use Rattle.std.specs.Iterator.Adapters.{zip_first, zip_second}
-use Rattle.std.specs.Slice.Iter.{iter_rest}
-use Rattle.books_report.specs.Inner.Audit.{in_common}
+use Rattle.books_report.proofs.Common.{◌≡◌, ◌⊎◌, inl, inr, ℕ, List, [], ◌∷◌, length, refl, arith, zip_first, zip_second, iter_rest, in_common}
 use Rattle.books_report.proofs.Checks.InCommon.{feeds}
 use Rattle.books_report.proofs.check.lines_in_common.Goals as goal
 

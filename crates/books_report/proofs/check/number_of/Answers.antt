@@ -1,9 +1,7 @@
-use Rattle.std.proofs.Common.{sym, ap, subst, ◌∙◌, arith}
-use Rattle.std.specs.Str.{IsUtf8}
+use Rattle.books_report.proofs.Common.{sym, ap, subst, ◌∙◌, arith, IsUtf8, number}
 use Rattle.std.specs.Result.{result_ok}
 use Rattle.std.proofs.lemmas.Fmt.{IsAscii-decimal, parse-decimal}
 use Rattle.std.proofs.lemmas.Str.{IsUtf8-from_ascii}
-use Rattle.script_reader.specs.Text.{number}
 use Rattle.books_report.proofs.check.number_of.Goals as goal
 
 pub returns-in_default : goal.returns-in_default

@@ -1,15 +1,8 @@
-use Rattle.std.proofs.Common.{◌≡◌, ◌≢◌, ℕ, ◌+◌, ◌++◌, List, set, length, Bor, Option, Some, None, refl, ap, ◌∙◌, arith, rules}
-use Rattle.std.specs.Option.{IfSome, IfNone}
-use Rattle.std.proofs.lemmas.Option.{same_Some, none-some}
-use Rattle.std.proofs.lemmas.Result.{IfOk-from_err}
-use Rattle.books_model.specs.Interpreter.{outcome_of}
-use Rattle.books_report.specs.Inner.Audit.{HasRun, BeginsWithLine, BeginsWithNone}
-use Rattle.books_report.specs.Journals.{journal_line}
-use Rattle.books_report.specs.Output.{Ran}
-use Rattle.books_report.specs.Lines.{ran_of_line}
+use Rattle.books_report.proofs.Common.{◌≡◌, ◌≢◌, ℕ, ◌+◌, ◌++◌, List, set, length, Bor, Option, Some, None, refl, ap, ◌∙◌, arith, rules, IfSome, IfNone}
+use Rattle.books_report.proofs.Common.{same_Some, none-some, IfOk-from_err, outcome_of, HasRun, BeginsWithLine, BeginsWithNone, journal_line, Ran, ran_of_line}
+use Rattle.books_report.proofs.Common.{reply_words}
 use Rattle.books_report.proofs.Checks.Audits.{named, begins_with_line, expected_begins}
 use Rattle.books_report.proofs.check.run_next_line.Goals as goal
-use Rattle.books_report.specs.Words.{reply_words}
 
 pub returns-in_default : goal.returns-in_default
 returns-in_default c = record {
@@ -68,7 +61,7 @@ returns c = record {
         (expected_begins c.args.input.now scripts c.args.books.now c.args.done.now run line c.in_ok-reply.reply
         c.run_plain.new.books (set c.args.done.now line.caller (line.index + 1)) c.requires.fits.even found.0 found.1
         (done.reply ∙ ap (λ s. (outcome_of s c.args.books.now).0) script_is) (done.books ∙ ap (λ s. (outcome_of s c.args.books.now).1) script_is) refl
-        c.from.result c.args.text.now c.name-name.result.now c.as_bytes.result.now ran behind (omega (arith, at, c.from.ensures)) c.name-name.ensures
+        c.from.result behind (omega (arith, at, c.from.ensures)) c.name-name.ensures
         (c.as_bytes.ensures.value ∙ c.in_ok-write_line.ensures
         ∙ ap (λ l. l ++ journal_line reply_words c.from.result c.name-name.result.now
         (ran_of_line line c.in_ok-reply.reply)) c.new-expected.ensures.bytes) m its e)

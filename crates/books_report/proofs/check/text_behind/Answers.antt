@@ -1,6 +1,5 @@
-use Rattle.std.proofs.Common.{◌≡◌, ◌≢◌, ℕ, Bor, Option, Some, None, List, ◌++◌}
-use Rattle.std.specs.Option.{IfSome, IfNone, MatchOption}
-use Rattle.std.proofs.lemmas.Bool.Decides.{Decides-eqb}
+use Rattle.books_report.proofs.Common.{◌≡◌, ◌≢◌, ℕ, Bor, Option, Some, None, List, ◌++◌, IfSome, IfNone, Decides-eqb}
+use Rattle.std.specs.Option.{MatchOption}
 use Rattle.std.proofs.lemmas.Slice.Eq.{strip_prefix_is}
 use Rattle.books_report.proofs.check.text_behind.Goals as goal
 

@@ -1,12 +1,5 @@
-use Rattle.std.proofs.Common.{◌≡◌, ◌∷◌, length, List, Bor, All, ap, subst, arith}
-use Rattle.std.specs.Iterator.Adapters.{zip_first, zip_second}
-use Rattle.std.specs.Slice.Iter.{iter_rest}
-use Rattle.std.specs.String.{string_bytes}
-use Rattle.std.proofs.lemmas.List.Elements.{All-drop}
-use Rattle.script_reader.specs.Journal.{IsPlace}
-use Rattle.books_model.specs.declared.reply.Reply.{Reply}
-use Rattle.books_report.specs.declared.line.Line.{Line}
-use Rattle.books_report.specs.Lines.{lent, place_of_line}
+use Rattle.books_report.proofs.Common.{◌≡◌, ◌∷◌, length, List, Bor, All, ap, subst, arith, zip_first, zip_second, iter_rest, string_bytes, All-drop, IsPlace}
+use Rattle.books_report.proofs.Common.{Reply, Line, lent, place_of_line}
 use Rattle.books_report.proofs.Outputs.Journals.{line_next}
 use Rattle.books_report.proofs.journal.write_lines.Goals as goal
 
@@ -23,7 +16,7 @@ loop-line-preserved c =
       beside = omega (arith, c.loop-line.invariant.beside, ap (λ (ls : List Line). length ls) next, ap (λ (rs : List (Bor Reply)). length rs) answered);
       places = All-drop (λ l. IsPlace c.args.input.now (place_of_line l)) 1 (c.in-Some.line.now ∷ left)
           (subst (λ ls. All (λ l. IsPlace c.args.input.now (place_of_line l)) ls) next c.loop-line.invariant.places);
-      text = line_next c.args.input.now _ (string_bytes c.loop-line.text) _ c.name-name.result.now c.loop-line.serial
-          lines left (lent replies) (lent others) c.in-Some.line.now c.in-Some.reply.now.now c.loop-line.invariant.text next (ap lent answered)
+      text = line_next c.args.input.now (string_bytes c.loop-line.text) c.loop-line.serial
+          c.loop-line.invariant.text next (ap lent answered)
           c.name-name.ensures c.in_ok-write_line.ensures;
     }

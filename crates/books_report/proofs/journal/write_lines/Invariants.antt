@@ -1,12 +1,6 @@
-use Rattle.std.proofs.Common.{◌≡◌, ◌+◌, ◌++◌, length, All}
-use Rattle.std.specs.Iterator.Adapters.{zip_first, zip_second}
-use Rattle.std.specs.Slice.Iter.{iter_rest}
-use Rattle.std.specs.String.{string_bytes}
-use Rattle.script_reader.specs.Journal.{IsPlace}
-use Rattle.books_report.specs.Journals.{journal_lines}
-use Rattle.books_report.specs.Lines.{lent, place_of_line, scripts_of}
+use Rattle.books_report.proofs.Common.{◌≡◌, ◌+◌, ◌++◌, length, All, zip_first, zip_second, iter_rest, string_bytes, IsPlace, journal_lines, lent, place_of_line}
+use Rattle.books_report.proofs.Common.{scripts_of, reply_words}
 use Rattle.books_report.proofs.journal.write_lines.Given as goal
-use Rattle.books_report.specs.Words.{reply_words}
 
 -- the text so far and the lines that are left are the whole
 abbrev pub invariant-loop-line : goal.invariant-loop-line

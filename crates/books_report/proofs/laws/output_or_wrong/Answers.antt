@@ -4,6 +4,6 @@ use Rattle.books_report.proofs.laws.output_or_wrong.Goals as goal
 
 pub returns : goal.returns
 returns c = record {
-  either = λ input limit text valid. decided input limit valid text;
+  either = λ input limit text valid. decided limit valid text;
   not_both = λ input limit text valid output wrong. none_of_output input limit valid text wrong.0 output wrong.1;
 }

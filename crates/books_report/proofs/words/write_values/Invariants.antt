@@ -1,8 +1,4 @@
-use Rattle.std.proofs.Common.{◌≡◌, ◌++◌}
-use Rattle.std.specs.Slice.Iter.{iter_rest}
-use Rattle.std.specs.String.{string_bytes}
-use Rattle.std.specs.List.{flat_map}
-use Rattle.books_model.specs.Words.{word_of_value}
+use Rattle.books_report.proofs.Common.{◌≡◌, ◌++◌, iter_rest, string_bytes, flat_map, word_of_value}
 use Rattle.books_report.proofs.Outputs.Journals.{spaced}
 use Rattle.books_report.proofs.words.write_values.Given as goal
 

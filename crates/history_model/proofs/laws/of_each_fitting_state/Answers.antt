@@ -1,4 +1,4 @@
-use Rattle.std.proofs.Common.{◌≡◌, slice_get, Some}
+use Rattle.history_model.proofs.Common.{◌≡◌, slice_get, Some}
 use Rattle.history_model.proofs.Traces.FittingLaws.{each_fitting_state, each_from_states}
 use Rattle.history_model.proofs.laws.of_each_fitting_state.Goals as goal
 

@@ -1,13 +1,9 @@
-use Rattle.std.proofs.Common.{◌+◌}
-use Rattle.std.specs.String.{string_bytes}
-use Rattle.script_reader.specs.Text.{account_line}
-use Rattle.books_report.proofs.Walking.Walks.{written_next}
-use Rattle.input_maker.specs.Made.{accounts_to}
+use Rattle.input_maker.proofs.Common.{◌+◌, string_bytes, account_line, written_next, accounts_to}
 use Rattle.input_maker.proofs.Listing.{written_none, accounts-more, accounts-none}
 use Rattle.input_maker.proofs.books.write_accounts.Goals as goal
 
 pub loop-place-init : goal.loop-place-init
-loop-place-init c = written_none account_line (string_bytes c.args.text.now) (accounts_to 0) accounts-none
+loop-place-init c = written_none account_line accounts-none
 
 pub loop-place-preserved : goal.loop-place-preserved
 loop-place-preserved c =

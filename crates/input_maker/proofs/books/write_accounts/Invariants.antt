@@ -1,8 +1,4 @@
-use Rattle.std.proofs.Common.{◌≡◌, ◌++◌}
-use Rattle.std.specs.String.{string_bytes}
-use Rattle.std.specs.List.{flat_map}
-use Rattle.script_reader.specs.Text.{account_line}
-use Rattle.input_maker.specs.Made.{accounts_to}
+use Rattle.input_maker.proofs.Common.{◌≡◌, ◌++◌, string_bytes, flat_map, account_line, accounts_to}
 use Rattle.input_maker.proofs.books.write_accounts.Given as goal
 
 -- the accounts up to this place are written

@@ -1,13 +1,9 @@
-use Rattle.std.proofs.Common.{◌+◌}
-use Rattle.std.specs.String.{string_bytes}
-use Rattle.script_reader.specs.Text.{position_line}
-use Rattle.books_report.proofs.Walking.Walks.{written_next}
-use Rattle.input_maker.specs.Made.{positions_in}
+use Rattle.input_maker.proofs.Common.{◌+◌, string_bytes, position_line, written_next, positions_in}
 use Rattle.input_maker.proofs.Listing.{written_none, positions_in-more, positions_in-none}
 use Rattle.input_maker.proofs.books.write_positions_of.Goals as goal
 
 pub loop-place-init : goal.loop-place-init
-loop-place-init c = written_none position_line (string_bytes c.args.text.now) (positions_in c.args.account 0) (positions_in-none c.args.account)
+loop-place-init c = written_none position_line (positions_in-none c.args.account)
 
 pub loop-place-preserved : goal.loop-place-preserved
 loop-place-preserved c =

@@ -1,8 +1,4 @@
-use Rattle.std.proofs.Common.{◌≡◌, ◌++◌}
-use Rattle.std.specs.String.{string_bytes}
-use Rattle.std.specs.List.{flat_map}
-use Rattle.script_reader.specs.Text.{position_line}
-use Rattle.input_maker.specs.Made.{positions_in}
+use Rattle.input_maker.proofs.Common.{◌≡◌, ◌++◌, string_bytes, flat_map, position_line, positions_in}
 use Rattle.input_maker.proofs.books.write_positions_of.Given as goal
 
 -- the positions up to this place are written

@@ -1,13 +1,9 @@
-use Rattle.std.proofs.Common.{◌+◌, ◌*◌}
-use Rattle.std.specs.String.{string_bytes}
-use Rattle.script_reader.specs.Text.{price_line}
-use Rattle.books_report.proofs.Walking.Walks.{written_next}
-use Rattle.input_maker.specs.Made.{prices_to}
+use Rattle.input_maker.proofs.Common.{◌+◌, ◌*◌, string_bytes, price_line, written_next, prices_to}
 use Rattle.input_maker.proofs.Listing.{written_none, prices-more, prices-none}
 use Rattle.input_maker.proofs.books.write_prices.Goals as goal
 
 pub loop-place-init : goal.loop-place-init
-loop-place-init c = written_none price_line (string_bytes c.args.text.now) (prices_to 0) prices-none
+loop-place-init c = written_none price_line prices-none
 
 pub loop-place-preserved : goal.loop-place-preserved
 loop-place-preserved c =

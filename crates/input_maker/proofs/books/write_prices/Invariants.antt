@@ -1,8 +1,4 @@
-use Rattle.std.proofs.Common.{◌≡◌, ◌++◌}
-use Rattle.std.specs.String.{string_bytes}
-use Rattle.std.specs.List.{flat_map}
-use Rattle.script_reader.specs.Text.{price_line}
-use Rattle.input_maker.specs.Made.{prices_to}
+use Rattle.input_maker.proofs.Common.{◌≡◌, ◌++◌, string_bytes, flat_map, price_line, prices_to}
 use Rattle.input_maker.proofs.books.write_prices.Given as goal
 
 -- the prices up to this place are written

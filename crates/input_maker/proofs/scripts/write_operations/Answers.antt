@@ -1,18 +1,13 @@
-use Rattle.std.proofs.Common.{◌+◌, ◌++◌, List, ℕ, sym, ap, ◌∙◌}
-use Rattle.std.specs.String.{string_bytes}
-use Rattle.books_model.specs.declared.script.Op.{Op}
-use Rattle.script_reader.specs.Text.{line, books_operation_words}
-use Rattle.books_report.proofs.Walking.Walks.{written_next}
-use Rattle.input_maker.specs.Generator.{drawn_state}
-use Rattle.input_maker.specs.Made.{operation_from, operations_from, state_after_operations}
+use Rattle.input_maker.proofs.Common.{◌+◌, ◌++◌, List, ℕ, sym, ap, ◌∙◌, string_bytes, Op, line, books_operation_words, written_next, drawn_state}
+use Rattle.input_maker.proofs.Common.{operation_from, operations_from, state_after_operations}
 use Rattle.input_maker.proofs.Listing.{written_none, operations-none, operations-more, states-none, states-more}
 use Rattle.input_maker.proofs.scripts.write_operations.Goals as goal
 
 pub loop-place-init : goal.loop-place-init
 loop-place-init c = record {
-  state = sym (states-none c.args.generator.now.state);
-  text = written_none (λ (o : Op). line (books_operation_words o)) (string_bytes c.args.text.now)
-      (operations_from c.args.kind c.args.generator.now.state 0) (operations-none c.args.kind c.args.generator.now.state);
+  state = sym (states-none);
+  text = written_none (λ (o : Op). line (books_operation_words o))
+      (operations-none c.args.kind c.args.generator.now.state);
 }
 
 pub loop-place-preserved : goal.loop-place-preserved

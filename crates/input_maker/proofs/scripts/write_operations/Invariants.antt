@@ -1,7 +1,4 @@
-use Rattle.std.proofs.Common.{◌≡◌, ◌++◌}
-use Rattle.std.specs.String.{string_bytes}
-use Rattle.input_maker.specs.Lines.{operation_lines}
-use Rattle.input_maker.specs.Made.{operations_from, state_after_operations}
+use Rattle.input_maker.proofs.Common.{◌≡◌, ◌++◌, string_bytes, operation_lines, operations_from, state_after_operations}
 use Rattle.input_maker.proofs.scripts.write_operations.Given as goal
 
 -- the operations up to this place are drawn and written

@@ -1,15 +1,13 @@
-use Rattle.std.proofs.Common.{◌+◌, ◌%◌, ◌++◌, ℕ, sym, ap, ◌∙◌}
-use Rattle.std.specs.String.{string_bytes}
-use Rattle.script_reader.specs.Grammar.{submission_lines}
-use Rattle.books_report.proofs.Walking.Walks.{written_next}
-use Rattle.input_maker.specs.Made.{caller_name, script_from, state_after_script, made_submission, submissions_to}
+use Rattle.input_maker.proofs.Common.{◌+◌, ◌%◌, ◌++◌, ℕ, sym, ap, ◌∙◌, string_bytes, submission_lines, written_next, state_after_script, made_submission}
+use Rattle.input_maker.proofs.Common.{submissions_to}
+use Rattle.input_maker.specs.Made.{caller_name, script_from}
 use Rattle.input_maker.proofs.Listing.{script_written, written_none, submissions-none, submissions-more, scripts-none, scripts-more}
 use Rattle.input_maker.proofs.scripts.write_scripts.Goals as goal
 
 pub loop-place-init : goal.loop-place-init
 loop-place-init c = record {
-  state = c.new-generator.ensures ∙ sym (scripts-none c.args.seed);
-  text = written_none submission_lines (string_bytes c.args.text.now) (submissions_to c.args.seed c.args.callers 0)
+  state = c.new-generator.ensures ∙ sym (scripts-none);
+  text = written_none submission_lines
       (submissions-none c.args.seed c.args.callers);
 }
 

@@ -1,8 +1,4 @@
-use Rattle.std.proofs.Common.{◌≡◌, ◌++◌}
-use Rattle.std.specs.String.{string_bytes}
-use Rattle.std.specs.List.{flat_map}
-use Rattle.script_reader.specs.Grammar.{submission_lines}
-use Rattle.input_maker.specs.Made.{state_of_script, submissions_to}
+use Rattle.input_maker.proofs.Common.{◌≡◌, ◌++◌, string_bytes, flat_map, submission_lines, state_of_script, submissions_to}
 use Rattle.input_maker.proofs.scripts.write_scripts.Given as goal
 
 -- the scripts up to this place are drawn and written

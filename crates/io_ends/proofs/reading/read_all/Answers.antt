@@ -1,5 +1,4 @@
-use Rattle.std.proofs.Common.{arith, take, ◌++◌}
-use Rattle.std.proofs.lemmas.Grind.{common_steps}
+use Rattle.io_ends.proofs.Common.{arith, take, ◌++◌, common_steps}
 use Rattle.io_ends.proofs.Pieces.{Consumes-append}
 use Rattle.io_ends.proofs.reading.read_all.Goals as goal
 

@@ -1,5 +1,5 @@
-use Rattle.std.proofs.Common.{◌+◌, ◌-◌, ◌≤◌, vec_len}
-use Rattle.std.specs.Io.KnownBytes.{Consumes}
+use Rattle.io_ends.proofs.Common.{◌+◌, ◌-◌, ◌≤◌, Consumes}
+use Rattle.std.proofs.Common.{vec_len}
 use Rattle.io_ends.proofs.reading.read_all.Given as goal
 
 -- each read so far took a byte, and all that was taken is kept

@@ -1,5 +1,4 @@
-use Rattle.std.proofs.Common.{arith, length, take, ◌-◌}
-use Rattle.std.proofs.lemmas.Grind.{common_steps}
+use Rattle.io_ends.proofs.Common.{arith, length, take, ◌-◌, common_steps}
 use Rattle.io_ends.proofs.Pieces.{prefix_and_piece, rest_of_rest, Appends-append}
 use Rattle.io_ends.proofs.writing.write_all_of.Goals as goal
 

@@ -1,5 +1,4 @@
-use Rattle.std.proofs.Common.{◌≤◌, ◌≡◌, ◌-◌, length, take, drop}
-use Rattle.std.specs.Io.KnownBytes.{Appends}
+use Rattle.io_ends.proofs.Common.{◌≤◌, ◌≡◌, ◌-◌, length, take, drop, Appends}
 use Rattle.io_ends.proofs.writing.write_all_of.Given as goal
 
 -- what was written so far is a prefix of the text, and the rest is what is left of it

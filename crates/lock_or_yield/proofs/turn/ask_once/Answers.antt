@@ -1,7 +1,4 @@
-use Rattle.std.proofs.Common.{Some, None, refl, sym, subst}
-use Rattle.word_table.specs.Desks.{RuleHolds}
-use Rattle.lock_or_yield.specs.declared.turn.Intent.{Intent}
-use Rattle.lock_or_yield.specs.Intents.{ComesTo}
+use Rattle.lock_or_yield.proofs.Common.{Some, None, refl, sym, subst, RuleHolds, Intent, ComesTo}
 use Rattle.lock_or_yield.proofs.Turning.{share_clear, share_meets}
 use Rattle.lock_or_yield.proofs.turn.ask_once.Goals as goal
 

@@ -1,6 +1,5 @@
 use Rattle.word_table.specs.declared.answer.Claimed.TheVariants as claimed
-use Rattle.word_table.specs.Desks.{DeskHolds}
-use Rattle.std.proofs.Common.{refl}
+use Rattle.lock_or_yield.proofs.Common.{DeskHolds, refl}
 use Rattle.lock_or_yield.proofs.Claiming.{claim_leaves, claims_and_scans, scans_met, claim_meets}
 use Rattle.lock_or_yield.proofs.turn.claim_and_scan.Goals as goal
 

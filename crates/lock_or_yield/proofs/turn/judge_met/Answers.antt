@@ -1,10 +1,5 @@
-use Rattle.std.proofs.Common.{◌≡◌, ℕ, List, [], refl, sym, ap, ◌∙◌, subst}
-use Rattle.history_model.specs.declared.event.Cause.{Cause}
-use Rattle.history_model.specs.declared.view.View.{View}
-use Rattle.history_model.specs.Fitting.{IsGood}
-use Rattle.history_model.specs.Sets.{has, has_pair}
-use Rattle.history_model.proofs.SetLemmas.{has-join_same}
-use Rattle.lock_or_yield.specs.Turns.{JudgedToYield}
+use Rattle.lock_or_yield.proofs.Common.{◌≡◌, ℕ, List, [], refl, sym, ap, ◌∙◌, subst, Cause, View, has, has_pair, has-join_same, JudgedToYield}
+use Rattle.word_table.proofs.Common.{IsGood}
 use Rattle.lock_or_yield.proofs.Turning.{wait_same, yield_same, settled_to_wait, settled_to_yield}
 use Rattle.lock_or_yield.proofs.turn.judge_met.Goals as goal
 

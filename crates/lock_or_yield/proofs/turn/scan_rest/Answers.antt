@@ -1,12 +1,5 @@
-use Rattle.std.proofs.Common.{◌≡◌, ℕ, Some, refl, sym, ap, ◌∙◌, subst}
-use Rattle.history_model.specs.declared.view.View.{View}
-use Rattle.history_model.specs.Sets.{has}
-use Rattle.history_model.specs.Views.{number}
-use Rattle.locks_rule.specs.Steps.{scan_row_action}
-use Rattle.word_table.specs.Calls.{MetOn}
-use Rattle.word_table.specs.Desks.{DeskHolds}
-use Rattle.word_table.specs.Least.{IsLeast}
-use Rattle.word_table.specs.Unscanned.{IsUnscanned}
+use Rattle.lock_or_yield.proofs.Common.{◌≡◌, ℕ, Some, refl, sym, ap, ◌∙◌, subst, View, has, number, scan_row_action, MetOn, DeskHolds, IsUnscanned}
+use Rattle.word_table.proofs.Common.{IsLeast}
 use Rattle.lock_or_yield.proofs.Scanning.{scan_met, scan_clear, clear_more, left_other_seat, left_not_held, fewer_left}
 use Rattle.lock_or_yield.proofs.turn.scan_rest.Goals as goal
 

@@ -1,7 +1,5 @@
-use Rattle.std.proofs.Common.{◌≡◌}
-use Rattle.history_model.specs.declared.view.Phase.TheVariants.{Running}
-use Rattle.history_model.specs.Views.{HasClaim, HasWriteGrant}
-use Rattle.lock_or_yield.specs.Turns.{ScansClear}
+use Rattle.lock_or_yield.proofs.Common.{◌≡◌, Running, HasWriteGrant, ScansClear}
+use Rattle.word_table.proofs.Common.{HasClaim}
 use Rattle.lock_or_yield.proofs.Scanning.{left_below}
 use Rattle.lock_or_yield.proofs.turn.scan_rest.Given as goal
 

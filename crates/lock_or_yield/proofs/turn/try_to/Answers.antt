@@ -1,7 +1,4 @@
-use Rattle.std.proofs.Common.{ap, ◌∙◌}
-use Rattle.history_model.specs.declared.view.View.{View}
-use Rattle.word_table.specs.Desks.{RuleHolds}
-use Rattle.lock_or_yield.specs.Intents.{MeetsFirst}
+use Rattle.lock_or_yield.proofs.Common.{ap, ◌∙◌, View, RuleHolds, MeetsFirst}
 use Rattle.lock_or_yield.proofs.Turning.{met_alone, met_seat, turn_clear, turn_met}
 use Rattle.lock_or_yield.proofs.turn.try_to.Goals as goal
 

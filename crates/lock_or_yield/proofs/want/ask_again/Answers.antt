@@ -1,7 +1,4 @@
-use Rattle.std.proofs.Common.{[], ◌∷◌, refl, ap, ◌∙◌}
-use Rattle.history_model.specs.declared.view.View.{View}
-use Rattle.history_model.specs.Locks.{lock_of_word}
-use Rattle.lock_or_yield.specs.Asking.{WentOn}
+use Rattle.lock_or_yield.proofs.Common.{[], ◌∷◌, refl, ap, ◌∙◌, View, lock_of_word, WentOn}
 use Rattle.lock_or_yield.proofs.Wanting.{asked_before, asks_more, asks_none, ends_giving_way, ends_granted, locks_more, locks_none, went_more, went_on}
 use Rattle.lock_or_yield.proofs.want.ask_again.Goals as goal
 

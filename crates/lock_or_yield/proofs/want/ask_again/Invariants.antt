@@ -1,8 +1,4 @@
-use Rattle.std.proofs.Common.{◌≡◌, []}
-use Rattle.history_model.specs.declared.view.Phase.TheVariants.{Running}
-use Rattle.history_model.specs.Locks.{lock_of_word}
-use Rattle.lock_or_yield.specs.Asking.{Asks, WentOn}
-use Rattle.lock_or_yield.specs.Intents.{AsksTo}
+use Rattle.lock_or_yield.proofs.Common.{◌≡◌, [], Running, lock_of_word, Asks, WentOn, AsksTo}
 use Rattle.lock_or_yield.proofs.want.ask_again.Given as goal
 
 -- the call goes on, and nobody is left to judge

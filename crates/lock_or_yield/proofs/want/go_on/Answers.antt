@@ -1,5 +1,4 @@
-use Rattle.std.proofs.Common.{◌<◌, ℕ, length, refl, sym, ap, ◌∙◌, subst}
-use Rattle.history_model.specs.declared.view.View.{View}
+use Rattle.lock_or_yield.proofs.Common.{◌<◌, ℕ, length, refl, sym, ap, ◌∙◌, subst, View}
 use Rattle.lock_or_yield.proofs.Turning.{turn_met}
 use Rattle.lock_or_yield.proofs.Wanting.{ends_giving_way, ends_granted, since_waiting}
 use Rattle.lock_or_yield.proofs.want.go_on.Goals as goal

@@ -1,7 +1,4 @@
-use Rattle.std.proofs.Common.{◌<◌, ℕ, length, sym, ap, ◌∙◌, subst}
-use Rattle.history_model.specs.declared.view.View.{View}
-use Rattle.word_table.specs.Desks.{RuleHolds}
-use Rattle.lock_or_yield.specs.Intents.{MeetsFirst}
+use Rattle.lock_or_yield.proofs.Common.{◌<◌, ℕ, length, sym, ap, ◌∙◌, subst, View, RuleHolds, MeetsFirst}
 use Rattle.lock_or_yield.proofs.Turning.{met_alone, met_seat}
 use Rattle.lock_or_yield.proofs.Wanting.{since_clear}
 use Rattle.lock_or_yield.proofs.want.want.Goals as goal

@@ -1,7 +1,6 @@
-use Rattle.std.proofs.Common.{◌≡◌, subst, ◌∙◌, arith}
-use Rattle.order_text.specs.Ranges.{IsBookOf}
+use Rattle.order_match.proofs.Common.{◌≡◌, subst, ◌∙◌, arith, IsBookOf, look_then, looked_stands}
 use Rattle.order_match.proofs.Lookups.{IsListed, lists_all, next_listed, none_listed}
-use Rattle.txn_stores.proofs.Turning.{unlooked, look_then, looked_less, looked_stands, tells}
+use Rattle.txn_stores.proofs.Turning.{unlooked, looked_less, tells}
 use Rattle.order_match.proofs.closing.all_orders.Goals as goal
 
 pub loop-before-init : goal.loop-before-init

@@ -1,7 +1,5 @@
-use Rattle.std.proofs.Common.{◌≡◌, None}
-use Rattle.order_match.specs.Standing.{Stands}
+use Rattle.order_match.proofs.Common.{◌≡◌, None, Stands, Leads, Saw}
 use Rattle.order_match.proofs.Lookups.{IsListed}
-use Rattle.txn_stores.proofs.Turning.{Leads, Saw}
 use Rattle.order_match.proofs.closing.all_orders.Given as goal
 
 -- what is listed so far are the orders up to the number before

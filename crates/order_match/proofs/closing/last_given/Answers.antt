@@ -1,7 +1,6 @@
-use Rattle.std.proofs.Common.{arith}
+use Rattle.order_match.proofs.Common.{arith, leads_less, leads_some, looked, looked_stands}
 use Rattle.order_match.proofs.Calls.{good_parts}
 use Rattle.order_match.proofs.Lookups.{last_fits, tells_last}
-use Rattle.txn_stores.proofs.Turning.{leads_less, leads_some, looked, looked_stands}
 use Rattle.order_match.proofs.closing.last_given.Goals as goal
 
 pub last_number-requires-clause-parts : goal.last_number-requires-clause-parts

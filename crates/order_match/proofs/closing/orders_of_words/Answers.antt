@@ -1,9 +1,7 @@
-use Rattle.std.proofs.Common.{ap, ◌∙◌}
+use Rattle.order_match.proofs.Common.{ap, ◌∙◌, OrderShape, Stands}
 use Rattle.txn_words.specs.Plainly.{PlainView}
 use Rattle.txn_stores.proofs.Scripted.{fresh_stands}
 use Rattle.txn_stores.proofs.Turning.{leads_from_words}
-use Rattle.order_match.specs.declared.shape.OrderShape.{OrderShape}
-use Rattle.order_match.specs.Standing.{Stands}
 use Rattle.order_match.proofs.closing.orders_of_words.Goals as goal
 
 pub all_orders-requires-clause-stands : goal.all_orders-requires-clause-stands

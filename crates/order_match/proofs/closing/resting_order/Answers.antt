@@ -1,9 +1,5 @@
-use Rattle.std.proofs.Common.{rules}
-use Rattle.std.proofs.lemmas.Result.{IfOk-from_err}
-use Rattle.txn_words.specs.Calls.{GoesOn}
-use Rattle.txn_words.proofs.CallLaws.{goes_then, goes_as}
+use Rattle.order_match.proofs.Common.{rules, goes_then, goes_as, leads_less, leads_some, looked, look_then, looked_stands}
 use Rattle.order_match.proofs.Calls.{good_parts, looks_for_none, looks_for_one, side_of_look}
-use Rattle.txn_stores.proofs.Turning.{leads_less, leads_some, looked, look_then, looked_stands}
 use Rattle.order_match.proofs.closing.resting_order.Goals as goal
 
 pub place_of-requires-clause-parts : goal.place_of-requires-clause-parts
@@ -44,15 +40,8 @@ returns g c =
       goes_on = goes_as both (search rules);
     }
 
-pub returns-in_err-place : goal.returns-in_err-place
-returns-in_err-place g c =
-    let failed = c.from_residual.ensures.0 in
-    let on : GoesOn g.W.Words c.args.w.now c.place_of.new.w c.from_residual.result = goes_as c.in_err-place.ensures.goes_on (search rules) in
-    search IfOk-from_err
+pub returns-in_err-place-clause-goes_on : goal.returns-in_err-place-clause-goes_on
+returns-in_err-place-clause-goes_on g c = goes_as c.in_err-place.ensures.goes_on (search rules)
 
-pub returns-in_err-quantity : goal.returns-in_err-quantity
-returns-in_err-quantity g c =
-    let failed = c.from_residual-in_err-quantity.ensures.0 in
-    let on : GoesOn g.W.Words c.args.w.now c.quantity_on.new.w c.from_residual-in_err-quantity.result =
-    goes_as (goes_then c.in_ok-place.ensures.goes_on c.in_err-quantity.ensures.goes_on) (search rules) in
-    search IfOk-from_err
+pub returns-in_err-quantity-clause-goes_on : goal.returns-in_err-quantity-clause-goes_on
+returns-in_err-quantity-clause-goes_on g c = goes_as (goes_then c.in_ok-place.ensures.goes_on c.in_err-quantity.ensures.goes_on) (search rules)

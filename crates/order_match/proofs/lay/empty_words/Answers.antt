@@ -1,12 +1,9 @@
-use Rattle.std.proofs.Common.{◌≡◌, replicate, ap, ◌∙◌}
-use Rattle.order_text.specs.Orders.{empty_book}
+use Rattle.order_match.proofs.Common.{◌≡◌, replicate, ap, ◌∙◌, empty_book, words_of, Stands}
 use Rattle.txn_stores.proofs.Emptied.{whole_count, whole_stands}
 use Rattle.txn_stores.proofs.Ranges.{all_below, all_once}
-use Rattle.order_match.specs.Layout.{words_of}
-use Rattle.order_match.specs.Standing.{Stands}
 use Rattle.order_match.proofs.Emptied.{empty_stands}
-use Rattle.order_match.proofs.lay.empty_words.Goals as goal
 use Rattle.order_match.proofs.lay.empty_words.Goals.{After-lay_free}
+use Rattle.order_match.proofs.lay.empty_words.Goals as goal
 
 pub lay_free-requires-clause-below : goal.lay_free-requires-clause-below
 lay_free-requires-clause-below c = rw (c.deref.ensures.value, c.in_ok-order.ensures, c.arena.ensures) (all_below c.args.shape.now.blocks)

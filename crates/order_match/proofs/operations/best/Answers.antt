@@ -1,4 +1,4 @@
-use Rattle.txn_stores.proofs.Turning.{leads_less, looked, look_then}
+use Rattle.order_match.proofs.Common.{leads_less, looked, look_then}
 use Rattle.order_match.proofs.Scripted.{best_steps}
 use Rattle.order_match.proofs.operations.best.Goals as goal
 

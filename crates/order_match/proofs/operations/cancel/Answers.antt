@@ -1,4 +1,4 @@
-use Rattle.txn_stores.proofs.Turning.{leads_less}
+use Rattle.order_match.proofs.Common.{leads_less}
 use Rattle.order_match.proofs.Scripted.{absent_steps, cancelled_steps}
 use Rattle.order_match.proofs.operations.cancel.Goals as goal
 

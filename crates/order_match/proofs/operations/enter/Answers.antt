@@ -1,8 +1,4 @@
-use Rattle.std.proofs.Common.{arith, ◌∙◌}
-use Rattle.history_model.proofs.Traces.TraceLaws.{begins_trans}
-use Rattle.txn_words.proofs.CallLaws.{leads_then, state_after}
-use Rattle.txn_stores.proofs.Turning.{each_seen, leads_less, looked}
-use Rattle.order_match.specs.Standing.{IsGoodFor}
+use Rattle.order_match.proofs.Common.{arith, ◌∙◌, begins_trans, leads_then, state_after, each_seen, leads_less, looked, IsGoodFor}
 use Rattle.order_match.proofs.Entered.{enters_done, enters_no_number, enters_no_room, last_below}
 use Rattle.order_match.proofs.operations.enter.Goals as goal
 

@@ -1,4 +1,4 @@
-use Rattle.txn_stores.proofs.Turning.{leads_less, looked, looked_stands}
+use Rattle.order_match.proofs.Common.{leads_less, looked, looked_stands}
 use Rattle.order_match.proofs.Calls.{good_parts, tells_best}
 use Rattle.order_match.proofs.orders.best_price.Goals as goal
 

@@ -1,8 +1,4 @@
-use Rattle.std.proofs.Common.{rules}
-use Rattle.std.proofs.lemmas.Result.{IfOk-from_err}
-use Rattle.txn_words.specs.Calls.{GoesOn}
-use Rattle.txn_words.proofs.CallLaws.{goes_then, goes_as}
-use Rattle.txn_stores.proofs.Turning.{leads_less, leads_some, turned, turn_then, turned_stands}
+use Rattle.order_match.proofs.Common.{rules, goes_then, goes_as, leads_less, leads_some, turned, turn_then, turned_stands}
 use Rattle.order_match.proofs.Calls.{good_parts, is_cancelled, not_cancelled, side_of_place}
 use Rattle.order_match.proofs.orders.cancel_order.Goals as goal
 
@@ -44,15 +40,8 @@ returns g c =
       goes_on = goes_as both (search rules);
     }
 
-pub returns-in_err-place : goal.returns-in_err-place
-returns-in_err-place g c =
-    let failed = c.from_residual.ensures.0 in
-    let on : GoesOn g.W.Words c.args.w.now c.cut_place.new.w c.from_residual.result = goes_as c.in_err-place.ensures.goes_on (search rules) in
-    search IfOk-from_err
+pub returns-in_err-place-clause-goes_on : goal.returns-in_err-place-clause-goes_on
+returns-in_err-place-clause-goes_on g c = goes_as c.in_err-place.ensures.goes_on (search rules)
 
-pub returns-in_err-cut_on : goal.returns-in_err-cut_on
-returns-in_err-cut_on g c =
-    let failed = c.from_residual-in_err-cut_on.ensures.0 in
-    let on : GoesOn g.W.Words c.args.w.now c.cut_on.new.w c.from_residual-in_err-cut_on.result =
-    goes_as (goes_then c.in_ok-place.ensures.goes_on c.in_err-cut_on.ensures.goes_on) (search rules) in
-    search IfOk-from_err
+pub returns-in_err-cut_on-clause-goes_on : goal.returns-in_err-cut_on-clause-goes_on
+returns-in_err-cut_on-clause-goes_on g c = goes_as (goes_then c.in_ok-place.ensures.goes_on c.in_err-cut_on.ensures.goes_on) (search rules)

@@ -1,7 +1,4 @@
-use Rattle.std.proofs.Common.{suc}
-use Rattle.std.proofs.lemmas.Result.{IfOk-weaker}
-use Rattle.txn_stores.proofs.Turning.{ok_both, leads_less, leads_cut, turned, turned_stands}
-use Rattle.order_match.specs.Layout.{side_at}
+use Rattle.order_match.proofs.Common.{suc, IfOk-weaker, ok_both, leads_less, leads_cut, turned, turned_stands, side_at}
 use Rattle.order_match.proofs.Family.{part_at}
 use Rattle.order_match.proofs.OnParts.{part_apart, cuts, side_below}
 use Rattle.order_match.proofs.parts.cut_on.Goals as goal

@@ -1,11 +1,4 @@
-use Rattle.std.proofs.Common.{suc}
-use Rattle.std.proofs.lemmas.Result.{IfOk-weaker}
-use Rattle.txn_tree_map.specs.Firsts.{FindsFirst}
-use Rattle.txn_words.specs.Access.{Tells}
-use Rattle.txn_stores.proofs.Turning.{leads_less, looked, looked_stands}
-use Rattle.order_match.specs.Layout.{side_at, tree_of}
-use Rattle.order_match.specs.Standing.{HasParts}
-use Rattle.order_match.specs.Access.{first_in}
+use Rattle.order_match.proofs.Common.{suc, IfOk-weaker, FindsFirst, Tells, leads_less, looked, looked_stands, side_at, tree_of, HasParts, first_in}
 use Rattle.order_match.proofs.OnParts.{part_there, side_below, tells_first}
 use Rattle.order_match.proofs.parts.first_on.Goals as goal
 

@@ -1,11 +1,7 @@
-use Rattle.std.proofs.Common.{◌≡◌, ℕ, ◌<◌, sym, subst, ◌∙◌}
-use Rattle.std.proofs.lemmas.Result.{IfOk-weaker}
-use Rattle.history_model.specs.Traces.{Trace, Begins}
+use Rattle.order_match.proofs.Common.{◌≡◌, ℕ, ◌<◌, sym, subst, ◌∙◌, IfOk-weaker, Trace, EndsWithWrite, each_plain, LAST_AT}
+use Rattle.txn_stores.proofs.Common.{Begins}
 use Rattle.txn_words.specs.Marks.{TakesBack}
-use Rattle.txn_words.specs.Steps.{EndsWithWrite}
-use Rattle.txn_words.proofs.CallLaws.{each_plain}
 use Rattle.txn_words.proofs.GoingBack.{marked_stays, same_as_at_mark}
-use Rattle.order_match.specs.declared.layout.TheConstants.{LAST_AT}
 use Rattle.order_match.proofs.LastNumber.{last_within}
 use Rattle.order_match.proofs.parts.hold_last_number.Goals as goal
 

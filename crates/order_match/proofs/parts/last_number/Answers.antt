@@ -1,6 +1,4 @@
-use Rattle.std.proofs.lemmas.Result.{IfOk-weaker}
-use Rattle.txn_words.proofs.CallLaws.{each_plain}
-use Rattle.txn_stores.proofs.Turning.{looked, looked_stands}
+use Rattle.order_match.proofs.Common.{IfOk-weaker, each_plain, looked, looked_stands}
 use Rattle.order_match.proofs.LastNumber.{last_read, last_within}
 use Rattle.order_match.proofs.parts.last_number.Goals as goal
 

@@ -1,7 +1,5 @@
-use Rattle.std.proofs.Common.{arith}
-use Rattle.std.proofs.lemmas.Result.{IfOk-weaker}
+use Rattle.order_match.proofs.Common.{arith, IfOk-weaker, leads_less, looked, looked_stands}
 use Rattle.order_match.proofs.OnParts.{part_there, tells_get}
-use Rattle.txn_stores.proofs.Turning.{leads_less, looked, looked_stands}
 use Rattle.order_match.proofs.parts.place_of.Goals as goal
 
 pub get-requires-clause-order : goal.get-requires-clause-order

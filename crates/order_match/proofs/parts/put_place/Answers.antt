@@ -1,6 +1,4 @@
-use Rattle.std.proofs.Common.{arith}
-use Rattle.std.proofs.lemmas.Result.{IfOk-weaker}
-use Rattle.txn_stores.proofs.Turning.{ok_both, leads_less, leads_put, turned, turned_stands}
+use Rattle.order_match.proofs.Common.{arith, IfOk-weaker, ok_both, leads_less, leads_put, turned, turned_stands}
 use Rattle.order_match.proofs.Family.{part_at}
 use Rattle.order_match.proofs.OnParts.{part_apart, puts}
 use Rattle.order_match.proofs.parts.put_place.Goals as goal

@@ -1,8 +1,5 @@
-use Rattle.std.proofs.Common.{suc}
-use Rattle.std.proofs.lemmas.Result.{IfOk-weaker}
-use Rattle.order_match.specs.Layout.{side_at}
+use Rattle.order_match.proofs.Common.{suc, IfOk-weaker, side_at, leads_less, looked, looked_stands}
 use Rattle.order_match.proofs.OnParts.{part_there, side_below, tells_get}
-use Rattle.txn_stores.proofs.Turning.{leads_less, looked, looked_stands}
 use Rattle.order_match.proofs.parts.quantity_on.Goals as goal
 
 pub get-requires-clause-order : goal.get-requires-clause-order

@@ -1,7 +1,4 @@
-use Rattle.std.proofs.lemmas.Result.{IfOk-weaker}
-use Rattle.txn_words.proofs.CallLaws.{each_plain, state_after}
-use Rattle.order_match.specs.Standing.{HasSomeParts}
-use Rattle.order_match.specs.Access.{with_last}
+use Rattle.order_match.proofs.Common.{IfOk-weaker, each_plain, state_after, HasSomeParts, with_last}
 use Rattle.order_match.proofs.LastNumber.{last_within, last_written}
 use Rattle.order_match.proofs.parts.set_last_number.Goals as goal
 

@@ -1,4 +1,4 @@
-use Rattle.std.proofs.lemmas.Result.{IfOk-weaker}
+use Rattle.order_match.proofs.Common.{IfOk-weaker}
 use Rattle.order_match.proofs.Days.{day_apart}
 use Rattle.order_match.proofs.run.run_orders.Goals as goal
 

@@ -1,9 +1,4 @@
-use Rattle.std.proofs.Common.{◌<◌, ◌≤◌, arith}
-use Rattle.txn_words.proofs.CallLaws.{goes_then, state_after}
-use Rattle.txn_stores.proofs.Turning.{leads_when, turned, turn_then}
-use Rattle.order_match.specs.Standing.{IsGoodFor}
-use Rattle.order_match.specs.Trading.{after_trade}
-use Rattle.order_text.specs.Matching.{trade_with}
+use Rattle.order_match.proofs.Common.{◌<◌, ◌≤◌, arith, goes_then, state_after, leads_when, turned, turn_then, IsGoodFor, after_trade, trade_with}
 use Rattle.order_match.proofs.Calls.{good_parts}
 use Rattle.order_match.proofs.Entering.{filled_all, filled_partly}
 use Rattle.order_match.proofs.trading.fill.Goals as goal

@@ -1,6 +1,4 @@
-use Rattle.std.proofs.Common.{Some, None, not, ap, refl, sym, ◌∙◌}
-use Rattle.txn_stores.proofs.Turning.{leads_less, leads_some, looked, looked_stands}
-use Rattle.order_match.specs.declared.layout.Side.{Side}
+use Rattle.order_match.proofs.Common.{Some, None, not, ap, refl, sym, ◌∙◌, leads_less, leads_some, looked, looked_stands, Side}
 use Rattle.order_match.proofs.Calls.{good_parts}
 use Rattle.order_match.proofs.Entering.{looks_as, partner_none, partner_range, partner_some}
 use Rattle.order_match.proofs.trading.first_partner.Goals as goal

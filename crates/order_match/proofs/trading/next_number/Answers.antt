@@ -1,15 +1,11 @@
-use Rattle.std.proofs.Common.{◌≡◌, ◌+◌, Some, None, arith, sym, subst, ◌∙◌}
-use Rattle.history_model.proofs.Traces.TraceLaws.{begins_trans}
-use Rattle.txn_words.specs.Calls.{LeadsTo}
-use Rattle.txn_words.specs.Access.{Tells}
-use Rattle.txn_words.proofs.CallLaws.{leads_then, state_after}
-use Rattle.txn_stores.proofs.Turning.{leads_less, looked, looked_stands}
-use Rattle.order_match.specs.Standing.{HasParts, HasSomeParts, IsGoodFor}
+use Rattle.order_match.proofs.Common.{◌≡◌, ◌+◌, Some, None, arith, sym, subst, ◌∙◌, begins_trans, Tells, leads_then, state_after, leads_less, looked}
+use Rattle.order_match.proofs.Common.{looked_stands, HasParts, HasSomeParts, IsGoodFor}
+use Rattle.txn_stores.proofs.Common.{LeadsTo}
 use Rattle.order_match.proofs.Calls.{good_parts}
 use Rattle.order_match.proofs.Entering.{next_none, next_some, tells_next}
 use Rattle.order_match.proofs.LastNumber.{told_behind}
-use Rattle.order_match.proofs.trading.next_number.Goals as goal
 use Rattle.order_match.proofs.trading.next_number.Goals.{In_ok-last}
+use Rattle.order_match.proofs.trading.next_number.Goals as goal
 
 pub hold_last_number-requires-clause-parts : goal.hold_last_number-requires-clause-parts
 hold_last_number-requires-clause-parts g c = record { at = λ s fit. good_parts c.args.shape.now _ (c.requires.stands.at s fit) }

@@ -1,6 +1,5 @@
-use Rattle.std.proofs.Common.{◌<◌, arith}
-use Rattle.txn_stores.proofs.Turning.{in_some, leads_when, turned, turn_then}
-use Rattle.order_match.specs.declared.layout.TheConstants.{HALF}
+use Rattle.order_match.proofs.Common.{◌<◌, arith, leads_when, turned, turn_then, HALF}
+use Rattle.txn_stores.proofs.Turning.{in_some}
 use Rattle.order_match.proofs.Calls.{good_parts}
 use Rattle.order_match.proofs.Entering.{few_instruments, not_full, rests_both, rests_full, rests_not}
 use Rattle.order_match.proofs.trading.put_order.Goals as goal

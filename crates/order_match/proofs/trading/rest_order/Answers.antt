@@ -1,7 +1,5 @@
-use Rattle.std.proofs.lemmas.Result.{IfOk-weaker}
-use Rattle.std.proofs.Common.{refl}
-use Rattle.history_model.proofs.Traces.TraceLaws.{begins_refl}
-use Rattle.txn_stores.proofs.Turning.{leads_less}
+use Rattle.order_match.proofs.Common.{IfOk-weaker, refl, leads_less}
+use Rattle.txn_stores.proofs.Common.{begins_refl}
 use Rattle.order_match.proofs.Calls.{good_parts}
 use Rattle.order_match.proofs.Entering.{rests_nothing, rests_some}
 use Rattle.order_match.proofs.trading.rest_order.Goals as goal

@@ -1,11 +1,6 @@
-use Rattle.std.proofs.Common.{ℕ, ◌-◌, List, refl, sym, ap, subst, ◌∙◌, ◌++◌, ◌∷◌, [], inl, inr, arith}
-use Rattle.order_text.specs.declared.order.Resting.{Resting}
-use Rattle.order_text.specs.declared.reply.Trade.{Trade}
-use Rattle.order_text.specs.Matching.{trade_with}
-use Rattle.txn_words.proofs.CallLaws.{goes_then, leads_then}
-use Rattle.txn_stores.proofs.Turning.{each_seen, looked, turn_by, turned_stands, unturned, leads_less}
-use Rattle.order_match.specs.Standing.{Stands}
-use Rattle.order_match.specs.Trading.{after_trade}
+use Rattle.order_match.proofs.Common.{ℕ, ◌-◌, List, refl, sym, ap, subst, ◌∙◌, ◌++◌, ◌∷◌, [], inl, inr, arith, Resting, Trade, trade_with, goes_then}
+use Rattle.order_match.proofs.Common.{leads_then, each_seen, looked, turned_stands, leads_less, Stands, after_trade}
+use Rattle.txn_stores.proofs.Turning.{turn_by, unturned}
 use Rattle.order_match.proofs.Entering.{matches_order, partner_rests, trading_begins, trading_ends, trading_more}
 use Rattle.order_match.proofs.trading.trade_down.Goals as goal
 

@@ -1,6 +1,4 @@
-use Rattle.std.proofs.Common.{◌≡◌, None}
-use Rattle.txn_stores.proofs.Turning.{Leads, Turns}
-use Rattle.order_match.specs.Standing.{Stands}
+use Rattle.order_match.proofs.Common.{◌≡◌, None, Leads, Turns, Stands}
 use Rattle.order_match.proofs.Entering.{IsTrading}
 use Rattle.order_match.proofs.trading.trade_down.Given as goal
 

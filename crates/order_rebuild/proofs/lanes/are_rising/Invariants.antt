@@ -1,4 +1,4 @@
-use Rattle.order_rebuild.specs.declared.lanes.Lane.{Lane}
+use Rattle.order_rebuild.proofs.Common.{Lane}
 use Rattle.order_rebuild.proofs.Loops.{IsRisingBelow}
 use Rattle.order_rebuild.proofs.lanes.are_rising.Given as goal
 

@@ -1,11 +1,5 @@
-use Rattle.std.specs.Prelude.{if◌then◌else◌}
-use Rattle.std.proofs.Common.{Bool, ◌≡◌, ℕ, ◌++◌, [], ◌∷◌, List, length, map, slice_get, Some, refl, sym, ap, ◌∙◌, subst, arith}
-use Rattle.std.specs.Option.{option_map}
-use Rattle.std.proofs.lemmas.List.{length-map}
-use Rattle.std.proofs.lemmas.Option.{slice_get-map, slice_get_read}
-use Rattle.history_model.specs.declared.placed.Spot.{Spot}
-use Rattle.order_rebuild.specs.Lanes.{IsLane, AreCut}
-use Rattle.order_rebuild.specs.declared.lanes.Lane.{Lane}
+use Rattle.order_rebuild.proofs.Common.{if◌then◌else◌, Bool, ◌≡◌, ℕ, ◌++◌, [], ◌∷◌, List, length, map, slice_get, Some, refl, sym, ap, ◌∙◌, subst, arith}
+use Rattle.order_rebuild.proofs.Common.{option_map, length-map, slice_get-map, slice_get_read, Spot, IsLane, AreCut, Lane}
 use Rattle.order_rebuild.proofs.Callers.{cut_more, lane_from}
 use Rattle.order_rebuild.proofs.lanes.cut.Goals as goal
 

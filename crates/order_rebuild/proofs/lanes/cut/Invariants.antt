@@ -1,5 +1,4 @@
-use Rattle.std.proofs.Common.{◌-◌, ◌≤◌, length, map}
-use Rattle.order_rebuild.specs.Lanes.{AreCut}
+use Rattle.order_rebuild.proofs.Common.{◌-◌, ◌≤◌, length, map, AreCut}
 use Rattle.order_rebuild.proofs.lanes.cut.Given as goal
 
 abbrev pub invariant-on : goal.invariant-on

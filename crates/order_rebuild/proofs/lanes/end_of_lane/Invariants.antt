@@ -1,5 +1,4 @@
-use Rattle.std.proofs.Common.{◌≡◌, ℕ, ◌-◌, ◌<◌, map, slice_get, Some}
-use Rattle.history_model.specs.declared.placed.Spot.{Spot}
+use Rattle.order_rebuild.proofs.Common.{◌≡◌, ℕ, ◌-◌, ◌<◌, map, slice_get, Some, Spot}
 use Rattle.order_rebuild.proofs.lanes.end_of_lane.Given as goal
 
 abbrev pub invariant-loop-p : goal.invariant-loop-p

@@ -1,8 +1,4 @@
-use Rattle.std.proofs.Common.{◌≡◌, ℕ, ◌<◌, List, length, map, slice_get, Some, sym, subst}
-use Rattle.std.specs.List.Sorted.{IsPermutation}
-use Rattle.std.proofs.lemmas.List.{length-map}
-use Rattle.std.proofs.lemmas.List.Sorted.{IsPermutation-sym}
-use Rattle.order_rebuild.specs.declared.lanes.Lane.{Lane}
+use Rattle.order_rebuild.proofs.Common.{◌≡◌, ℕ, ◌<◌, List, length, map, slice_get, Some, sym, subst, IsPermutation, length-map, IsPermutation-sym, Lane}
 use Rattle.order_rebuild.proofs.Callers.{lanes_sorted}
 use Rattle.order_rebuild.proofs.Makes.{moved_in}
 use Rattle.order_rebuild.proofs.lanes.lanes_of.Goals as goal

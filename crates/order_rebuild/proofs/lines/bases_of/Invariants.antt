@@ -1,6 +1,4 @@
-use Rattle.std.proofs.Common.{◌/◌, slice_index}
-use Rattle.order_rebuild.specs.declared.turn.TheConstants.{LINE}
-use Rattle.order_rebuild.specs.Lines.{AreStarts}
+use Rattle.order_rebuild.proofs.Common.{◌/◌, slice_index, LINE, AreStarts}
 use Rattle.order_rebuild.proofs.Makes.{IsRun}
 use Rattle.order_rebuild.proofs.lines.bases_of.Given as goal
 

@@ -1,5 +1,4 @@
-use Rattle.std.proofs.Common.{◌≡◌, length}
-use Rattle.order_rebuild.specs.Lines.{AreChains}
+use Rattle.order_rebuild.proofs.Common.{◌≡◌, length, AreChains}
 use Rattle.order_rebuild.proofs.lines.befores_of.Given as goal
 
 abbrev pub invariant-loop-i : goal.invariant-loop-i

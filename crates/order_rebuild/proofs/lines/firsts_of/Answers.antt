@@ -1,8 +1,7 @@
-use Rattle.std.proofs.Common.{◌≤◌, ℕ, ◌+◌, List, slice_index, sym, subst, arith}
-use Rattle.order_rebuild.specs.Lines.{AreStarts}
+use Rattle.order_rebuild.proofs.Common.{◌≤◌, ℕ, ◌+◌, List, slice_index, sym, subst, arith, AreStarts}
 use Rattle.order_rebuild.proofs.Makes.{IsRun, run_on, run_new, starts_more}
-use Rattle.order_rebuild.proofs.lines.firsts_of.Goals as goal
 use Rattle.order_rebuild.proofs.lines.firsts_of.Goals.{then-codes-i, else-codes-i}
+use Rattle.order_rebuild.proofs.lines.firsts_of.Goals as goal
 
 pub loop-i-preserved : goal.loop-i-preserved
 loop-i-preserved c =

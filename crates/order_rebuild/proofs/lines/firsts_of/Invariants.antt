@@ -1,5 +1,4 @@
-use Rattle.std.proofs.Common.{slice_index}
-use Rattle.order_rebuild.specs.Lines.{AreStarts}
+use Rattle.order_rebuild.proofs.Common.{slice_index, AreStarts}
 use Rattle.order_rebuild.proofs.Makes.{IsRun}
 use Rattle.order_rebuild.proofs.lines.firsts_of.Given as goal
 

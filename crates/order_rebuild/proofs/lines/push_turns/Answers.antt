@@ -1,7 +1,4 @@
-use Rattle.std.proofs.Common.{◌+◌, List, sym, subst}
-use Rattle.history_model.proofs.ListPlaces.{below_get}
-use Rattle.order_rebuild.specs.declared.turn.Turn.{Turn}
-use Rattle.order_rebuild.specs.Turns.{GainTurns}
+use Rattle.order_rebuild.proofs.Common.{◌+◌, List, sym, subst, below_get, Turn, GainTurns}
 use Rattle.order_rebuild.proofs.Makes.{gain_more}
 use Rattle.order_rebuild.proofs.lines.push_turns.Goals as goal
 

@@ -1,4 +1,4 @@
-use Rattle.order_rebuild.specs.Turns.{GainTurns}
+use Rattle.order_rebuild.proofs.Common.{GainTurns}
 use Rattle.order_rebuild.proofs.lines.push_turns.Given as goal
 
 abbrev pub invariant-loop-i : goal.invariant-loop-i

@@ -1,6 +1,5 @@
-use Rattle.std.proofs.Common.{rules, length, map}
+use Rattle.order_rebuild.proofs.Common.{rules, length, map, Turn}
 use Rattle.std.proofs.lemmas.List.Sorted.{IsNonDecreasingBy-from_sort_by_key}
-use Rattle.order_rebuild.specs.declared.turn.Turn.{Turn}
 use Rattle.order_rebuild.proofs.Makes.{turns_moved}
 use Rattle.order_rebuild.proofs.lines.sorted_turns.Goals as goal
 

@@ -1,11 +1,5 @@
-use Rattle.std.proofs.Common.{◌≡◌, ◌<◌, ℕ, ◌+◌, List, [], ◌∷◌, ◌++◌, length, map, slice_get, Some, refl, sym, ap, ◌∙◌, subst}
-use Rattle.std.specs.Option.{option_map}
-use Rattle.std.proofs.lemmas.Option.{slice_get-map, slice_get_read}
-use Rattle.history_model.specs.declared.item.LockUse.{LockUse}
-use Rattle.history_model.specs.declared.placed.Spot.{Spot}
-use Rattle.order_rebuild.specs.declared.turn.Turn.{Turn}
-use Rattle.order_rebuild.specs.declared.turn.TheConstants.{LINE}
-use Rattle.order_rebuild.specs.Turns.{line_place, AreTurns, GainTurns}
+use Rattle.order_rebuild.proofs.Common.{◌≡◌, ◌<◌, ℕ, ◌+◌, List, [], ◌∷◌, ◌++◌, length, map, slice_get, Some, refl, sym, ap, ◌∙◌, subst, option_map}
+use Rattle.order_rebuild.proofs.Common.{slice_get-map, slice_get_read, LockUse, Spot, Turn, LINE, line_place, AreTurns, GainTurns}
 use Rattle.order_rebuild.proofs.Makes.{turns_more}
 use Rattle.order_rebuild.proofs.lines.turns_of.Goals as goal
 

@@ -1,5 +1,4 @@
-use Rattle.std.proofs.Common.{map}
-use Rattle.order_rebuild.specs.Turns.{AreTurns}
+use Rattle.order_rebuild.proofs.Common.{map, AreTurns}
 use Rattle.order_rebuild.proofs.lines.turns_of.Given as goal
 
 abbrev pub invariant-loop-p : goal.invariant-loop-p

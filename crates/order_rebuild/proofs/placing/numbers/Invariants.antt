@@ -1,4 +1,4 @@
-use Rattle.std.proofs.Common.{◌≡◌, ℕ, ◌<◌, slice_index, length}
+use Rattle.order_rebuild.proofs.Common.{◌≡◌, ℕ, ◌<◌, slice_index, length}
 use Rattle.order_rebuild.proofs.placing.numbers.Given as goal
 
 abbrev pub invariant-loop-i : goal.invariant-loop-i

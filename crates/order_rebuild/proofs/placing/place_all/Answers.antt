@@ -1,7 +1,5 @@
-use Rattle.std.proofs.Common.{◌≡◌, ℕ, List, Bool, false, slice_get, slice_set, take, Some, sym, ◌∙◌, subst, arith, length-set}
-use Rattle.std.specs.BinaryHeap.{heap_items}
+use Rattle.order_rebuild.proofs.Common.{◌≡◌, ℕ, List, Bool, false, slice_get, slice_set, take, Some, sym, ◌∙◌, subst, arith, length-set, heap_items, IsNext}
 use Rattle.order_rebuild.proofs.Open.{IsRest}
-use Rattle.order_rebuild.specs.Order.{IsNext}
 use Rattle.order_rebuild.proofs.Marks.{count-set, rest_first, rest_more, each_more, next_open, order_done}
 use Rattle.order_rebuild.proofs.Begin.{first_waits, state_first, each_first, nothing}
 use Rattle.order_rebuild.proofs.Come.{comer_known, comer_here, comer_least, gone_placed, stopped_placed, ready_placed, none_listed}

@@ -1,9 +1,5 @@
-use Rattle.std.proofs.Common.{◌≡◌, ℕ, List, Some, slice_get, take, length}
-use Rattle.std.specs.BinaryHeap.{heap_items}
-use Rattle.history_model.specs.declared.placed.Spot.{Spot}
-use Rattle.order_rebuild.specs.Lines.{items, AreLines}
+use Rattle.order_rebuild.proofs.Common.{◌≡◌, ℕ, List, Some, slice_get, take, length, heap_items, Spot, items, AreLines, IsNext}
 use Rattle.order_rebuild.proofs.Open.{IsRest}
-use Rattle.order_rebuild.specs.Order.{IsNext}
 use Rattle.order_rebuild.proofs.Come.{IsState}
 use Rattle.order_rebuild.proofs.Marks.{count_open}
 use Rattle.order_rebuild.proofs.placing.place_all.Given as goal

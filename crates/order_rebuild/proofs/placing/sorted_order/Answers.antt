@@ -1,4 +1,4 @@
-use Rattle.std.proofs.Common.{rules, length, List, Bool, slice_get, ap, ◌∙◌, arith}
+use Rattle.order_rebuild.proofs.Common.{rules, length, List, Bool, slice_get, ap, ◌∙◌, arith}
 use Rattle.order_rebuild.proofs.Begin.{all_marked}
 use Rattle.order_rebuild.proofs.Rows.{map_count}
 use Rattle.order_rebuild.proofs.placing.sorted_order.Goals as goal

@@ -1,4 +1,4 @@
-use Rattle.std.proofs.Common.{◌+◌, ◌-◌, vec_len}
+use Rattle.order_rebuild.proofs.Common.{◌+◌, ◌-◌, vec_len}
 use Rattle.order_rebuild.proofs.readers.count_reader.Given as goal
 
 abbrev pub decreases-grow : goal.decreases-grow

@@ -1,5 +1,4 @@
-use Rattle.std.proofs.Common.{◌∙◌}
-use Rattle.std.specs.BinaryHeap.{heap_items}
+use Rattle.order_rebuild.proofs.Common.{◌∙◌, heap_items}
 use Rattle.order_rebuild.proofs.Waits.{gone_on, others_on, ready_after}
 use Rattle.order_rebuild.proofs.ready.advance.Goals as goal
 

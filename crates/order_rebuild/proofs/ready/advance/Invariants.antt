@@ -1,7 +1,4 @@
-use Rattle.std.proofs.Common.{◌≡◌, ◌≢◌, ℕ, ◌-◌, slice_index}
-use Rattle.std.specs.BinaryHeap.{heap_items}
-use Rattle.order_rebuild.specs.Lines.{places}
-use Rattle.order_rebuild.specs.Going.{AreGone, AreWaits, AreClosed, KeepsReady}
+use Rattle.order_rebuild.proofs.Common.{◌≡◌, ◌≢◌, ℕ, ◌-◌, slice_index, heap_items, places, AreGone, AreWaits, AreClosed, KeepsReady}
 use Rattle.order_rebuild.proofs.ready.advance.Given as goal
 
 abbrev pub invariant-on : goal.invariant-on

@@ -1,4 +1,4 @@
-use Rattle.std.proofs.Common.{◌-◌, arith}
+use Rattle.order_rebuild.proofs.Common.{◌-◌, arith}
 use Rattle.order_rebuild.proofs.ready.first_closed.Goals as goal
 
 pub is_open-requires-clause-inside : goal.is_open-requires-clause-inside

@@ -1,6 +1,4 @@
-use Rattle.std.proofs.Common.{◌≡◌, ℕ, suc, ◌<◌, ◌≤◌}
-use Rattle.order_rebuild.specs.Lines.{places, item_at}
-use Rattle.order_rebuild.specs.Going.{IsOpen}
+use Rattle.order_rebuild.proofs.Common.{◌≡◌, ℕ, suc, ◌<◌, ◌≤◌, places, item_at, IsOpen}
 use Rattle.order_rebuild.proofs.ready.first_closed.Given as goal
 
 abbrev pub invariant-down : goal.invariant-down

@@ -1,8 +1,5 @@
-use Rattle.std.proofs.Common.{◌≡◌, ℕ, suc, ◌-◌, sym, ◌∙◌, subst, arith}
-use Rattle.std.specs.BinaryHeap.{heap_items}
+use Rattle.order_rebuild.proofs.Common.{◌≡◌, ℕ, suc, ◌-◌, sym, ◌∙◌, subst, arith, heap_items, base_at, last_of, IsStopped, AreStopped}
 use Rattle.order_rebuild.proofs.Befores.{before_at}
-use Rattle.order_rebuild.specs.Lines.{base_at, last_of}
-use Rattle.order_rebuild.specs.Going.{IsStopped, AreStopped}
 use Rattle.order_rebuild.proofs.Waits.{index_is, own_first, own_down, line_of, stopped_first, stopped_down, ready_same, ready_after}
 use Rattle.order_rebuild.proofs.ready.let_go.Goals as goal
 

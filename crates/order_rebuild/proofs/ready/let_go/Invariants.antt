@@ -1,7 +1,4 @@
-use Rattle.std.proofs.Common.{◌≡◌, ℕ, suc, ◌<◌}
-use Rattle.std.specs.BinaryHeap.{heap_items}
-use Rattle.order_rebuild.specs.Lines.{places, item_at}
-use Rattle.order_rebuild.specs.Going.{AreGone, AreStopped, AreWaits, AreClosed, KeepsReady}
+use Rattle.order_rebuild.proofs.Common.{◌≡◌, ℕ, suc, ◌<◌, heap_items, places, item_at, AreGone, AreStopped, AreWaits, AreClosed, KeepsReady}
 use Rattle.order_rebuild.proofs.ready.let_go.Given as goal
 
 abbrev pub invariant-down : goal.invariant-down

@@ -1,6 +1,4 @@
-use Rattle.std.proofs.Common.{◌≡◌, arith}
-use Rattle.std.specs.BinaryHeap.{heap_items}
-use Rattle.order_rebuild.specs.Lines.{item_at}
+use Rattle.order_rebuild.proofs.Common.{◌≡◌, arith, heap_items, item_at}
 use Rattle.order_rebuild.proofs.Waits.{index_is, all_more, ready_after}
 use Rattle.order_rebuild.proofs.ready.queue_all.Goals as goal
 

@@ -1,6 +1,4 @@
-use Rattle.std.proofs.Common.{◌≤◌}
-use Rattle.std.specs.BinaryHeap.{heap_items}
-use Rattle.order_rebuild.specs.Going.{AreWaits, AreClosed, KeepsReady}
+use Rattle.order_rebuild.proofs.Common.{◌≤◌, heap_items, AreWaits, AreClosed, KeepsReady}
 use Rattle.order_rebuild.proofs.ready.queue_all.Given as goal
 
 abbrev pub invariant-loop-i : goal.invariant-loop-i

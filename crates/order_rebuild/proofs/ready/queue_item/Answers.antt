@@ -1,6 +1,4 @@
-use Rattle.std.proofs.Common.{arith, ◌-◌, ◌≡◌, slice_index, suc, refl}
-use Rattle.std.specs.BinaryHeap.{heap_items}
-use Rattle.order_rebuild.specs.Lines.{caller_of}
+use Rattle.order_rebuild.proofs.Common.{arith, ◌-◌, ◌≡◌, slice_index, suc, refl, heap_items, caller_of}
 use Rattle.order_rebuild.proofs.Waits.{index_is, set_waits, ready_waits, ready_comes}
 use Rattle.order_rebuild.proofs.ready.queue_item.Goals as goal
 

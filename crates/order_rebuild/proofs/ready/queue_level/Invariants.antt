@@ -1,7 +1,4 @@
-use Rattle.std.proofs.Common.{◌≡◌, ◌≤◌}
-use Rattle.std.specs.BinaryHeap.{heap_items}
-use Rattle.order_rebuild.specs.Lines.{first_at}
-use Rattle.order_rebuild.specs.Going.{AreWaits, AreClosed, KeepsReady}
+use Rattle.order_rebuild.proofs.Common.{◌≡◌, ◌≤◌, heap_items, first_at, AreWaits, AreClosed, KeepsReady}
 use Rattle.order_rebuild.proofs.ready.queue_level.Given as goal
 
 abbrev pub invariant-loop-i : goal.invariant-loop-i

@@ -1,7 +1,4 @@
-use Rattle.std.proofs.Common.{ℕ, ◌-◌, length, map, refl, arith}
-use Rattle.std.proofs.lemmas.List.{length-map}
-use Rattle.std.proofs.lemmas.Option.{slice_get_read, slice_get_within}
-use Rattle.history_model.proofs.ListPlaces.{at_map}
+use Rattle.order_rebuild.proofs.Common.{ℕ, ◌-◌, length, map, refl, arith, length-map, slice_get_read, slice_get_within, at_map}
 use Rattle.order_rebuild.proofs.Stands.{turn_more}
 use Rattle.order_rebuild.proofs.standing.are_in_turn.Goals as goal
 

@@ -1,4 +1,4 @@
-use Rattle.std.proofs.Common.{map}
+use Rattle.order_rebuild.proofs.Common.{map}
 use Rattle.order_rebuild.proofs.Stands.{AreInTurnBelow}
 use Rattle.order_rebuild.proofs.standing.are_in_turn.Given as goal
 

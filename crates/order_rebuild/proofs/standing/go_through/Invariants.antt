@@ -1,6 +1,4 @@
-use Rattle.std.proofs.Common.{◌≡◌, ℕ, ◌<◌, ◌≤◌, slice_get, slice_index, Some}
-use Rattle.history_model.specs.declared.item.LockUse.{LockUse}
-use Rattle.order_rebuild.specs.Standing.{IsPast}
+use Rattle.order_rebuild.proofs.Common.{◌≡◌, ℕ, ◌<◌, ◌≤◌, slice_get, slice_index, Some, LockUse, IsPast}
 use Rattle.order_rebuild.proofs.standing.go_through.Given as goal
 
 abbrev pub invariant-loop-i : goal.invariant-loop-i

@@ -1,9 +1,5 @@
-use Rattle.std.proofs.Common.{◌≡◌, ℕ, ◌≤◌, List, length, map, slice_get, slice_index, Some, refl, subst, arith}
-use Rattle.std.proofs.lemmas.List.{length-map}
-use Rattle.std.proofs.lemmas.Option.{slice_get_read, slice_get_within}
-use Rattle.history_model.proofs.ListPlaces.{at_map}
-use Rattle.history_model.specs.declared.item.LockUse.{LockUse}
-use Rattle.order_rebuild.specs.Standing.{IsPast}
+use Rattle.order_rebuild.proofs.Common.{◌≡◌, ℕ, ◌≤◌, List, length, map, slice_get, slice_index, Some, refl, subst, arith, length-map, slice_get_read}
+use Rattle.order_rebuild.proofs.Common.{slice_get_within, at_map, LockUse, IsPast}
 use Rattle.order_rebuild.proofs.Stands.{behind_more}
 use Rattle.order_rebuild.proofs.standing.go_through_all.Goals as goal
 

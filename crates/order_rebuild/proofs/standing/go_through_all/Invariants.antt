@@ -1,4 +1,4 @@
-use Rattle.std.proofs.Common.{map}
+use Rattle.order_rebuild.proofs.Common.{map}
 use Rattle.order_rebuild.proofs.Stands.{AreBehind}
 use Rattle.order_rebuild.proofs.standing.go_through_all.Given as goal
 

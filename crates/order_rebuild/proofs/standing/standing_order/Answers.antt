@@ -1,5 +1,4 @@
-use Rattle.std.proofs.Common.{map, arith}
-use Rattle.std.proofs.lemmas.List.{length-map}
+use Rattle.order_rebuild.proofs.Common.{map, arith, length-map}
 use Rattle.order_rebuild.proofs.Stands.{standing_is_order}
 use Rattle.order_rebuild.proofs.standing.standing_order.Goals as goal
 

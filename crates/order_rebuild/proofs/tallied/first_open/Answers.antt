@@ -1,7 +1,4 @@
-use Rattle.std.proofs.Common.{◌≡◌, ℕ, List, map, slice_get, slice_index_or, Some, ap, ◌∙◌, subst, arith}
-use Rattle.std.proofs.lemmas.Option.{slice_get-get_or}
-use Rattle.order_rebuild.specs.Tallies.{MayStart}
-use Rattle.order_rebuild.specs.declared.lanes.Lane.{Lane}
+use Rattle.order_rebuild.proofs.Common.{◌≡◌, ℕ, List, map, slice_get, slice_index_or, Some, ap, ◌∙◌, subst, arith, slice_get-get_or, MayStart, Lane}
 use Rattle.order_rebuild.proofs.Codes.{same_there}
 use Rattle.order_rebuild.proofs.Knows.{known_set}
 use Rattle.order_rebuild.proofs.tallied.first_open.Goals as goal

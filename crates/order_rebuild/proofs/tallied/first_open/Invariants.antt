@@ -1,6 +1,4 @@
-use Rattle.std.proofs.Common.{◌≡◌, ℕ, ◌<◌, ◌≤◌, length, map, slice_get, Some}
-use Rattle.order_rebuild.specs.Tallies.{AreKnownUses, MayStart}
-use Rattle.order_rebuild.specs.declared.lanes.Lane.{Lane}
+use Rattle.order_rebuild.proofs.Common.{◌≡◌, ℕ, ◌<◌, ◌≤◌, length, map, slice_get, Some, AreKnownUses, MayStart, Lane}
 use Rattle.order_rebuild.proofs.tallied.first_open.Given as goal
 
 abbrev pub invariant-loop-at : goal.invariant-loop-at

@@ -1,4 +1,4 @@
-use Rattle.order_rebuild.specs.Tallies.{MayUseBelow}
+use Rattle.order_rebuild.proofs.Common.{MayUseBelow}
 use Rattle.order_rebuild.proofs.tallied.is_due.Given as goal
 
 abbrev pub invariant-loop-i : goal.invariant-loop-i

@@ -1,16 +1,6 @@
-use Rattle.std.specs.Prelude.{if◌then◌else◌}
-use Rattle.std.proofs.Common.{◌≡◌, ℕ, ◌+◌, Bool, true, false, ◌⊎◌, List, [], ◌∷◌, ◌++◌, length, map, slice_get}
-use Rattle.std.proofs.Common.{get_or, slice_set, Some, refl, sym, ap, ◌∙◌, subst, arith, get_or-set_same}
-use Rattle.std.proofs.lemmas.List.{length-map}
-use Rattle.std.proofs.lemmas.Option.{slice_get_read, slice_get_within, get_or_from_slice_get}
-use Rattle.history_model.proofs.ListPlaces.{at_map}
-use Rattle.history_model.specs.declared.item.LockUse.{LockUse}
-use Rattle.history_model.specs.declared.placed.Spot.{Spot}
-use Rattle.order_rebuild.specs.Lanes.{shorter}
-use Rattle.order_rebuild.specs.Tallied.{IsStep}
-use Rattle.order_rebuild.specs.Tallies.{row_at, version_at, left_at}
-use Rattle.order_rebuild.specs.declared.lanes.Lane.{Lane}
-use Rattle.order_rebuild.specs.declared.tallied.Tally.{Tally}
+use Rattle.order_rebuild.proofs.Common.{if◌then◌else◌, ◌≡◌, ℕ, ◌+◌, Bool, true, false, ◌⊎◌, List, [], ◌∷◌, ◌++◌, length, map, slice_get, get_or, slice_set}
+use Rattle.order_rebuild.proofs.Common.{Some, refl, sym, ap, ◌∙◌, subst, arith, get_or-set_same, length-map, slice_get_read, slice_get_within}
+use Rattle.order_rebuild.proofs.Common.{get_or_from_slice_get, at_map, LockUse, Spot, shorter, IsStep, row_at, version_at, left_at, Lane, Tally}
 use Rattle.order_rebuild.proofs.Codes.{same_there}
 use Rattle.order_rebuild.proofs.Marks.{count-set}
 use Rattle.order_rebuild.proofs.Placings.{IsPlacing, placing_first, known_again, mark, spot, placing_after, placed_order}

@@ -1,4 +1,4 @@
-use Rattle.std.proofs.Common.{map}
+use Rattle.order_rebuild.proofs.Common.{map}
 use Rattle.order_rebuild.proofs.Marks.{count_open}
 use Rattle.order_rebuild.proofs.Placings.{IsPlacing}
 use Rattle.order_rebuild.proofs.tallied.place_all.Given as goal

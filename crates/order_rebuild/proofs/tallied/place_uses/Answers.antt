@@ -1,9 +1,5 @@
-use Rattle.std.proofs.Common.{◌≡◌, ℕ, ◌+◌, ◌<◌, false, List, length, length-set, slice_get, slice_index, slice_index_or, Some, refl, ap, sym, ◌∙◌, arith}
-use mathlib.Core.Logic.{dite}
-use native.Mathlib.Decide.{ℕ_discrete}
-use Rattle.std.proofs.lemmas.Option.{slice_get-get_or, slice_get_read}
-use Rattle.history_model.specs.declared.item.LockUse.{LockUse}
-use Rattle.order_rebuild.specs.Tallies.{no_tally}
+use Rattle.order_rebuild.proofs.Common.{◌≡◌, ℕ, ◌+◌, ◌<◌, false, List, length, length-set, slice_get, slice_index, slice_index_or, Some, refl, ap, sym, ◌∙◌}
+use Rattle.order_rebuild.proofs.Common.{arith, dite, ℕ_discrete, slice_get-get_or, slice_get_read, LockUse, no_tally}
 use Rattle.order_rebuild.proofs.Codes.{same_there}
 use Rattle.order_rebuild.proofs.Follows.{place_one}
 use Rattle.order_rebuild.proofs.tallied.place_uses.Goals as goal

@@ -1,7 +1,4 @@
-use Rattle.std.proofs.Common.{◌≡◌, ℕ, ◌<◌, length, slice_get, Some, take}
-use Rattle.history_model.specs.declared.item.LockUse.{LockUse}
-use Rattle.order_rebuild.specs.Tallied.{IsStep}
-use Rattle.order_rebuild.specs.Tallies.{row_at, version_at, left_at}
+use Rattle.order_rebuild.proofs.Common.{◌≡◌, ℕ, ◌<◌, length, slice_get, Some, take, LockUse, IsStep, row_at, version_at, left_at}
 use Rattle.order_rebuild.proofs.tallied.place_uses.Given as goal
 
 abbrev pub invariant-loop-i : goal.invariant-loop-i

@@ -1,5 +1,4 @@
-use Rattle.std.proofs.Common.{◌≡◌, ℕ, ◌<◌, vec_len}
-use Rattle.order_rebuild.specs.Tallies.{row_at, version_at, left_at}
+use Rattle.order_rebuild.proofs.Common.{◌≡◌, ℕ, ◌<◌, vec_len, row_at, version_at, left_at}
 use Rattle.order_rebuild.proofs.tallied.tallies_of.Given as goal
 
 abbrev pub invariant-loop-k : goal.invariant-loop-k

@@ -1,5 +1,5 @@
+use Rattle.order_rebuild.proofs.Common.{LockUse}
 use Rattle.order_rebuild.proofs.Loops.{IsRisingBelow}
-use Rattle.history_model.specs.declared.item.LockUse.{LockUse}
 use Rattle.order_rebuild.proofs.turn.is_rising.Given as goal
 
 abbrev pub invariant-loop-i : goal.invariant-loop-i

@@ -1,4 +1,5 @@
-use Rattle.std.proofs.Common.{◌<◌, ◌^◌}
+use Rattle.order_rebuild.proofs.Common.{◌<◌}
+use Rattle.std.proofs.Common.{◌^◌}
 use Rattle.order_rebuild.specs.Turns.{HasKey}
 use Rattle.order_rebuild.proofs.Loops.{IsLeastBelow}
 use Rattle.order_rebuild.proofs.turn.least_key.Given as goal

@@ -1,11 +1,9 @@
-use Rattle.std.proofs.Common.{lit<, codes, refl, sym, ◌∙◌, arith}
-use Rattle.std.proofs.lemmas.Result.{err_from_is_err_and}
+use Rattle.order_text.proofs.Common.{lit<, codes, refl, sym, ◌∙◌, arith, err_from_is_err_and, order_forms, other_length, word_wrong}
 use Rattle.books_model.specs.declared.limits.TheConstants.{GREATEST_PRICE, GREATEST_QUANTITY}
-use Rattle.order_text.specs.declared.script.OrderOp.TheVariants as op
-use Rattle.order_text.specs.Language.{order_forms}
 use Rattle.order_text.proofs.Inputs.{operation_in}
 use Rattle.script_reader.proofs.LineFaults.Operating.{row_three}
-use Rattle.script_reader.proofs.LineFaults.RowFaults.{other_length, three_wrong, word_wrong}
+use Rattle.script_reader.proofs.LineFaults.RowFaults.{three_wrong}
+use Rattle.order_text.specs.declared.script.OrderOp.TheVariants as op
 use Rattle.order_text.proofs.language.limit_order_of.Goals as goal
 
 pub returns-in_err-instrument-clause-err : goal.returns-in_err-instrument-clause-err

@@ -1,11 +1,8 @@
-use Rattle.std.proofs.Common.{lit<, codes, refl, sym, ◌∙◌, arith}
-use Rattle.std.proofs.lemmas.Result.{err_from_is_err_and}
-use Rattle.order_text.specs.declared.limits.TheConstants.{GREATEST_ORDER}
-use Rattle.order_text.specs.declared.script.OrderOp.TheVariants as op
-use Rattle.order_text.specs.Language.{order_forms}
+use Rattle.order_text.proofs.Common.{lit<, codes, refl, sym, ◌∙◌, arith, err_from_is_err_and, GREATEST_ORDER, order_forms, other_length, word_wrong}
 use Rattle.order_text.proofs.Inputs.{operation_in}
 use Rattle.script_reader.proofs.LineFaults.Operating.{row_one}
-use Rattle.script_reader.proofs.LineFaults.RowFaults.{other_length, one_wrong, word_wrong}
+use Rattle.script_reader.proofs.LineFaults.RowFaults.{one_wrong}
+use Rattle.order_text.specs.declared.script.OrderOp.TheVariants as op
 use Rattle.order_text.proofs.language.with_one_number.Goals as goal
 
 pub returns-in_err-number-clause-err : goal.returns-in_err-number-clause-err

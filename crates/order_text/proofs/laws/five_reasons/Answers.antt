@@ -1,5 +1,5 @@
+use Rattle.order_text.proofs.Common.{order_language}
 use Rattle.books_report.proofs.AnyStore.Reasons.{reason_is}
-use Rattle.order_text.specs.Language.{order_language}
 use Rattle.order_text.proofs.laws.five_reasons.Goals as goal
 
 pub returns : goal.returns

@@ -1,12 +1,6 @@
-use Rattle.std.proofs.Common.{List, filter, not, rules, subst}
-use Rattle.std.specs.List.Sorted.{IsPermutation}
-use Rattle.std.specs.Ordering.{is_lt}
+use Rattle.order_text.proofs.Common.{List, filter, not, rules, subst, IsPermutation, is_lt, IsStrictlySortedBy-filter, ranks_by, Resting, may_trade}
+use Rattle.order_text.proofs.Common.{serving_cmp, by_number}
 use Rattle.std.proofs.lemmas.Fn.{always_returns_same}
-use Rattle.std.proofs.lemmas.List.Kept.{IsStrictlySortedBy-filter}
-use Rattle.std.proofs.lemmas.List.Sorted.{ranks_by}
-use Rattle.order_text.specs.declared.order.Resting.{Resting}
-use Rattle.order_text.specs.Matching.{may_trade, serving_cmp}
-use Rattle.order_text.specs.Orders.{by_number}
 use Rattle.order_text.proofs.Serving.{none_tie, serving_total}
 use Rattle.order_text.proofs.Sorting.{sorts}
 use Rattle.order_text.proofs.matching.partners.Goals as goal

@@ -1,7 +1,7 @@
-use Rattle.std.proofs.Common.{arith}
+use Rattle.order_text.proofs.Common.{arith}
 use Rattle.order_text.proofs.Trading.{all_served, none_left}
-use Rattle.order_text.proofs.matching.trade.Goals as goal
 use Rattle.order_text.proofs.matching.trade.Goals.{else-loop-partner-test, then-loop-partner-test+then-left-eq0}
+use Rattle.order_text.proofs.matching.trade.Goals as goal
 
 pub returns-clause-trades : goal.returns-clause-trades
 returns-clause-trades c = let l = c.loop-partner in elim c.loop-partner-test.branch [

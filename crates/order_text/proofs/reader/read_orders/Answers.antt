@@ -1,8 +1,5 @@
-use Rattle.std.proofs.Common.{ℕ, List, [], ◌∷◌, ap, ◌∙◌, slice_index_or}
-use Rattle.std.proofs.lemmas.Result.{err_from_is_err_and}
-use Rattle.script_reader.specs.Gathered.{CallerOf}
-use Rattle.order_text.specs.declared.script.OrderOp.{OrderOp}
-use Rattle.order_text.specs.Input.{BookInput}
+use Rattle.order_text.proofs.Common.{ℕ, List, [], ◌∷◌, ap, ◌∙◌, err_from_is_err_and, CallerOf, OrderOp, BookInput}
+use Rattle.std.proofs.Common.{slice_index_or}
 use Rattle.order_text.proofs.Inputs.{input_is}
 use Rattle.order_text.proofs.reader.read_orders.Goals as goal
 

@@ -1,7 +1,4 @@
-use Rattle.std.proofs.Common.{◌++◌, ◌∷◌, codes, ap, ◌∙◌}
-use Rattle.std.specs.String.{string_bytes}
-use Rattle.script_reader.specs.declared.text.words.TheConstants.{SPACE}
-use Rattle.script_reader.specs.Text.{number}
+use Rattle.order_text.proofs.Common.{◌++◌, ◌∷◌, codes, ap, ◌∙◌, string_bytes, SPACE, number}
 use Rattle.books_report.proofs.AnyStore.Printing.{feed_pushed}
 use Rattle.order_text.proofs.Printing.{header_of}
 use Rattle.order_text.proofs.report.write_header.Goals as goal

@@ -1,6 +1,5 @@
-use Rattle.std.proofs.Common.{◌≡◌, ◌++◌, take}
-use Rattle.std.specs.String.{string_bytes}
-use Rattle.std.specs.List.{flat_map}
+use Rattle.order_text.proofs.Common.{◌≡◌, ◌++◌, string_bytes, flat_map}
+use Rattle.std.proofs.Common.{take}
 use Rattle.order_text.specs.Output.{order_line}
 use Rattle.order_text.proofs.report.write_orders.Given as goal
 

@@ -1,10 +1,6 @@
-use Rattle.std.proofs.Common.{◌++◌, sym, ap, ◌∙◌, append-nil}
-use Rattle.std.specs.Slice.Iter.{iter_rest}
-use Rattle.std.specs.String.{string_bytes}
-use Rattle.std.specs.List.{flat_map}
+use Rattle.order_text.proofs.Common.{◌++◌, sym, ap, ◌∙◌, append-nil, iter_rest, string_bytes, flat_map, next_trade}
 use Rattle.std.proofs.lemmas.List.{nil_from_length}
 use Rattle.books_report.proofs.Outputs.Journals.{piece_next}
-use Rattle.order_text.specs.Words.{next_trade}
 use Rattle.order_text.proofs.words.write_trades.Goals as goal
 
 pub loop-trade-preserved : goal.loop-trade-preserved

@@ -1,8 +1,4 @@
-use Rattle.std.proofs.Common.{◌≡◌, ◌++◌}
-use Rattle.std.specs.Slice.Iter.{iter_rest}
-use Rattle.std.specs.String.{string_bytes}
-use Rattle.std.specs.List.{flat_map}
-use Rattle.order_text.specs.Words.{next_trade}
+use Rattle.order_text.proofs.Common.{◌≡◌, ◌++◌, iter_rest, string_bytes, flat_map, next_trade}
 use Rattle.order_text.proofs.words.write_trades.Given as goal
 
 -- the text so far and the trades that are left are the whole

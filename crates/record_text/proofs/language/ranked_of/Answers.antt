@@ -1,11 +1,9 @@
-use Rattle.std.proofs.Common.{lit<, codes, refl, sym, ◌∙◌, arith}
-use Rattle.std.proofs.lemmas.Result.{err_from_is_err_and}
-use Rattle.record_text.specs.declared.limits.TheConstants.{GREATEST_RANK, MOST_LISTED}
-use Rattle.record_text.specs.declared.script.RecordOp.TheVariants as op
-use Rattle.record_text.specs.Language.{record_forms}
+use Rattle.record_text.proofs.Common.{lit<, codes, refl, sym, ◌∙◌, arith, err_from_is_err_and, GREATEST_RANK, MOST_LISTED, record_forms, other_length}
+use Rattle.record_text.proofs.Common.{word_wrong}
 use Rattle.record_text.proofs.Inputs.{operation_in}
 use Rattle.script_reader.proofs.LineFaults.Operating.{row_two}
-use Rattle.script_reader.proofs.LineFaults.RowFaults.{other_length, two_wrong, word_wrong}
+use Rattle.script_reader.proofs.LineFaults.RowFaults.{two_wrong}
+use Rattle.record_text.specs.declared.script.RecordOp.TheVariants as op
 use Rattle.record_text.proofs.language.ranked_of.Goals as goal
 
 pub returns-then-not-is_row-clause-err : goal.returns-then-not-is_row-clause-err

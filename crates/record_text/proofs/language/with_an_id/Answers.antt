@@ -1,11 +1,8 @@
-use Rattle.std.proofs.Common.{lit<, codes, refl, sym, ◌∙◌, arith}
-use Rattle.std.proofs.lemmas.Result.{err_from_is_err_and}
-use Rattle.record_text.specs.declared.limits.TheConstants.{GREATEST_ID}
-use Rattle.record_text.specs.declared.script.RecordOp.TheVariants as op
-use Rattle.record_text.specs.Language.{record_forms}
+use Rattle.record_text.proofs.Common.{lit<, codes, refl, sym, ◌∙◌, arith, err_from_is_err_and, GREATEST_ID, record_forms, other_length, word_wrong}
 use Rattle.record_text.proofs.Inputs.{operation_in}
 use Rattle.script_reader.proofs.LineFaults.Operating.{row_one}
-use Rattle.script_reader.proofs.LineFaults.RowFaults.{other_length, one_wrong, word_wrong}
+use Rattle.script_reader.proofs.LineFaults.RowFaults.{one_wrong}
+use Rattle.record_text.specs.declared.script.RecordOp.TheVariants as op
 use Rattle.record_text.proofs.language.with_an_id.Goals as goal
 
 pub returns-in_err-id-clause-err : goal.returns-in_err-id-clause-err

@@ -1,5 +1,5 @@
+use Rattle.record_text.proofs.Common.{record_language}
 use Rattle.books_report.proofs.AnyStore.Reasons.{reason_is}
-use Rattle.record_text.specs.Language.{record_language}
 use Rattle.record_text.proofs.laws.five_reasons.Goals as goal
 
 pub returns : goal.returns

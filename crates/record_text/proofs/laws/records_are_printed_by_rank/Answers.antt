@@ -1,6 +1,5 @@
 use Rattle.std.specs.FinMap as finite
-use Rattle.std.specs.FinMap.{entries_sorted}
-use Rattle.record_text.specs.Records.{index_of}
+use Rattle.record_text.proofs.Common.{entries_sorted, index_of}
 use Rattle.record_text.proofs.Ranked.{printed_by_rank}
 use Rattle.record_text.proofs.laws.records_are_printed_by_rank.Goals as goal
 

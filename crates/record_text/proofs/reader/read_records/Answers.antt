@@ -1,8 +1,6 @@
-use Rattle.std.proofs.Common.{ℕ, List, [], ◌∷◌, ap, ◌∙◌, slice_index_or}
-use Rattle.std.proofs.lemmas.Result.{err_from_is_err_and}
-use Rattle.script_reader.specs.Gathered.{CallerOf}
-use Rattle.record_text.specs.declared.script.RecordOp.{RecordOp}
-use Rattle.record_text.specs.Input.{StoreInput}
+use Rattle.record_text.proofs.Common.{ℕ, List, [], ◌∷◌, ap, ◌∙◌, err_from_is_err_and, RecordOp, StoreInput}
+use Rattle.script_reader.proofs.Common.{CallerOf}
+use Rattle.std.proofs.Common.{slice_index_or}
 use Rattle.record_text.proofs.reader.read_records.Goals as goal
 
 abbrev input_with : ℕ → List (CallerOf (List RecordOp)) → StoreInput

@@ -1,6 +1,4 @@
-use Rattle.std.proofs.Common.{◌≡◌, ◌++◌, take}
-use Rattle.std.specs.String.{string_bytes}
-use Rattle.std.specs.List.{flat_map}
+use Rattle.record_text.proofs.Common.{◌≡◌, ◌++◌, take, string_bytes, flat_map}
 use Rattle.record_text.specs.Output.{record_line}
 use Rattle.record_text.proofs.report.write_records.Given as goal
 

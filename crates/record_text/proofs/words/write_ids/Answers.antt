@@ -1,9 +1,5 @@
-use Rattle.std.proofs.Common.{◌≡◌, ◌∷◌, ◌++◌, sym, ap, ◌∙◌}
-use Rattle.std.specs.Slice.Iter.{iter_rest}
-use Rattle.std.specs.String.{string_bytes}
+use Rattle.record_text.proofs.Common.{◌≡◌, ◌∷◌, ◌++◌, sym, ap, ◌∙◌, iter_rest, string_bytes, number, ids_word}
 use Rattle.std.proofs.lemmas.Result.{IfOk-weaker}
-use Rattle.script_reader.specs.Text.{number}
-use Rattle.record_text.specs.Words.{ids_word}
 use Rattle.record_text.proofs.Printing.{ids_joined}
 use Rattle.record_text.proofs.words.write_ids.Goals as goal
 

@@ -1,7 +1,4 @@
-use Rattle.std.proofs.Common.{◌≡◌, ◌++◌}
-use Rattle.std.specs.Slice.Iter.{iter_rest}
-use Rattle.std.specs.String.{string_bytes}
-use Rattle.std.specs.List.{flat_map}
+use Rattle.record_text.proofs.Common.{◌≡◌, ◌++◌, iter_rest, string_bytes, flat_map}
 use Rattle.record_text.proofs.Printing.{joined_id}
 use Rattle.record_text.proofs.words.write_more_ids.Given as goal
 

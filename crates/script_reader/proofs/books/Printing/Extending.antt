@@ -1,35 +1,17 @@
 -- A line of books to which no reason applies adds to the books.
-use Rattle.std.proofs.Common.{lit<, ◌≡◌, ℕ, ◌+◌, ◌<◌, ◌≤◌, ◌^◌, Bool, true, false, not, ◌&&◌, ◌||◌, ◌==◌, nat_le, nat_lt, cond, List, [], ◌∷◌, ◌++◌, codes, map}
-use Rattle.std.proofs.Common.{drop, length, Some, None, IsSome, refl, sym, ap, subst, ◌∙◌, arith}
-use Rattle.std.specs.List.{list_any, AllByRecursion}
-use Rattle.std.specs.Cmp.{nat_cmp_total}
-use Rattle.std.specs.Ordering.{nat_cmp, is_eq}
-use Rattle.std.specs.declared.cmp.Ordering.{Ordering}
-use Rattle.std.specs.declared.cmp.Ordering.TheVariants.{Less, Equal, Greater}
-use Rattle.std.specs.FinMap as finmap
-use Rattle.std.specs.FinMap.{find, get-entries, len-entries, len-empty}
-use Rattle.std.proofs.lemmas.Bool.{leb-false, ltb-true, false≢true, eqb-true}
-use Rattle.std.proofs.lemmas.Cmp.{ranked}
-use Rattle.std.proofs.lemmas.Option.{none-some}
-use Rattle.books_model.specs.Books.{ClearingBooks, empty_books, position_cmp, put_cash, put_price, put_quantity, put_call, used}
-use Rattle.books_model.specs.Ranges.{AreInRange, IsWithin, IsAccountNumber, IsInstrumentOf, IsCall}
-use Rattle.books_model.proofs.Maps.Trees.{positions_total}
+use Rattle.script_reader.proofs.Common.{lit<, ◌≡◌, ℕ, ◌+◌, ◌<◌, ◌≤◌, ◌^◌, Bool, true, false, not, ◌&&◌, ◌||◌, ◌==◌, nat_le, cond, List, [], ◌∷◌, ◌++◌, codes}
+use Rattle.script_reader.proofs.Common.{map, drop, length, Some, None, IsSome, refl, sym, ap, subst, ◌∙◌, arith, list_any, AllByRecursion, nat_cmp_total}
+use Rattle.script_reader.proofs.Common.{nat_cmp, is_eq, Ordering, Less, Equal, Greater, find, get-entries, len-entries, leb-false, eqb-true, ranked, none-some}
+use Rattle.script_reader.proofs.Common.{nat_tests, ClearingBooks, empty_books, position_cmp, AreInRange, IsWithin, positions_total, bytes_eq, bytes_eq-Decides}
+use Rattle.script_reader.proofs.Common.{word_at, is_number, number, header_words, account_words, price_words, position_words, call_words, books_words, is_none}
+use Rattle.script_reader.proofs.Common.{GREATEST_CASH, GREATEST_SHORTFALL, greatest_cash, AreBooksWithin, Words, books_forms, begins, form_of, ranges_of}
+use Rattle.script_reader.proofs.Common.{value_of, word_value, are_numbers, are_in_range, accounts, prices, quantities, header_fault, header_version, kind_of}
+use Rattle.script_reader.proofs.Common.{takes_block, line_key, is_below, Version, Row, IsRow, with_row}
+use Rattle.books_model.proofs.Common.{used}
+use Rattle.std.specs.FinMap.{len-empty}
+use Rattle.std.proofs.lemmas.Bool.{false≢true}
 use Rattle.books_model.proofs.InRange.{empty_books-in_range, put_cash-in_range, put_price-in_range, put_quantity-in_range, put_call-in_range, used_after_insert}
 use Rattle.books_model.proofs.InRange.{used_after_price, used_after_position}
-use Rattle.std.specs.Str.{bytes_eq}
-use Rattle.std.proofs.lemmas.Slice.Eq.{bytes_eq-Decides}
-use Rattle.script_reader.specs.Lines.{word_at}
-use Rattle.script_reader.specs.Number.{is_number}
-use Rattle.script_reader.specs.Text.{number, header_words, account_words, price_words, position_words, call_words}
-use Rattle.script_reader.specs.Inner.LinesAsWords.{books_words}
-use Rattle.std.specs.Option.{is_none}
-use Rattle.books_model.specs.declared.limits.TheConstants.{GREATEST_ACCOUNT, GREATEST_CASH, GREATEST_PRICE, GREATEST_QUANTITY, GREATEST_SHORTFALL}
-use Rattle.books_model.specs.declared.limits.TheConstants.{MOST_INSTRUMENTS, MOST_RING}
-use Rattle.script_reader.specs.Versions.{most_blocks, greatest_cash, AreBooksWithin}
-use Rattle.script_reader.specs.Forms.{Words, books_forms, begins, form_of, ranges_of, value_of, word_value, are_numbers, are_in_range, accounts, prices}
-use Rattle.script_reader.specs.Forms.{quantities}
-use Rattle.script_reader.specs.declared.fault.Fault.TheVariants as fault
-use Rattle.script_reader.specs.Faults.{header_fault, header_version, kind_of, takes_block, line_key, is_below}
 use Rattle.script_reader.proofs.books.Versions.{blocks_small, cash_small, blocks_within, cash_within, word_of_version}
 use Rattle.script_reader.proofs.Conditions.{both, passed, neither, or_false, is_some_list}
 use Rattle.script_reader.proofs.LineFaults.LineKinds.{none_applies, ranged}
@@ -37,7 +19,9 @@ use Rattle.script_reader.proofs.books.Printing.Printed.{Printed, fault_at, is_la
 use Rattle.script_reader.proofs.books.Printing.Sections.{entries_above, absent_above, less_number, less_pair, all_follow}
 use Rattle.script_reader.proofs.books.Printing.Growing.{account_more, price_more, position_more, call_more}
 use Rattle.script_reader.proofs.books.WithoutFault.BooksFaultless.{printed, instruments_fit}
-use Rattle.script_reader.specs.declared.books.version.Version.{Version}
+use Rattle.std.specs.FinMap as finmap
+use Rattle.script_reader.specs.declared.fault.Fault.TheVariants as fault
+use Rattle.script_reader.specs.declared.books.Row.TheVariants as row
 
 -- a list with no element
 pub no_elements : {A : Type 0} (xs : List A) → is_some_list xs ≡ false → xs ≡ []
@@ -51,20 +35,16 @@ all_are_below f key [] h = tt
 all_are_below f key (e ∷ es) h = let parts = neither h in (passed parts.0, all_are_below f key es parts.1)
 
 -- a number that is below another as a key is less
-pub below_is_less : (x y : ℕ) → is_below (x, 0) (y, 0) ≡ true → x < y
-below_is_less x y h = by (nat_lt x y) refl h
-  where
-    by : (b : Bool) → nat_lt x y ≡ b → (b || ((x == y) && nat_lt 0 0)) ≡ true → x < y
-    by true e g = ltb-true x y e
-    by false e g = absurd (false≢true (both g).1)
+pub below_is_less : {x y : ℕ} → is_below (x, 0) (y, 0) ≡ true → x < y
+below_is_less h = grind (arith, nat_tests)
 
 -- the numbers of two words
 read_two : (a c : List ℕ) (r s : ℕ × ℕ) → r.1 < 2 ^ 64 → s.1 < 2 ^ 64 → (is_number a && (is_number c && true)) ≡ true
     → ((nat_le r.0 (value_of a) && nat_le (value_of a) r.1) && ((nat_le s.0 (value_of c) && nat_le (value_of c) s.1) && true)) ≡ true
     → (a ≡ number (value_of a)) × IsWithin r.0 r.1 (value_of a) × (c ≡ number (value_of c)) × IsWithin s.0 s.1 (value_of c)
 read_two a c r s fits also n w =
-    let first = ranged a r.0 r.1 fits (both n).0 (both w).0 in
-    let second = ranged c s.0 s.1 also (both (both n).1).0 (both (both w).1).0 in
+    let first = ranged a r.0 fits (both n).0 (both w).0 in
+    let second = ranged c s.0 also (both (both n).1).0 (both (both w).1).0 in
     (first.0, first.1, second.0, second.1)
 
 -- what is known of a line of books to which no reason applies
@@ -120,7 +100,7 @@ key_found m a h = subst IsSome (sym (get-entries m a)) (by (finmap.entries m) h)
         here Greater q true f g rest = absurd (omega (arith, ranked a e.0 Greater (sym q), eqb-true e.0 a f))
         here Greater q false f g rest = rest g
 
-module _ (version : Version) (b : ClearingBooks) (range : AreInRange b) where
+module _ (version : Version) {b : ClearingBooks} (range : AreInRange b) where
   -- a block is left if no reason says otherwise
   free : nat_le b.blocks (length (finmap.entries b.accounts) + length (finmap.entries b.prices)
       + length (finmap.entries b.positions)) ≡ false → used b < b.blocks
@@ -133,19 +113,13 @@ module _ (version : Version) (b : ClearingBooks) (range : AreInRange b) where
     len-entries b.positions,
   )
 
-  -- what an account's line adds
-  pub record AddsAccount (a cash : List ℕ) : Type 0 where
-    pub account : a ≡ number (value_of a)
-    pub amount : cash ≡ number (value_of cash)
-    pub number_is : IsAccountNumber (value_of a)
-    pub fits : value_of cash ≤ GREATEST_CASH
-    pub within : value_of cash ≤ greatest_cash version
-    pub absent : finmap.get b.accounts (value_of a) ≡ None
-    pub room : used b < b.blocks
-    pub in_range : AreInRange (put_cash b (value_of a) (value_of cash))
-    pub lines : books_words version (put_cash b (value_of a) (value_of cash)) ≡ books_words version b ++ (codes "account" ∷ a ∷ cash ∷ []) ∷ []
+  -- what a line adds to books in range
+  pub record AddsRow (words : Words) (r : Row) : Type 0 where
+    pub is_row : IsRow version b words r
+    pub in_range : AreInRange (with_row b r)
 
-  pub adds_account : (a cash : List ℕ) → fault_at (printed version b) (codes "account" ∷ a ∷ cash ∷ []) ≡ None → AddsAccount a cash
+  pub adds_account : (a cash : List ℕ) → fault_at (printed version b) (codes "account" ∷ a ∷ cash ∷ []) ≡ None
+      → AddsRow (codes "account" ∷ a ∷ cash ∷ []) (row.Account (value_of a) (value_of cash))
   adds_account a cash h =
       let none = has_no_fault (printed version b) (codes "account" ∷ a ∷ cash ∷ []) h in
       let late = neither none.in_order in
@@ -156,90 +130,62 @@ module _ (version : Version) (b : ClearingBooks) (range : AreInRange b) where
       let fits : value_of cash ≤ GREATEST_CASH = omega (arith, read.3.1, cash_within version) in
       let low = all_are_below (λ e. (e.0, 0)) (value_of a, 0) (finmap.entries b.accounts) (sym (or_false _) ∙ none.rises) in
       let behind = all_follow (λ e. is_below (e.0, 0) (value_of a, 0) ≡ true) (λ e. nat_cmp e.0 (value_of a) ≡ Less)
-      (finmap.entries b.accounts) (λ e g. less_number e.0 (value_of a) (below_is_less e.0 (value_of a) g)) low in
+      (finmap.entries b.accounts) (λ e g. less_number e.0 (value_of a) (below_is_less g)) low in
       let absent = absent_above nat_cmp nat_cmp_total b.accounts (value_of a) behind in
       let room = free none.room in
       record {
-        account = read.0;
-        amount = read.2;
-        number_is = read.1;
-        fits = fits;
-        within = read.3.1;
-        absent = absent;
-        room = room;
+        is_row = record {
+          fits = (read.1, fits, absent, room);
+          within = read.3.1;
+          lines = ap (λ l. header_words version b ∷ l) (
+              (λ i. map account_words (entries_above nat_cmp nat_cmp_total b.accounts (value_of a) (value_of cash) behind
+              i) ++ (map price_words (finmap.entries b.prices) ++ (map position_words (finmap.entries b.positions) ++ map call_words b.calls)))
+              ∙ account_more (finmap.entries b.accounts) (finmap.entries b.prices) (finmap.entries b.positions) b.calls
+              (value_of a, value_of cash) no_prices no_positions no_calls
+              )
+              ∙ (λ i. books_words version b ++ (codes "account" ∷ sym read.0 i ∷ sym read.2 i ∷ []) ∷ []);
+        };
         in_range = put_cash-in_range b (value_of a) (value_of cash) range read.1 fits
             (omega (arith, used_after_insert b (value_of a) (value_of cash) absent, room));
-        lines = ap (λ l. header_words version b ∷ l) (
-            (λ i. map account_words (entries_above nat_cmp nat_cmp_total b.accounts (value_of a) (value_of cash) behind
-            i) ++ (map price_words (finmap.entries b.prices) ++ (map position_words (finmap.entries b.positions) ++ map call_words b.calls)))
-            ∙ account_more (finmap.entries b.accounts) (finmap.entries b.prices) (finmap.entries b.positions) b.calls
-            (value_of a, value_of cash) no_prices no_positions no_calls
-            )
-            ∙ (λ i. books_words version b ++ (codes "account" ∷ sym read.0 i ∷ sym read.2 i ∷ []) ∷ []);
       }
 
-  -- what a price's line adds
-  pub record AddsPrice (i price : List ℕ) : Type 0 where
-    pub instrument : i ≡ number (value_of i)
-    pub amount : price ≡ number (value_of price)
-    pub number_is : IsInstrumentOf b (value_of i)
-    pub fits : IsWithin 1 GREATEST_PRICE (value_of price)
-    pub absent : finmap.get b.prices (value_of i) ≡ None
-    pub room : used b < b.blocks
-    pub in_range : AreInRange (put_price b (value_of i) (value_of price))
-    pub lines : books_words version (put_price b (value_of i) (value_of price)) ≡ books_words version b ++ (codes "price" ∷ i ∷ price ∷ []) ∷ []
-
-  pub adds_price : (i price : List ℕ) → fault_at (printed version b) (codes "price" ∷ i ∷ price ∷ []) ≡ None → AddsPrice i price
+  pub adds_price : (i price : List ℕ) → fault_at (printed version b) (codes "price" ∷ i ∷ price ∷ []) ≡ None
+      → AddsRow (codes "price" ∷ i ∷ price ∷ []) (row.Price (value_of i) (value_of price))
   adds_price i price h =
       let none = has_no_fault (printed version b) (codes "price" ∷ i ∷ price ∷ []) h in
       let late = neither none.in_order in
       let no_positions = no_elements (finmap.entries b.positions) late.0 in
       let no_calls = no_elements b.calls late.1 in
-      let read = read_two i price (1, b.instruments) prices (instruments_fit b range) (lit< tt) none.numbers none.ranges in
+      let read = read_two i price (1, b.instruments) prices (instruments_fit range) (lit< tt) none.numbers none.ranges in
       let low = all_are_below (λ e. (e.0, 0)) (value_of i, 0) (finmap.entries b.prices) (sym (or_false _) ∙ none.rises) in
       let behind = all_follow (λ e. is_below (e.0, 0) (value_of i, 0) ≡ true) (λ e. nat_cmp e.0 (value_of i) ≡ Less)
-      (finmap.entries b.prices) (λ e g. less_number e.0 (value_of i) (below_is_less e.0 (value_of i) g)) low in
+      (finmap.entries b.prices) (λ e g. less_number e.0 (value_of i) (below_is_less g)) low in
       let absent = absent_above nat_cmp nat_cmp_total b.prices (value_of i) behind in
       let room = free none.room in
       record {
-        instrument = read.0;
-        amount = read.2;
-        number_is = read.1;
-        fits = read.3;
-        absent = absent;
-        room = room;
+        is_row = record {
+          fits = (read.1, read.3, absent, room);
+          within = tt;
+          lines = ap (λ l. header_words version b ∷ l) (
+              (λ t. map account_words (finmap.entries b.accounts)
+              ++ (map price_words (entries_above nat_cmp nat_cmp_total b.prices (value_of i) (value_of price) behind
+              t) ++ (map position_words (finmap.entries b.positions) ++ map call_words b.calls)))
+              ∙ price_more (finmap.entries b.accounts) (finmap.entries b.prices) (finmap.entries b.positions) b.calls
+              (value_of i, value_of price) no_positions no_calls
+              )
+              ∙ (λ t. books_words version b ++ (codes "price" ∷ sym read.0 t ∷ sym read.2 t ∷ []) ∷ []);
+        };
         in_range = put_price-in_range b (value_of i) (value_of price) range read.1 read.3
             (omega (arith, used_after_price b (value_of i) (value_of price) absent, room));
-        lines = ap (λ l. header_words version b ∷ l) (
-            (λ t. map account_words (finmap.entries b.accounts)
-            ++ (map price_words (entries_above nat_cmp nat_cmp_total b.prices (value_of i) (value_of price) behind
-            t) ++ (map position_words (finmap.entries b.positions) ++ map call_words b.calls)))
-            ∙ price_more (finmap.entries b.accounts) (finmap.entries b.prices) (finmap.entries b.positions) b.calls
-            (value_of i, value_of price) no_positions no_calls
-            )
-            ∙ (λ t. books_words version b ++ (codes "price" ∷ sym read.0 t ∷ sym read.2 t ∷ []) ∷ []);
       }
 
-  -- what a position's line adds
-  pub record AddsPosition (a i quantity : List ℕ) : Type 0 where
-    pub account : a ≡ number (value_of a)
-    pub instrument : i ≡ number (value_of i)
-    pub amount : quantity ≡ number (value_of quantity)
-    pub fits : IsWithin 1 GREATEST_QUANTITY (value_of quantity)
-    pub given : IsSome (finmap.get b.accounts (value_of a))
-    pub priced : IsSome (finmap.get b.prices (value_of i))
-    pub absent : finmap.get b.positions (value_of a, value_of i) ≡ None
-    pub room : used b < b.blocks
-    pub in_range : AreInRange (put_quantity b (value_of a) (value_of i) (value_of quantity))
-    pub lines : books_words version (put_quantity b (value_of a) (value_of i) (value_of quantity)) ≡ books_words version b
-        ++ (codes "position" ∷ a ∷ i ∷ quantity ∷ []) ∷ []
-
-  pub adds_position : (a i quantity : List ℕ) → fault_at (printed version b) (codes "position" ∷ a ∷ i ∷ quantity ∷ []) ≡ None → AddsPosition a i quantity
+  pub adds_position : (a i quantity : List ℕ) → fault_at (printed version b) (codes "position" ∷ a ∷ i ∷ quantity ∷ []) ≡ None
+      → AddsRow (codes "position" ∷ a ∷ i ∷ quantity ∷ []) (row.Position (value_of a) (value_of i) (value_of quantity))
   adds_position a i quantity h =
       let none = has_no_fault (printed version b) (codes "position" ∷ a ∷ i ∷ quantity ∷ []) h in
       let no_calls = no_elements b.calls none.in_order in
-      let first = ranged a 1 GREATEST_ACCOUNT (lit< tt) (both none.numbers).0 (both none.ranges).0 in
-      let read = read_two i quantity (1, b.instruments) quantities (instruments_fit b range) (lit< tt) (both none.numbers).1 (both none.ranges).1 in
+      let first = ranged a 1 (lit< tt) (both none.numbers).0 (both none.ranges).0 in
+      let read = read_two i quantity (1, b.instruments) quantities (instruments_fit range) (lit< tt) (both none.numbers).1 (both none.ranges).1 in
       let low = all_are_below (λ e. e.0) (value_of a, value_of i) (finmap.entries b.positions) none.rises in
       let behind = all_follow (λ e. is_below e.0 (value_of a, value_of i) ≡ true)
       (λ e. position_cmp e.0 (value_of a, value_of i) ≡ Less) (finmap.entries b.positions) (λ e g. less_pair e.0 (value_of a, value_of i) g) low in
@@ -248,50 +194,38 @@ module _ (version : Version) (b : ClearingBooks) (range : AreInRange b) where
       let priced = key_found b.prices (value_of i) (passed none.price) in
       let room = free none.room in
       record {
-        account = first.0;
-        instrument = read.0;
-        amount = read.2;
-        fits = read.3;
-        given = given;
-        priced = priced;
-        absent = absent;
-        room = room;
+        is_row = record {
+          fits = (given, priced, read.3, absent, room);
+          within = tt;
+          lines = ap (λ l. header_words version b ∷ l) (
+              (λ t. map account_words (finmap.entries b.accounts)
+              ++ (map price_words (finmap.entries b.prices)
+              ++ (map position_words (entries_above position_cmp positions_total b.positions (value_of a, value_of i)
+              (value_of quantity) behind t) ++ map call_words b.calls)))
+              ∙ position_more (finmap.entries b.accounts) (finmap.entries b.prices) (finmap.entries b.positions) b.calls
+              ((value_of a, value_of i), value_of quantity) no_calls
+              )
+              ∙ (λ t. books_words version b ++ (codes "position" ∷ sym first.0 t ∷ sym read.0 t ∷ sym read.2 t ∷ []) ∷ []);
+        };
         in_range = put_quantity-in_range b (value_of a) (value_of i) (value_of quantity) range given priced read.3
             (omega (arith, used_after_position b (value_of a) (value_of i) (value_of quantity) absent, room));
-        lines = ap (λ l. header_words version b ∷ l) (
-            (λ t. map account_words (finmap.entries b.accounts)
-            ++ (map price_words (finmap.entries b.prices)
-            ++ (map position_words (entries_above position_cmp positions_total b.positions (value_of a, value_of i)
-            (value_of quantity) behind t) ++ map call_words b.calls)))
-            ∙ position_more (finmap.entries b.accounts) (finmap.entries b.prices) (finmap.entries b.positions) b.calls
-            ((value_of a, value_of i), value_of quantity) no_calls
-            )
-            ∙ (λ t. books_words version b ++ (codes "position" ∷ sym first.0 t ∷ sym read.0 t ∷ sym read.2 t ∷ []) ∷ []);
       }
 
-  -- what a margin call's line adds
-  pub record AddsCall (a shortfall : List ℕ) : Type 0 where
-    pub account : a ≡ number (value_of a)
-    pub amount : shortfall ≡ number (value_of shortfall)
-    pub call : IsCall (value_of a, value_of shortfall)
-    pub room : length b.calls < b.ring
-    pub in_range : AreInRange (put_call b (value_of a) (value_of shortfall))
-    pub lines : books_words version (put_call b (value_of a) (value_of shortfall)) ≡ books_words version b ++ (codes "call" ∷ a ∷ shortfall ∷ []) ∷ []
-
-  pub adds_call : (a shortfall : List ℕ) → fault_at (printed version b) (codes "call" ∷ a ∷ shortfall ∷ []) ≡ None → AddsCall a shortfall
+  pub adds_call : (a shortfall : List ℕ) → fault_at (printed version b) (codes "call" ∷ a ∷ shortfall ∷ []) ≡ None
+      → AddsRow (codes "call" ∷ a ∷ shortfall ∷ []) (row.Call (value_of a) (value_of shortfall))
   adds_call a shortfall h =
       let none = has_no_fault (printed version b) (codes "call" ∷ a ∷ shortfall ∷ []) h in
       let read = read_two a shortfall accounts (1, GREATEST_SHORTFALL) (lit< tt) (lit< tt) none.numbers none.ranges in
       let room = leb-false b.ring (length b.calls) none.queued in
       record {
-        account = read.0;
-        amount = read.2;
-        call = (read.1, read.3);
-        room = room;
+        is_row = record {
+          fits = ((read.1, read.3), room);
+          within = tt;
+          lines = ap (λ l. header_words version b ∷ l) (call_more (finmap.entries b.accounts) (finmap.entries b.prices)
+              (finmap.entries b.positions) b.calls (value_of a, value_of shortfall))
+              ∙ (λ t. books_words version b ++ (codes "call" ∷ sym read.0 t ∷ sym read.2 t ∷ []) ∷ []);
+        };
         in_range = put_call-in_range b (value_of a) (value_of shortfall) range (read.1, read.3) room;
-        lines = ap (λ l. header_words version b ∷ l) (call_more (finmap.entries b.accounts) (finmap.entries b.prices)
-            (finmap.entries b.positions) b.calls (value_of a, value_of shortfall))
-            ∙ (λ t. books_words version b ++ (codes "call" ∷ sym read.0 t ∷ sym read.2 t ∷ []) ∷ []);
       }
 
 -- eight words, one by one
@@ -319,9 +253,9 @@ header_adds words none =
     let numbers = passed n2.0 in
     let ranges = passed n3.0 in
     let version = header_version words in
-    let blocks = ranged (word_at words 3) 1 (most_blocks version) (blocks_small version) (both numbers).0 (both ranges).0 in
-    let instruments = ranged (word_at words 5) 1 MOST_INSTRUMENTS (lit< tt) (both (both numbers).1).0 (both (both ranges).1).0 in
-    let ring = ranged (word_at words 7) 1 MOST_RING (lit< tt) (both (both (both numbers).1).1).0 (both (both (both ranges).1).1).0 in
+    let blocks = ranged (word_at words 3) 1 (blocks_small version) (both numbers).0 (both ranges).0 in
+    let instruments = ranged (word_at words 5) 1 (lit< tt) (both (both numbers).1).0 (both (both ranges).1).0 in
+    let ring = ranged (word_at words 7) 1 (lit< tt) (both (both (both numbers).1).1).0 (both (both (both ranges).1).1).0 in
     let named = both (passed n1.0) in
     let form = both named.0 in
     let form1 = both form.0 in

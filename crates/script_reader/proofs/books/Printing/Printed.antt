@@ -1,20 +1,14 @@
 -- What the lines of books say of a line behind them.
-use Rattle.std.proofs.Common.{◌≡◌, ℕ, ◌+◌, ◌<◌, ◌^◌, Bool, not, ◌&&◌, ◌||◌, ◌==◌, nat_lt, nat_le, List, [], ◌∷◌, ◌++◌, codes, map, drop, length, cond, Option}
-use Rattle.std.proofs.Common.{ap, ◌∙◌, arith}
-use Rattle.std.specs.List.{list_any, count_by, AllByRecursion}
-use Rattle.std.specs.Option.{is_none}
-use Rattle.std.proofs.lemmas.List.Sums.{sum_by-cons}
-use Rattle.script_reader.specs.declared.books.version.Version.{Version}
-use Rattle.script_reader.specs.declared.fault.Fault.{Fault}
-use Rattle.script_reader.specs.declared.fault.Fault.TheVariants as fault
-use Rattle.script_reader.specs.Text.{number, account_words, price_words, position_words, call_words}
-use Rattle.script_reader.specs.Versions.{version_word}
-use Rattle.script_reader.specs.Forms.{Words, books_forms, begins, form_of, ranges_of, value_of, word_value, are_numbers, are_in_range}
-use Rattle.script_reader.specs.Faults.{first_reason, kind_of, takes_block, line_key, is_below, is_late, is_low, is_given, books_fault}
+use Rattle.script_reader.proofs.Common.{◌≡◌, ℕ, ◌+◌, ◌<◌, ◌^◌, Bool, not, ◌&&◌, ◌||◌, ◌==◌, nat_lt, nat_le, List, [], ◌∷◌, ◌++◌, codes, map, drop, length, cond}
+use Rattle.script_reader.proofs.Common.{Option, ap, ◌∙◌, arith, list_any, count_by, AllByRecursion, is_none, sum_by-cons, Version, Fault, number, account_words}
+use Rattle.script_reader.proofs.Common.{price_words, position_words, call_words, version_word, Words, books_forms, begins, form_of, ranges_of, value_of}
+use Rattle.script_reader.proofs.Common.{word_value, are_numbers, are_in_range, first_reason, kind_of, takes_block, line_key, is_below, is_late, is_low}
+use Rattle.script_reader.proofs.Common.{is_given, books_fault}
 use Rattle.script_reader.proofs.text.Tokens.Numerals.{value_of_number}
 use Rattle.script_reader.proofs.books.Versions.{version_read}
 use Rattle.script_reader.proofs.Conditions.{is_some_list, any_part, any_last, count_part, count_last, any_never, any_fixed, any_agree, any_and, or_false}
 use Rattle.script_reader.proofs.Conditions.{count_never, count_always}
+use Rattle.script_reader.specs.declared.fault.Fault.TheVariants as fault
 
 -- books as lists, in the order in which they are printed
 pub record Printed : Type 0 where
@@ -106,12 +100,12 @@ is_low_in k key p =
 -- the value of a key is the key
 single : (t : ℕ × ℕ → Bool) (es : List (ℕ × ℕ)) → AllByRecursion (λ e. e.0 < 2 ^ 64) es → AllByRecursion (λ e. t (value_of (number e.0), 0) ≡ t (e.0, 0)) es
 single t [] small = tt
-single t (e ∷ es) small = (ap (λ n. t (n, 0)) (value_of_number e.0 small.0), single t es small.1)
+single t (e ∷ es) small = (ap (λ n. t (n, 0)) (value_of_number small.0), single t es small.1)
 
 pairs : (t : ℕ × ℕ → Bool) (es : List ((ℕ × ℕ) × ℕ)) → AllByRecursion (λ e. (e.0.0 < 2 ^ 64) × (e.0.1 < 2 ^ 64)) es
     → AllByRecursion (λ e. t (value_of (number e.0.0), value_of (number e.0.1)) ≡ t e.0) es
 pairs t [] small = tt
-pairs t (e ∷ es) small = ((λ i. t (value_of_number e.0.0 small.0.0 i, value_of_number e.0.1 small.0.1 i)), pairs t es small.1)
+pairs t (e ∷ es) small = ((λ i. t (value_of_number small.0.0 i, value_of_number small.0.1 i)), pairs t es small.1)
 
 pub low : (p : Printed) (words : Words) → IsSmall p → is_low (print p) words ≡ is_low_in (kind_of words) (line_key words) p
 low p words small =
@@ -130,17 +124,17 @@ low p words small =
 -- an account, or a price, was given
 numbered : (n : ℕ) (es : List (ℕ × ℕ)) → AllByRecursion (λ e. e.0 < 2 ^ 64) es → AllByRecursion (λ e. (value_of (number e.0) == n) ≡ (e.0 == n)) es
 numbered n [] small = tt
-numbered n (e ∷ es) small = (ap (λ m. m == n) (value_of_number e.0 small.0), numbered n es small.1)
+numbered n (e ∷ es) small = (ap (λ m. m == n) (value_of_number small.0), numbered n es small.1)
 
-pub account_given : (p : Printed) (n : ℕ) → IsSmall p → is_given (print p) (codes "account") n ≡ list_any (λ e. e.0 == n) p.accounts
-account_given p n small =
+pub account_given : {p : Printed} (n : ℕ) → IsSmall p → is_given (print p) (codes "account") n ≡ list_any (λ e. e.0 == n) p.accounts
+account_given {p} n small =
     any_entry (λ w. begins (codes "account") w && word_value w 1 == n) p
     ∙ (λ i. any_agree (λ e. value_of (number e.0) == n) (λ e. e.0 == n) p.accounts (numbered n p.accounts small.accounts) i
     || (any_never p.prices i || (any_never p.positions i || any_never p.calls i)))
     ∙ or_false (list_any (λ e. e.0 == n) p.accounts)
 
-pub price_given : (p : Printed) (n : ℕ) → IsSmall p → is_given (print p) (codes "price") n ≡ list_any (λ e. e.0 == n) p.prices
-price_given p n small =
+pub price_given : {p : Printed} (n : ℕ) → IsSmall p → is_given (print p) (codes "price") n ≡ list_any (λ e. e.0 == n) p.prices
+price_given {p} n small =
     any_entry (λ w. begins (codes "price") w && word_value w 1 == n) p
     ∙ (λ i. any_never p.accounts i
     || (any_agree (λ e. value_of (number e.0) == n) (λ e. e.0 == n) p.prices (numbered n p.prices small.prices) i ||
@@ -186,21 +180,21 @@ fault_at p words =
     ∷ []
     )
 
-pub books_fault_is : (p : Printed) (words : Words) → IsSmall p → books_fault (print p) words ≡ fault_at p words
-books_fault_is p words small i =
-    let form = form_of (books_forms (version_read p.version i) (value_of_number p.instruments small.instruments i)) words in
+pub books_fault_is : {p : Printed} (words : Words) → IsSmall p → books_fault (print p) words ≡ fault_at p words
+books_fault_is {p} words small i =
+    let form = form_of (books_forms (version_read p.version i) (value_of_number small.instruments i)) words in
     first_reason (
     (is_none form, fault.Word)
     ∷ (late p words i, fault.Order)
     ∷ (not (are_numbers (drop 1 words)), fault.Number)
     ∷ (
       not (are_in_range (drop 1 words) (ranges_of form)) ||
-          (begins (codes "call") words && nat_le (value_of_number p.ring small.ring i) (call_count p i)),
+          (begins (codes "call") words && nat_le (value_of_number small.ring i) (call_count p i)),
       fault.Limit,
     )
     ∷ (low p words small i, fault.Order)
-    ∷ (begins (codes "position") words && not (account_given p (word_value words 1) small i), fault.Account)
-    ∷ (begins (codes "position") words && not (price_given p (word_value words 2) small i), fault.Price)
-    ∷ (takes_block words && nat_le (value_of_number p.blocks small.blocks i) (block_count p i), fault.Blocks)
+    ∷ (begins (codes "position") words && not (account_given (word_value words 1) small i), fault.Account)
+    ∷ (begins (codes "position") words && not (price_given (word_value words 2) small i), fault.Price)
+    ∷ (takes_block words && nat_le (value_of_number small.blocks i) (block_count p i), fault.Blocks)
     ∷ []
     )

@@ -1,21 +1,13 @@
 -- What the lines of books and of scripts say of a line behind them.
-use Rattle.std.proofs.Common.{◌≡◌, ℕ, ◌+◌, false, cond, if◌then◌else◌, List, [], ◌∷◌, ◌++◌, codes, map, filter, fold, length, length-append, sum_by}
-use Rattle.std.proofs.Common.{refl, sym, ap, ◌∙◌, arith}
-use Rattle.std.specs.List.{AllByRecursion, flat_map}
-use Rattle.std.proofs.lemmas.List.{append-nil}
-use Rattle.std.proofs.lemmas.List.Elements.{filter-append}
-use Rattle.std.proofs.lemmas.List.Sums.{fold-append, sum_by-append, sum_by-cons}
-use Rattle.books_model.specs.declared.script.Op.{Op}
-use Rattle.books_model.specs.declared.script.Part.{Part}
-use Rattle.books_model.specs.declared.script.Part.TheVariants as part
-use Rattle.books_model.specs.Scripts.{operations_in, operations_of, alternatives_in}
-use Rattle.script_reader.specs.Text.{account_words, price_words, position_words, call_words, books_operation_words, part_words}
-use Rattle.script_reader.specs.Input.{Submission, callers_of}
+use Rattle.script_reader.proofs.Common.{◌≡◌, ℕ, ◌+◌, false, cond, if◌then◌else◌, List, [], ◌∷◌, ◌++◌, codes, map, filter, fold, length, length-append, sum_by}
+use Rattle.script_reader.proofs.Common.{refl, sym, ap, ◌∙◌, arith, AllByRecursion, flat_map, append-nil, filter-append, fold-append, sum_by-append, sum_by-cons}
+use Rattle.script_reader.proofs.Common.{Op, Part, operations_in, operations_of, alternatives_in, account_words, price_words, position_words, call_words}
+use Rattle.script_reader.proofs.Common.{books_operation_words, part_words, Submission, callers_of, Open, BetweenParts, InFirst, InSecond, parts_with}
+use Rattle.script_reader.proofs.Common.{script_words, books_submission_words, Words, Region, InScript, InFirstBranch, InSecondBranch, begins, is_only}
+use Rattle.script_reader.proofs.Common.{AmongBooks, OutsideScripts, Inside, books_place_behind, place_fault, inside_fault, books_fault, fault_of}
 use Rattle.script_reader.proofs.books.Regions.{region_of}
-use Rattle.script_reader.specs.Inner.LinesAsWords.{Open, BetweenParts, InFirst, InSecond, open_words, parts_with, script_words, books_submission_words}
-use Rattle.script_reader.specs.Forms.{Words, Region, InScript, InFirstBranch, InSecondBranch, begins, is_only}
-use Rattle.script_reader.specs.Faults.{AmongBooks, OutsideScripts, Inside, books_place_after, books_place_behind, place_fault, inside_fault}
-use Rattle.script_reader.specs.Faults.{books_fault, fault_of}
+use Rattle.script_reader.specs.Inner.LinesAsWords.{open_words}
+use Rattle.script_reader.specs.Faults.{books_place_after}
 use Rattle.script_reader.proofs.Conditions.{all_append}
 use Rattle.script_reader.proofs.text.Tokens.Numerals.{value_of_number}
 use Rattle.script_reader.proofs.books.Versions.{version_read}
@@ -23,6 +15,7 @@ use Rattle.script_reader.proofs.books.OperationRows.{no_script, no_end, no_try, 
 use Rattle.script_reader.proofs.language.Grouped.Outside.{outside_in, outside_of}
 use Rattle.script_reader.proofs.books.Printing.Opened.{first_count, second_count}
 use Rattle.script_reader.proofs.books.Printing.Printed.{Printed, IsSmall, entries_of, print}
+use Rattle.books_model.specs.declared.script.Part.TheVariants as part
 
 -- the lines behind the books: the line `scripts`, and scripts that have ended
 abbrev pub ended : List Submission → List Words
@@ -190,16 +183,16 @@ outside_fault_is p subs words =
     ap (λ q. place_fault q (print p ++ ended subs) words) (place_so_far p subs) ∙ outside_of (print p ++ ended subs) subs (begun p subs) words
 
 -- with one in a script that has not
-pub inside_fault_is : (p : Printed) (subs : List Submission) (name : List ℕ) (parts : List Part) (stage : Open) (words : Words) → IsSmall p
+pub inside_fault_is : {p : Printed} (subs : List Submission) (name : List ℕ) (parts : List Part) (stage : Open) (words : Words) → IsSmall p
     → fault_of (print p ++ ended subs ++ opened name parts stage) words
     ≡ inside_fault p.version (region_of stage) p.instruments (length (operations_of (parts_with parts stage)))
     (sum_by alternatives_in (parts_with parts stage)) words
-inside_fault_is p subs name parts stage words small =
+inside_fault_is {p} subs name parts stage words small =
     ap (λ q. place_fault q (print p ++ ended subs ++ opened name parts stage) words) (
     fold-append books_place_after AmongBooks (print p ++ ended subs) (opened name parts stage)
     ∙ ap (λ q. fold books_place_after q (opened name parts stage)) (place_so_far p subs) ∙ place_opened name parts stage
     )
-    ∙ (λ i. inside_fault (version_read p.version i) (region_of stage) (value_of_number p.instruments small.instruments i)
+    ∙ (λ i. inside_fault (version_read p.version i) (region_of stage) (value_of_number small.instruments i)
     (length (operations_of (parts_with parts stage))) (sum_by alternatives_in (parts_with parts stage)) words)
 
 -- and with one of books

@@ -1,19 +1,15 @@
 -- Keys that rise, and what stands behind them.
-use Rattle.std.proofs.Common.{T, ◌≡◌, ℕ, ◌<◌, Bool, true, false, ◌&&◌, ◌||◌, ◌==◌, cond, nat_lt, List, [], ◌∷◌, ◌++◌, refl, sym, ap, subst, ◌∙◌, append_assoc}
-use Rattle.std.proofs.Common.{Some, None}
-use Rattle.std.specs.List.{AllByRecursion}
+use Rattle.script_reader.proofs.Common.{◌≡◌, ℕ, ◌<◌, Bool, true, false, ◌&&◌, ◌||◌, ◌==◌, cond, nat_lt, List, [], ◌∷◌, ◌++◌, refl, sym, ap, subst, ◌∙◌}
+use Rattle.script_reader.proofs.Common.{append_assoc, Some, None, AllByRecursion, nat_cmp, is_eq, is_lt, Ordering, Less, Equal, Greater, find, get-entries}
+use Rattle.script_reader.proofs.Common.{ranked, lt-ltb, eq-eqb, eqb-true, position_cmp, is_below}
+use Rattle.std.proofs.Common.{T}
 use Rattle.std.specs.Cmp.{IsTotalOrder, nat_cmp_is}
-use Rattle.std.specs.Ordering.{nat_cmp, is_eq, is_lt, ordering_then, ordering_reverse}
-use Rattle.std.specs.declared.cmp.Ordering.{Ordering}
-use Rattle.std.specs.declared.cmp.Ordering.TheVariants.{Less, Equal, Greater}
-use Rattle.std.specs.FinMap as map
-use Rattle.std.specs.FinMap.{find, put, is_sorted, get-entries, entries-insert, entries_sorted}
+use Rattle.std.specs.Ordering.{ordering_then, ordering_reverse}
+use Rattle.std.specs.FinMap.{put, is_sorted, entries-insert, entries_sorted}
 use Rattle.std.specs.FinMap.Entries.{below_all}
-use Rattle.std.proofs.lemmas.Cmp.{ranked}
-use Rattle.std.proofs.lemmas.Bool.{lt-ltb, ltb-true, eq-eqb, eqb-true}
-use Rattle.books_model.specs.Books.{position_cmp}
-use Rattle.script_reader.specs.Faults.{is_below}
+use Rattle.std.proofs.lemmas.Bool.{ltb-true}
 use Rattle.script_reader.proofs.Conditions.{both, and_true, or_right}
+use Rattle.std.specs.FinMap as map
 
 -- each of some elements stands below those behind it, and those before them all stand below each
 unfoldable pub Rises : {A : Type 0} → (A → A → Type 0) → List A → List A → Type 0

@@ -1,8 +1,7 @@
 -- A text begins with that of an input, or has a first fault there.
-use Rattle.std.proofs.Common.{◌⊎◌, inl, inr, ℕ, List, [], sym, subst}
-use Rattle.std.proofs.lemmas.List.{append-nil}
-use Rattle.script_reader.specs.Grammar.{Spells, IsValidInput, BeginWithInput}
-use Rattle.script_reader.specs.Statements.{HasFault, HasFrontFault, OneFront}
+use Rattle.script_reader.proofs.Common.{◌⊎◌, inl, inr, ℕ, List, [], sym, subst, append-nil, Spells, IsValidInput, HasFault}
+use Rattle.script_reader.specs.Grammar.{BeginWithInput}
+use Rattle.script_reader.specs.Statements.{HasFrontFault, OneFront}
 use Rattle.script_reader.proofs.books.Texts.Deciding.{either, front_not_both, fronts_once}
 use Rattle.script_reader.proofs.books.Texts.OneInput.{one_input}
 

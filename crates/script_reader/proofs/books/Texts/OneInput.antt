@@ -1,44 +1,28 @@
 -- A text is of one input at most.
-use Rattle.std.proofs.Common.{◌≡◌, ℕ, ◌<◌, ◌^◌, Bool, true, false, not, List, [], ◌∷◌, ◌++◌, codes, map, drop, All, refl, sym, ap, subst, ◌∙◌, append_assoc}
-use Rattle.std.specs.List.{flat_map}
-use Rattle.std.proofs.Common.{true≢false, arith}
-use Rattle.std.specs.List.{flat_map, AllByRecursion}
-use Rattle.std.specs.FinMap as finmap
-use Rattle.std.specs.Cmp.{nat_cmp_total}
-use Rattle.std.specs.Ordering.{nat_cmp}
+use Rattle.script_reader.proofs.Common.{◌≡◌, ℕ, ◌<◌, ◌^◌, Bool, true, false, not, List, [], ◌∷◌, ◌++◌, codes, map, drop, All, refl, sym, ap, subst, ◌∙◌}
+use Rattle.script_reader.proofs.Common.{append_assoc, flat_map, true≢false, arith, AllByRecursion, nat_cmp_total, nat_cmp, append-nil, recursion_from_All}
+use Rattle.script_reader.proofs.Common.{ClearingBooks, AreInRange, Op, Part, operations_in, operations_of, All-front, All-back, number, header_words}
+use Rattle.script_reader.proofs.Common.{account_words, price_words, position_words, call_words, books_operation_words, part_words, books_words}
+use Rattle.script_reader.proofs.Common.{books_submission_words, lines_so_far, ClearingInput, Submission, callers_of, Spells, IsValidInput, word_at, Words}
+use Rattle.script_reader.proofs.Common.{begins, is_only, value_of, fault_of, is_turning, IsScriptOf, IsOperationOf, AreCallersOf, Version}
 use Rattle.std.specs.FinMap.{same_entries_map}
-use Rattle.std.proofs.lemmas.List.{append-nil}
-use Rattle.std.proofs.lemmas.List.Elements.{recursion_from_All}
-use Rattle.books_model.specs.Books.{ClearingBooks}
-use Rattle.books_model.specs.Ranges.{AreInRange}
-use Rattle.books_model.specs.declared.script.Op.{Op}
-use Rattle.books_model.specs.declared.script.Part.{Part}
-use Rattle.books_model.specs.declared.script.Part.TheVariants as part
-use Rattle.books_model.specs.Scripts.{operations_in, operations_of}
-use Rattle.books_model.proofs.Scripts.Branches.{All-front, All-back}
-use Rattle.script_reader.specs.Text.{number, header_words, account_words, price_words, position_words, call_words, books_operation_words, part_words}
-use Rattle.script_reader.specs.Inner.LinesAsWords.{books_words, books_submission_words, lines_so_far}
-use Rattle.script_reader.specs.Input.{ClearingInput, Submission, callers_of}
-use Rattle.script_reader.specs.Grammar.{Spells, IsValidInput}
-use Rattle.script_reader.specs.Lines.{word_at}
-use Rattle.script_reader.specs.Forms.{Words, begins, is_only, value_of}
+use Rattle.script_reader.proofs.Joined.{joined}
 use Rattle.script_reader.proofs.text.Tokens.Numerals.{value_of_number}
 use Rattle.script_reader.proofs.books.Printing.Scripted.{ended}
 use Rattle.script_reader.proofs.books.OperationRows.{no_end, no_turning, no_try, operation_once}
-use Rattle.script_reader.specs.Faults.{fault_of, is_turning}
 use Rattle.script_reader.proofs.books.Printing.Sections.{all_follow, each_entry}
 use Rattle.script_reader.proofs.books.WithoutFault.Faultless.{IsPrice, IsPosition, IsMarginCall}
 use Rattle.script_reader.proofs.books.WithoutFault.BooksFaultless.{blocks_fit, instruments_fit, ring_fits, prices_are, positions_are, calls_are}
 use Rattle.script_reader.proofs.language.Grouped.Submitting.{IsGoodScript, scripts_are_good}
 use Rattle.script_reader.proofs.books.Texts.Deciding.{callers_spelled, whole}
 use Rattle.script_reader.proofs.books.Versions.{one_version}
-use Rattle.script_reader.specs.Inner.OfVersion.{IsScriptOf, IsOperationOf, AreCallersOf}
-use Rattle.script_reader.specs.declared.books.version.Version.{Version}
 use Rattle.script_reader.proofs.Judged.{same_lines}
+use Rattle.std.specs.FinMap as finmap
+use Rattle.books_model.specs.declared.script.Part.TheVariants as part
 
 -- numbers with the same text are the same
-number_once : (n m : ℕ) → n < 2 ^ 64 → m < 2 ^ 64 → number n ≡ number m → n ≡ m
-number_once n m fits also e = sym (value_of_number n fits) ∙ ap value_of e ∙ value_of_number m also
+number_once : {n m : ℕ} → n < 2 ^ 64 → m < 2 ^ 64 → number n ≡ number m → n ≡ m
+number_once fits also e = sym (value_of_number fits) ∙ ap value_of e ∙ value_of_number also
 
 -- the first line fails a test, or there is none
 abbrev pub StopsAt : (Words → Bool) → List Words → Type 0
@@ -72,29 +56,29 @@ abbrev AllSmall : (ℕ × ℕ) × ℕ → Type 0
 AllSmall e = AreSmall e.0 × (e.1 < 2 ^ 64)
 
 pair_once : (keyword : List ℕ) (e f : ℕ × ℕ) → AreSmall e → AreSmall f → keyword ∷ number e.0 ∷ number e.1 ∷ [] ≡ keyword ∷ number f.0 ∷ number f.1 ∷ [] → e ≡ f
-pair_once keyword e f h k same i = (number_once e.0 f.0 h.0 k.0 (ap (λ w. word_at w 1) same) i, number_once e.1 f.1 h.1 k.1 (ap (λ w. word_at w 2) same) i)
+pair_once keyword e f h k same i = (number_once h.0 k.0 (ap (λ w. word_at w 1) same) i, number_once h.1 k.1 (ap (λ w. word_at w 2) same) i)
 
 position_once : (e f : (ℕ × ℕ) × ℕ) → AllSmall e → AllSmall f → position_words e ≡ position_words f → e ≡ f
 position_once e f h k same i = (
-  (number_once e.0.0 f.0.0 h.0.0 k.0.0 (ap (λ w. word_at w 1) same) i, number_once e.0.1 f.0.1 h.0.1 k.0.1 (ap (λ w. word_at w 2) same) i),
-  number_once e.1 f.1 h.1 k.1 (ap (λ w. word_at w 3) same) i,
+  (number_once h.0.0 k.0.0 (ap (λ w. word_at w 1) same) i, number_once h.0.1 k.0.1 (ap (λ w. word_at w 2) same) i),
+  number_once h.1 k.1 (ap (λ w. word_at w 3) same) i,
 )
 
-module _ (b : ClearingBooks) (r : AreInRange b) where
+module _ {b : ClearingBooks} (r : AreInRange b) where
   small_accounts : AllByRecursion AreSmall (finmap.entries b.accounts)
   small_accounts = each_entry nat_cmp nat_cmp_total AreSmall b.accounts (λ e found. let h =
       r.accounts e.0 e.1 found in (omega (arith, h.0.1), omega (arith, h.1)))
 
   small_prices : AllByRecursion AreSmall (finmap.entries b.prices)
   small_prices = all_follow (IsPrice b.instruments) AreSmall (finmap.entries b.prices)
-      (λ e h. (h.2, h.3.2)) (prices_are b r)
+      (λ e h. (h.2, h.3.2)) (prices_are r)
 
   small_positions : AllByRecursion AllSmall (finmap.entries b.positions)
   small_positions = all_follow (IsPosition b.instruments) AllSmall (finmap.entries b.positions)
-      (λ e h. ((h.2, h.3.2), h.3.3.2)) (positions_are b r)
+      (λ e h. ((h.2, h.3.2), h.3.3.2)) (positions_are r)
 
   small_calls : AllByRecursion AreSmall b.calls
-  small_calls = all_follow IsMarginCall AreSmall b.calls (λ e h. (h.2, h.3.2)) (calls_are b r)
+  small_calls = all_follow IsMarginCall AreSmall b.calls (λ e h. (h.2, h.3.2)) (calls_are r)
 
 module _ (version : Version) (b : ClearingBooks) (fits : b.instruments < 2 ^ 64) where
   -- operations in front of a line that is none are the same
@@ -135,11 +119,9 @@ module _ (version : Version) (b : ClearingBooks) (fits : b.instruments < 2 ^ 64)
       ≡ (map books_operation_words others ++ ((codes "else" ∷ []) ∷ (map books_operation_words last ++ (codes "done" ∷ []) ∷ []))) ++ more = cc in
       let one = branch_once (codes "else") refl first others _ _ (All-front (IsOperationOf version b) first second h)
       (All-front (IsOperationOf version b) others last k)
-      (sym (append_assoc (map books_operation_words first) _ rest) ∙ tails ∙ append_assoc (map books_operation_words others) _ more) in
+      (simp append_assoc at tails) in
       let two = branch_once (codes "done") refl second last rest more (All-back (IsOperationOf version b) first second h)
-      (All-back (IsOperationOf version b) others last k)
-      (sym (append_assoc (map books_operation_words second) ((codes "done" ∷ []) ∷ []) rest) ∙ one.1
-      ∙ append_assoc (map books_operation_words last) ((codes "done" ∷ []) ∷ []) more) in
+      (All-back (IsOperationOf version b) others last k) one.1 in
       ((λ i. part.Either (one.0 i) (two.0 i)), two.1)
 
   -- parts in front of the line that ends their script are the same
@@ -160,7 +142,7 @@ module _ (version : Version) (b : ClearingBooks) (fits : b.instruments < 2 ^ 64)
   script_once (p ∷ parts) (q ∷ others) rest more h k e =
       let one = one_part p q _ _ (All-front (IsOperationOf version b) (operations_in p) (operations_of parts) h)
       (All-front (IsOperationOf version b) (operations_in q) (operations_of others) k)
-      (sym (append_assoc (part_words p) (flat_map part_words parts) _) ∙ e ∙ append_assoc (part_words q) (flat_map part_words others) _) in
+      (simp append_assoc at e) in
       let behind = script_once parts others rest more (All-back (IsOperationOf version b) (operations_in p) (operations_of parts) h)
       (All-back (IsOperationOf version b) (operations_in q) (operations_of others) k) one.1 in
       ((λ i. one.0 i ∷ behind.0 i), behind.1)
@@ -178,8 +160,7 @@ module _ (version : Version) (b : ClearingBooks) (fits : b.instruments < 2 ^ 64)
       let tails : (flat_map part_words s.script ++ end ∷ []) ++ flat_map books_submission_words subs
       ≡ (flat_map part_words v.script ++ end ∷ []) ++ flat_map books_submission_words vs = cc in
       let parts = script_once s.script v.script (flat_map books_submission_words subs) (flat_map books_submission_words vs) p.0.script.each q.0.script.each
-      (sym (append_assoc (flat_map part_words s.script) (end ∷ []) (flat_map books_submission_words subs)) ∙ tails
-      ∙ append_assoc (flat_map part_words v.script) (end ∷ []) (flat_map books_submission_words vs)) in
+      (simp append_assoc at tails) in
       let rest = scripts_once subs vs p.1 q.1 parts.1 in
       let names : s.caller ≡ v.caller = ap (λ w. word_at w 1) heads in
       (λ i. record { caller = names i; script = parts.0 i } ∷ rest i)
@@ -188,28 +169,23 @@ module _ (version : Version) (b : ClearingBooks) (fits : b.instruments < 2 ^ 64)
 tail_form : (version : Version) (b : ClearingBooks) (rest : List Words) → books_words version b ++ rest
     ≡ header_words version b ∷ (map account_words (finmap.entries b.accounts)
     ++ (map price_words (finmap.entries b.prices) ++ (map position_words (finmap.entries b.positions) ++ (map call_words b.calls ++ rest))))
-tail_form version b rest = ap (λ l. header_words version b ∷ l) (
-    append_assoc (map account_words (finmap.entries b.accounts)) _ rest
-    ∙ ap (λ l. map account_words (finmap.entries b.accounts) ++ l) (append_assoc (map price_words (finmap.entries b.prices)) _ rest)
-    ∙ ap (λ l. map account_words (finmap.entries b.accounts) ++ (map price_words (finmap.entries b.prices) ++ l))
-    (append_assoc (map position_words (finmap.entries b.positions)) _ rest)
-    )
+tail_form version b rest = simp joined
 
 -- books and scripts with the same lines are the same
-lines_once : (version other : Version) (b c : ClearingBooks) (subs vs : List Submission) → AreInRange b → AreInRange c
+lines_once : {version other : Version} {b c : ClearingBooks} (subs vs : List Submission) → AreInRange b → AreInRange c
     → AreCallersOf version b (callers_of subs) → AreCallersOf other c (callers_of vs) → lines_so_far version b subs ≡ lines_so_far other c vs
     → (b ≡ c) × (subs ≡ vs)
-lines_once version other b c subs vs r s valid also e =
+lines_once {version} {other} {b} {c} subs vs r s valid also e =
     let S : List Words = ended subs in
     let V : List Words = ended vs in
     let same = sym (tail_form version b S) ∙ e ∙ tail_form other c V in
     let heads : header_words version b ≡ header_words other c = cc in
     let versions = one_version version other (ap (λ w. word_at w 1) heads) in
-    let blocks = number_once b.blocks c.blocks (blocks_fit b r) (blocks_fit c s) (ap (λ w. word_at w 3) heads) in
-    let instruments = number_once b.instruments c.instruments (instruments_fit b r) (instruments_fit c s) (ap (λ w. word_at w 5) heads) in
-    let ring = number_once b.ring c.ring (ring_fits b r) (ring_fits c s) (ap (λ w. word_at w 7) heads) in
+    let blocks = number_once (blocks_fit r) (blocks_fit s) (ap (λ w. word_at w 3) heads) in
+    let instruments = number_once (instruments_fit r) (instruments_fit s) (ap (λ w. word_at w 5) heads) in
+    let ring = number_once (ring_fits r) (ring_fits s) (ap (λ w. word_at w 7) heads) in
     let accounts = part_once (begins (codes "account")) account_words AreSmall (pair_once (codes "account")) (λ x. refl)
-    (finmap.entries b.accounts) (finmap.entries c.accounts) _ _ (small_accounts b r) (small_accounts c s)
+    (finmap.entries b.accounts) (finmap.entries c.accounts) _ _ (small_accounts r) (small_accounts s)
     (stops_behind (begins (codes "account")) price_words (finmap.entries b.prices) _ (λ x. refl)
     (stops_behind (begins (codes "account")) position_words (finmap.entries b.positions) _ (λ x. refl)
     (stops_behind (begins (codes "account")) call_words b.calls S (λ x. refl) refl)))
@@ -218,19 +194,19 @@ lines_once version other b c subs vs r s valid also e =
     (stops_behind (begins (codes "account")) call_words c.calls V (λ x. refl) refl)))
     cc in
     let prices = part_once (begins (codes "price")) price_words AreSmall (pair_once (codes "price")) (λ x. refl)
-    (finmap.entries b.prices) (finmap.entries c.prices) _ _ (small_prices b r) (small_prices c s)
+    (finmap.entries b.prices) (finmap.entries c.prices) _ _ (small_prices r) (small_prices s)
     (stops_behind (begins (codes "price")) position_words (finmap.entries b.positions) _ (λ x. refl)
     (stops_behind (begins (codes "price")) call_words b.calls S (λ x. refl) refl))
     (stops_behind (begins (codes "price")) position_words (finmap.entries c.positions) _ (λ x. refl)
     (stops_behind (begins (codes "price")) call_words c.calls V (λ x. refl) refl))
     accounts.1 in
     let positions = part_once (begins (codes "position")) position_words AllSmall position_once (λ x. refl)
-    (finmap.entries b.positions) (finmap.entries c.positions) _ _ (small_positions b r) (small_positions c s)
+    (finmap.entries b.positions) (finmap.entries c.positions) _ _ (small_positions r) (small_positions s)
     (stops_behind (begins (codes "position")) call_words b.calls S (λ x. refl) refl)
     (stops_behind (begins (codes "position")) call_words c.calls V (λ x. refl) refl)
     prices.1 in
     let calls = part_once (begins (codes "call")) call_words AreSmall (pair_once (codes "call")) (λ x. refl) b.calls
-    c.calls S V (small_calls b r) (small_calls c s) refl refl positions.1 in
+    c.calls S V (small_calls r) (small_calls s) refl refl positions.1 in
     let books : b ≡ c = λ t. record {
       blocks = blocks t;
       instruments = instruments t;
@@ -242,14 +218,14 @@ lines_once version other b c subs vs r s valid also e =
     } in
     let scripts : flat_map books_submission_words subs ≡ flat_map books_submission_words vs = let rest : S ≡ V = calls.1 in cc in (
       books,
-      scripts_once version b (instruments_fit b r) subs vs (scripts_are_good (IsScriptOf version b) subs valid)
+      scripts_once version b (instruments_fit r) subs vs (scripts_are_good (IsScriptOf version b) subs valid)
           (subst (λ d. AllByRecursion (IsGoodScript (IsScriptOf version d)) vs) (sym books)
           (subst (λ w. AllByRecursion (IsGoodScript (IsScriptOf w c)) vs) (sym versions) (scripts_are_good (IsScriptOf other c) vs also))) scripts,
     )
 
 pub one_input : (text : List ℕ) (input other : ClearingInput) → Spells text input → Spells text other → input ≡ other
 one_input text input other h k =
-    let lines = same_lines fault_of IsValidInput whole text text [] text [] (sym (append-nil text)) (sym (append-nil text)) (input, h) (other, k) in
-    let same = lines_once h.version k.version input.books other.books h.submissions k.submissions h.valid.books k.valid.books
-    (callers_spelled text input h) (callers_spelled text other k) lines.0 in
+    let lines = same_lines fault_of IsValidInput whole text [] text [] (sym (append-nil text)) (sym (append-nil text)) (input, h) (other, k) in
+    let same = lines_once h.submissions k.submissions h.valid.books k.valid.books
+    (callers_spelled h) (callers_spelled k) lines.0 in
     (λ t. record { books = same.0 t; callers = (h.callers ∙ ap callers_of same.1 ∙ sym k.callers) t })

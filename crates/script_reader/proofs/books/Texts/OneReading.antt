@@ -1,16 +1,10 @@
 -- A text is cut into lines in one way, so it has an input or a first fault, not both, and one at most.
-use Rattle.std.proofs.Common.{◌≡◌, ℕ, List, [], ◌∷◌, ◌++◌, codes, map, refl, sym, ap, ◌∙◌, append_assoc}
-use Rattle.std.specs.List.{flat_map}
-use Rattle.std.proofs.lemmas.List.{append-nil}
-use Rattle.std.proofs.lemmas.List.Concat.{flat_map-append}
+use Rattle.script_reader.proofs.Common.{◌≡◌, ℕ, List, [], ◌∷◌, ◌++◌, codes, map, refl, sym, ap, ◌∙◌, append_assoc, flat_map, flat_map-append, ClearingBooks}
+use Rattle.script_reader.proofs.Common.{line, account_words, price_words, position_words, call_words, books_lines, scripts_line, finish_line, books_words}
+use Rattle.script_reader.proofs.Common.{books_submission_words, lines_so_far, Submission, submission_lines, input_text, Version}
+use Rattle.script_reader.specs.Text.{header_line, account_line, price_line, position_line, call_line}
+use Rattle.script_reader.proofs.Joined.{joined}
 use Rattle.std.specs.FinMap as finmap
-use Rattle.books_model.specs.Books.{ClearingBooks}
-use Rattle.script_reader.specs.Text.{line, header_line, account_words, account_line, price_words, price_line, position_words, position_line, call_words}
-use Rattle.script_reader.specs.Text.{call_line, books_lines, part_words, script_lines, scripts_line, end_line, finish_line}
-use Rattle.script_reader.specs.Inner.LinesAsWords.{books_words, books_submission_words, lines_so_far}
-use Rattle.script_reader.specs.Input.{Submission}
-use Rattle.script_reader.specs.Grammar.{submission_lines, input_text}
-use Rattle.script_reader.specs.declared.books.version.Version.{Version}
 
 -- pieces of pieces
 pub flat_of_map : {A B C : Type 0} (g : B → List C) (f : A → B) (xs : List A) → flat_map g (map f xs) ≡ flat_map (λ x. g (f x)) xs
@@ -19,7 +13,7 @@ flat_of_map g f (x ∷ xs) = ap (λ l. g (f x) ++ l) (flat_of_map g f xs)
 
 pub flat_of_flat : {A B C : Type 0} (g : B → List C) (f : A → List B) (xs : List A) → flat_map g (flat_map f xs) ≡ flat_map (λ x. flat_map g (f x)) xs
 flat_of_flat g f [] = refl
-flat_of_flat g f (x ∷ xs) = flat_map-append g (f x) (flat_map f xs) ∙ ap (λ l. flat_map g (f x) ++ l) (flat_of_flat g f xs)
+flat_of_flat g f (x ∷ xs) = simp (flat_of_flat g f xs, joined)
 
 -- the text of books is that of their lines
 pub text_of_books : (version : Version) (b : ClearingBooks) → flat_map line (books_words version b) ≡ books_lines version b
@@ -42,10 +36,7 @@ text_of_books version b =
 
 -- and the text of a script
 pub text_of_submission : (s : Submission) → flat_map line (books_submission_words s) ≡ submission_lines s
-text_of_submission s =
-    ap (λ l. line (codes "script" ∷ s.caller ∷ []) ++ l) (flat_map-append line (flat_map part_words s.script)
-    ((codes "end" ∷ []) ∷ []) ∙ ap (λ l. script_lines s.script ++ l) (append-nil end_line))
-    ∙ sym (append_assoc (line (codes "script" ∷ s.caller ∷ [])) (script_lines s.script) end_line)
+text_of_submission s = simp joined
 
 -- and the text of an input
 pub text_of_input : (version : Version) (b : ClearingBooks) (subs : List Submission)

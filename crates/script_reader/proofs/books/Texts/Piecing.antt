@@ -1,49 +1,39 @@
 -- Texts that are read in pieces.
-use Rattle.std.proofs.Common.{◌≡◌, inr, ℕ, ◌+◌, ◌-◌, ◌<◌, List, [], ◌∷◌, ◌++◌, codes, take, drop, length, get_or, refl, sym, ap, ◌∙◌}
-use Rattle.std.proofs.Common.{append_assoc, length-append, arith}
-use Rattle.std.specs.List.{flat_map}
-use Rattle.std.proofs.lemmas.List.{append-nil, take_more, take_rest, take-append-drop}
-use Rattle.std.proofs.lemmas.List.Concat.{flat_map-append}
-use Rattle.std.proofs.lemmas.List.Elements.{All-append}
-use Rattle.books_model.specs.Books.{ClearingBooks}
-use Rattle.books_model.specs.Ranges.{AreInRange}
-use Rattle.script_reader.specs.declared.books.version.Version.{Version}
-use Rattle.script_reader.specs.declared.text.words.TheConstants.{LINE_FEED}
-use Rattle.script_reader.specs.Text.{line, books_lines, scripts_line, script_lines, end_line, finish_line}
-use Rattle.script_reader.specs.Input.{Submission, callers_of}
-use Rattle.script_reader.specs.Grammar.{Spells, submission_lines}
-use Rattle.script_reader.specs.Pieces.{AreScripts, CanStand, IsBetweenScripts, Opens}
-use Rattle.script_reader.specs.Inner.LinesAsWords.{books_words}
-use Rattle.script_reader.specs.Inner.OfVersion.{AreCallersOf}
+use Rattle.script_reader.proofs.Common.{◌≡◌, inr, ℕ, ◌+◌, ◌-◌, ◌<◌, List, [], ◌∷◌, ◌++◌, codes, take, drop, length, get_or, refl, sym, ap, ◌∙◌, append_assoc}
+use Rattle.script_reader.proofs.Common.{length-append, arith, flat_map, append-nil, take_more, take_rest, flat_map-append, All-append, ClearingBooks}
+use Rattle.script_reader.proofs.Common.{AreInRange, Version, LINE_FEED, line, books_lines, scripts_line, script_lines, end_line, finish_line, Submission}
+use Rattle.script_reader.proofs.Common.{callers_of, Spells, submission_lines, CanStand, books_words, AreCallersOf}
+use Rattle.std.proofs.lemmas.List.{take-append-drop}
+use Rattle.script_reader.specs.Pieces.{AreScripts, IsBetweenScripts, Opens}
 use Rattle.script_reader.proofs.books.Versions.{callers_for, callers_within}
 use Rattle.script_reader.proofs.books.Texts.OneReading.{text_of_books}
 
 -- a text whose books were read, and whose rest ends with the line `finish`
-pub opened_text : (v : Version) (b : ClearingBooks) (bytes rest scripts : List ℕ) → bytes ≡ flat_map line (books_words v b) ++ (scripts_line ++ rest)
+pub opened_text : (v : Version) (b : ClearingBooks) {bytes rest : List ℕ} (scripts : List ℕ) → bytes ≡ flat_map line (books_words v b) ++ (scripts_line ++ rest)
     → rest ≡ scripts ++ finish_line → bytes ≡ books_lines v b ++ scripts_line ++ scripts ++ finish_line
-opened_text v b bytes rest scripts text ends =
+opened_text v b scripts text ends =
     text ∙ (λ i. text_of_books v b i ++ (scripts_line ++ ends i))
     ∙ sym (append_assoc (books_lines v b) scripts_line (scripts ++ finish_line)) ∙ sym (append_assoc (books_lines v b ++ scripts_line) scripts finish_line)
 
 -- bytes of which the first are scripts, with one script more
-pub one_more_submission : (piece before after : List ℕ) (subs : List Submission) (s : Submission) → piece ≡ flat_map submission_lines subs ++ before
+pub one_more_submission : {piece before : List ℕ} (after : List ℕ) (subs : List Submission) (s : Submission) → piece ≡ flat_map submission_lines subs ++ before
     → before ≡ submission_lines s ++ after → piece ≡ flat_map submission_lines (subs ++ s ∷ []) ++ after
-one_more_submission piece before after subs s text first =
+one_more_submission after subs s text first =
     let all = flat_map submission_lines subs in
     text ∙ ap (λ l. all ++ l) first ∙ sym (append_assoc all (submission_lines s) after)
     ∙ ap (λ l. l ++ after) (ap (λ l. all ++ l) (sym (append-nil (submission_lines s))) ∙ sym (flat_map-append submission_lines subs (s ∷ [])))
 
 -- a script takes some bytes
-pub submission_shorter : (before after : List ℕ) (s : Submission) → before ≡ submission_lines s ++ after → length after < length before
-submission_shorter before after s first =
+pub submission_shorter : {before : List ℕ} (after : List ℕ) (s : Submission) → before ≡ submission_lines s ++ after → length after < length before
+submission_shorter after s first =
     let begun = line (codes "script" ∷ s.caller ∷ []) ++ script_lines s.script in
     omega (arith, ap length first, length-append (begun ++ end_line) after, length-append begun end_line)
 
 -- behind a line feed with the word of a script behind it, a script begins
-pub begins_behind : (bytes : List ℕ) (place : ℕ) → place < length bytes → get_or bytes place 0 ≡ LINE_FEED
+pub begins_behind : (bytes : List ℕ) {place : ℕ} → place < length bytes → get_or bytes place 0 ≡ LINE_FEED
     → codes "script " ≡ take 7 (take (length bytes - (place + 1)) (drop (place + 1) bytes))
     → IsBetweenScripts (take (place + 1) bytes) (drop (place + 1) bytes)
-begins_behind bytes place less feed word =
+begins_behind bytes {place} less feed word =
     let behind = drop (place + 1) bytes in
     let begins : codes "script " ≡ take 7 behind = word ∙ ap (take 7) (take_rest bytes (place + 1)) in
     inr (
@@ -62,9 +52,9 @@ both_pieces v b piece first second subs more h k whole = record {
 }
 
 -- a text that opens so and has these scripts spells the input of their callers
-pub spelled : (v : Version) (b : ClearingBooks) (bytes text : List ℕ) (subs : List Submission) → AreInRange b → AreScripts v b text subs
+pub spelled : {v : Version} {b : ClearingBooks} {bytes text : List ℕ} {subs : List Submission} → AreInRange b → AreScripts v b text subs
     → AreCallersOf v b (callers_of subs) → Opens bytes v b text → Spells bytes (record { books = b; callers = callers_of subs })
-spelled v b bytes text subs range read valid opens = record {
+spelled {v} {b} {text} {subs} range read valid opens = record {
   version = v;
   submissions = subs;
   text = opens.text ∙ ap (λ l. books_lines v b ++ scripts_line ++ l ++ finish_line) read.text;

@@ -1,48 +1,32 @@
 -- Lines without fault are those of books and scripts, as far as they go.
-use Rattle.std.proofs.Common.{◌≡◌, ◌⊎◌, inl, inr, ℕ, ◌<◌, true, false, not, ◌&&◌, nat_le, List, [], ◌∷◌, ◌++◌, codes, drop, length, sum_by, All, None, refl}
-use Rattle.std.proofs.Common.{sym, ap, subst, ◌∙◌, append_assoc, length-append, arith}
-use Rattle.std.specs.List.{flat_map}
-use Rattle.std.specs.Option.{is_none}
-use Rattle.std.proofs.lemmas.Bool.{leb-false}
-use Rattle.std.proofs.lemmas.List.{append-nil}
-use Rattle.std.proofs.lemmas.List.Concat.{flat_map-append}
-use Rattle.std.proofs.lemmas.List.Elements.{All-push}
-use Rattle.books_model.specs.Books.{ClearingBooks, put_cash, put_price, put_quantity, put_call}
-use Rattle.books_model.specs.Ranges.{AreInRange}
-use Rattle.books_model.specs.declared.limits.TheConstants.{MOST_ALTERNATIVES, MOST_OPERATIONS}
-use Rattle.books_model.specs.declared.script.Op.{Op}
-use Rattle.books_model.specs.declared.script.Part.{Part}
-use Rattle.books_model.specs.declared.script.Part.TheVariants as part
-use Rattle.books_model.specs.Scripts.{operations_of, alternatives_in}
-use Rattle.script_reader.specs.declared.limits.TheConstants.{MOST_CALLERS, MOST_SCRIPTS}
-use Rattle.script_reader.specs.declared.fault.Fault.TheVariants as fault
-use Rattle.script_reader.specs.Text.{books_operation_words, part_words}
+use Rattle.script_reader.proofs.Common.{◌≡◌, ◌⊎◌, inl, inr, ℕ, ◌<◌, true, false, not, ◌&&◌, nat_le, List, [], ◌∷◌, ◌++◌, codes, drop, length, sum_by, All, None}
+use Rattle.script_reader.proofs.Common.{refl, sym, ap, subst, ◌∙◌, append_assoc, length-append, arith, is_none, leb-false, append-nil, All-push, ClearingBooks}
+use Rattle.script_reader.proofs.Common.{AreInRange, MOST_ALTERNATIVES, MOST_OPERATIONS, Op, Part, operations_of, alternatives_in, MOST_CALLERS, MOST_SCRIPTS}
+use Rattle.script_reader.proofs.Common.{books_operation_words, Open, BetweenParts, InFirst, InSecond, parts_with, script_words, books_words, lines_so_far}
+use Rattle.script_reader.proofs.Common.{lines_inside, Submission, callers_of, IsName, is_caller, Words, Region, script_forms, turning_forms, form_of, ranges_of}
+use Rattle.script_reader.proofs.Common.{is_only, are_numbers, are_in_range, AreBooksWithin, Row, with_row, inside_fault, fault_of, is_too_many, header_version}
+use Rattle.script_reader.proofs.Common.{IsOperationOf, IsScriptOf, AreCallersOf, Version}
+use Rattle.script_reader.proofs.Joined.{joined}
 use Rattle.script_reader.proofs.books.Regions.{region_of}
-use Rattle.script_reader.specs.Inner.LinesAsWords.{Open, BetweenParts, InFirst, InSecond, parts_with, script_words, books_words}
-use Rattle.script_reader.specs.Inner.LinesAsWords.{books_submission_words, lines_so_far, lines_inside}
-use Rattle.script_reader.specs.Input.{Submission, callers_of, count_scripts, is_name, IsName}
-use Rattle.script_reader.specs.Inner.Gatherings.{is_caller}
-use Rattle.script_reader.specs.Forms.{Words, Region, script_forms, turning_forms, form_of, ranges_of, is_only, value_of, are_numbers, are_in_range}
-use Rattle.script_reader.specs.Versions.{AreBooksWithin}
-use Rattle.script_reader.specs.declared.books.Row.TheVariants as row
+use Rattle.script_reader.specs.Input.{count_scripts}
 use Rattle.script_reader.proofs.books.NoneFaulty.{AreFaultless}
-use Rattle.script_reader.specs.Faults.{inside_fault, fault_of, is_too_many, header_version}
 use Rattle.script_reader.proofs.books.Versions.{row_within}
 use Rattle.script_reader.proofs.Conditions.{passed, neither}
 use Rattle.script_reader.proofs.books.Printing.Printed.{books_fault_is, fault_at}
-use Rattle.script_reader.proofs.books.Printing.Scripted.{ended, opened, in_books, outside_fault_is, inside_fault_is}
+use Rattle.script_reader.proofs.books.Printing.Scripted.{in_books, outside_fault_is, inside_fault_is}
 use Rattle.script_reader.proofs.books.OperationRows.{no_turning, operation_line}
 use Rattle.script_reader.proofs.books.Printing.Opened.{parts_more, open_more, words_more, operations_more, alternatives_more, words_try, operations_try}
 use Rattle.script_reader.proofs.books.Printing.Opened.{alternatives_try, words_else, words_done, inside_more}
-use Rattle.script_reader.proofs.LineFaults.LineKinds.{none_applies, books_line, BooksLine, AccountLine, PriceLine, PositionLine, CallLine}
-use Rattle.script_reader.proofs.LineFaults.LineKinds.{ScriptsLine, line_words, IsOneOf, end_or_try, closing}
+use Rattle.script_reader.proofs.LineFaults.LineKinds.{none_applies, books_line, BooksLine, AccountLine, PriceLine, PositionLine, CallLine, ScriptsLine}
+use Rattle.script_reader.proofs.LineFaults.LineKinds.{line_words, IsOneOf, end_or_try, closing}
 use Rattle.script_reader.proofs.books.WithoutFault.BooksFaultless.{printed, printed_small, instruments_fit}
 use Rattle.script_reader.proofs.language.Grouped.Submitting.{callers_more}
 use Rattle.script_reader.proofs.language.Grouped.Grouping.{callers_of-push}
 use Rattle.script_reader.proofs.language.Grouped.Outside.{begins_script, no_callers, outside_in}
-use Rattle.script_reader.proofs.books.Printing.Extending.{has_no_fault, adds_account, adds_price, adds_position, adds_call, header_adds, books_of_header}
-use Rattle.script_reader.specs.Inner.OfVersion.{IsOperationOf, IsScriptOf, AreCallersOf}
-use Rattle.script_reader.specs.declared.books.version.Version.{Version}
+use Rattle.script_reader.proofs.books.Printing.Extending.{AddsRow, has_no_fault, adds_account, adds_price, adds_position, adds_call, header_adds}
+use Rattle.script_reader.proofs.books.Printing.Extending.{books_of_header}
+use Rattle.books_model.specs.declared.script.Part.TheVariants as part
+use Rattle.script_reader.specs.declared.fault.Fault.TheVariants as fault
 
 -- books in range, and callers for them whose scripts have ended
 pub record Between (lines : List Words) : Type 0 where
@@ -79,33 +63,25 @@ pub data IsReached (lines : List Words) : Type 0 where
   WithinScript : Inside lines → IsReached lines
 
 -- a line of books
-books_step : (version : Version) (b : ClearingBooks) (range : AreInRange b) → AreBooksWithin version b → (words : Words)
+books_step : {version : Version} {b : ClearingBooks} (range : AreInRange b) → AreBooksWithin version b → (words : Words)
     → fault_of (books_words version b) words ≡ None → IsReached (books_words version b ++ words ∷ [])
-books_step version b range within words none = by (books_line version b.instruments words (has_no_fault (printed version b) words at).formed)
+books_step {version} {b} range within words none = by (books_line version b.instruments (has_no_fault (printed version b) words at).formed)
   where
     at : fault_at (printed version b) words ≡ None
-    at = sym (in_books (printed version b) words ∙ books_fault_is (printed version b) words (printed_small b range version)) ∙ none
+    at = sym (in_books (printed version b) words ∙ books_fault_is words (printed_small range version)) ∙ none
+
+    free : {these : Words} → words ≡ these → fault_at (printed version b) these ≡ None
+    free e = subst (λ w. fault_at (printed version b) w ≡ None) e at
+
+    added : {these : Words} (r : Row) → words ≡ these → AddsRow version range these r → IsReached (books_words version b ++ words ∷ [])
+    added r e adds = InBooks version (with_row b r) adds.in_range (row_within r within adds.is_row.within)
+        (ap (λ w. books_words version b ++ w ∷ []) e ∙ sym adds.is_row.lines)
 
     by : (l : BooksLine) × (words ≡ line_words l) → IsReached (books_words version b ++ words ∷ [])
-    by (AccountLine a cash, e) = let adds =
-        adds_account version b range a cash (subst (λ w. fault_at (printed version b) w ≡ None) e at) in
-        InBooks version (put_cash b (value_of a) (value_of cash)) adds.in_range
-        (row_within version b (row.Account (value_of a) (value_of cash)) within adds.within)
-        (ap (λ w. books_words version b ++ w ∷ []) e ∙ sym adds.lines)
-    by (PriceLine i price, e) = let adds =
-        adds_price version b range i price (subst (λ w. fault_at (printed version b) w ≡ None) e at) in
-        InBooks version (put_price b (value_of i) (value_of price)) adds.in_range (row_within version b (row.Price (value_of i) (value_of price)) within tt)
-        (ap (λ w. books_words version b ++ w ∷ []) e ∙ sym adds.lines)
-    by (PositionLine a i quantity, e) = let adds =
-        adds_position version b range a i quantity (subst (λ w. fault_at (printed version b) w ≡ None) e at) in
-        InBooks version (put_quantity b (value_of a) (value_of i) (value_of quantity)) adds.in_range
-        (row_within version b (row.Position (value_of a) (value_of i) (value_of quantity)) within tt)
-        (ap (λ w. books_words version b ++ w ∷ []) e ∙ sym adds.lines)
-    by (CallLine a shortfall, e) = let adds =
-        adds_call version b range a shortfall (subst (λ w. fault_at (printed version b) w ≡ None) e at) in
-        InBooks version (put_call b (value_of a) (value_of shortfall)) adds.in_range
-        (row_within version b (row.Call (value_of a) (value_of shortfall)) within tt)
-        (ap (λ w. books_words version b ++ w ∷ []) e ∙ sym adds.lines)
+    by (AccountLine a cash, e) = added _ e (adds_account version range a cash (free e))
+    by (PriceLine i price, e) = added _ e (adds_price version range i price (free e))
+    by (PositionLine a i quantity, e) = added _ e (adds_position version range a i quantity (free e))
+    by (CallLine a shortfall, e) = added _ e (adds_call version range a shortfall (free e))
     by (ScriptsLine, e) = Outside (record {
       version = version;
       books = b;
@@ -118,9 +94,9 @@ books_step version b range within words none = by (books_line version b.instrume
     })
 
 -- a line between scripts, which is not the last one
-outside_step : (lines : List Words) (words : Words) → (r : Between lines) → fault_of lines words ≡ None
+outside_step : {lines : List Words} (words : Words) → (r : Between lines) → fault_of lines words ≡ None
     → is_only (codes "finish") words ≡ false → IsReached (lines ++ words ∷ [])
-outside_step lines words r none more =
+outside_step words r none more =
     let at : outside_in (callers_of r.subs) words ≡ None = sym (ap (λ l. fault_of l words) r.lines_are
     ∙ outside_fault_is (printed r.version r.books) r.subs words) ∙ none in
     let begun = begins_script (callers_of r.subs) words at more in
@@ -151,14 +127,7 @@ operation_has_room count alternatives o room =
 ended_more : (version : Version) (b : ClearingBooks) (subs : List Submission) (name : List ℕ) (parts : List Part)
     → lines_inside version b subs name parts BetweenParts ++ (codes "end" ∷ []) ∷ []
     ≡ lines_so_far version b (subs ++ record { caller = name; script = parts } ∷ [])
-ended_more version b subs name parts =
-    append_assoc (lines_so_far version b subs) (opened name parts BetweenParts) ((codes "end" ∷ []) ∷ [])
-    ∙ append_assoc (books_words version b) (ended subs) (opened name parts BetweenParts ++ (codes "end" ∷ []) ∷ [])
-    ∙ ap (λ l. books_words version b ++ ((codes "scripts" ∷ []) ∷ l)) (
-    ap (λ l. flat_map books_submission_words subs ++ ((codes "script" ∷ name ∷ []) ∷ (l ++ (codes "end" ∷ []) ∷ []))) (append-nil (flat_map part_words parts))
-    ∙ ap (λ l. flat_map books_submission_words subs ++ l) (sym (append-nil (books_submission_words (record { caller = name; script = parts }))))
-    ∙ sym (flat_map-append books_submission_words subs (record { caller = name; script = parts } ∷ []))
-    )
+ended_more version b subs name parts = simp joined
 
 -- what is known of a line of a script to which no reason applies
 pub record HasNoFaultInside (version : Version) (region : Region) (instruments count alternatives : ℕ) (words : Words) : Type 0 where
@@ -167,9 +136,9 @@ pub record HasNoFaultInside (version : Version) (region : Region) (instruments c
   pub ranges : are_in_range (drop 1 words) (ranges_of (form_of (script_forms version region instruments) words)) ≡ true
   pub few : is_too_many count alternatives words ≡ false
 
-has_no_fault_inside : (version : Version) (region : Region) (instruments count alternatives : ℕ) (words : Words)
+has_no_fault_inside : {version : Version} {region : Region} {instruments count alternatives : ℕ} {words : Words}
     → inside_fault version region instruments count alternatives words ≡ None → HasNoFaultInside version region instruments count alternatives words
-has_no_fault_inside version region instruments count alternatives words none =
+has_no_fault_inside none =
     let n1 = none_applies _ fault.Word _ none in
     let n2 = none_applies _ fault.Number _ n1.1 in
     let n3 = none_applies _ fault.Limit _ n2.1 in
@@ -177,11 +146,11 @@ has_no_fault_inside version region instruments count alternatives words none =
     record { formed = n1.0; numbers = passed n2.0; ranges = passed limit.0; few = limit.1 }
 
 -- a script that has not ended, with one more operation for which there is room
-operation_fits : (version : Version) (b : ClearingBooks) (parts : List Part) (stage : Open) (o : Op) → IsScriptOf version b (parts_with parts stage)
+operation_fits : {version : Version} {b : ClearingBooks} (parts : List Part) (stage : Open) (o : Op) → IsScriptOf version b (parts_with parts stage)
     → IsOperationOf version b o
     → length (operations_of (parts_with parts stage)) < MOST_OPERATIONS
     → IsScriptOf version b (parts_with (parts_more parts stage o) (open_more stage o))
-operation_fits version b parts stage o script fits room = record {
+operation_fits {version} {b} parts stage o script fits room = record {
   few = omega (arith, ap length (operations_more parts stage o), length-append (operations_of (parts_with parts stage)) (o ∷ []), room);
   few_alternatives = omega (arith, alternatives_more parts stage o, script.few_alternatives);
   each = subst (All (IsOperationOf version b)) (sym (operations_more parts stage o))
@@ -189,26 +158,26 @@ operation_fits version b parts stage o script fits room = record {
 }
 
 -- the line that begins an alternative for which there is room
-try_fits : (version : Version) (b : ClearingBooks) (parts : List Part) → IsScriptOf version b parts → sum_by alternatives_in parts < MOST_ALTERNATIVES
+try_fits : {version : Version} {b : ClearingBooks} {parts : List Part} → IsScriptOf version b parts → sum_by alternatives_in parts < MOST_ALTERNATIVES
     → IsScriptOf version b (parts_with parts (InFirst []))
-try_fits version b parts script room = record {
+try_fits {version} {b} {parts} script room = record {
   few = omega (arith, ap length (operations_try parts), script.few);
   few_alternatives = omega (arith, alternatives_try parts, room);
   each = subst (All (IsOperationOf version b)) (sym (operations_try parts)) script.each;
 }
 
-module _ (lines : List Words) (words : Words) (r : Inside lines) (none : fault_of lines words ≡ None) where
+module _ {lines : List Words} (words : Words) (r : Inside lines) (none : fault_of lines words ≡ None) where
   -- no reason applies
   no_reason : HasNoFaultInside r.version (region_of r.stage) r.books.instruments (length (operations_of (parts_with r.parts r.stage)))
       (sum_by alternatives_in (parts_with r.parts r.stage)) words
-  no_reason = has_no_fault_inside r.version (region_of r.stage) r.books.instruments _ _ words
+  no_reason = has_no_fault_inside
       (sym (ap (λ l. fault_of l words) r.lines_are
-      ∙ inside_fault_is (printed r.version r.books) r.subs r.name r.parts r.stage words (printed_small r.books r.range r.version)) ∙ none)
+      ∙ inside_fault_is r.subs r.name r.parts r.stage words (printed_small r.range r.version)) ∙ none)
 
   -- the script goes on with this line
-  goes_on_with : (parts : List Part) (stage : Open) (these : Words) → words ≡ these → IsScriptOf r.version r.books (parts_with parts stage)
+  goes_on_with : (parts : List Part) (stage : Open) {these : Words} → words ≡ these → IsScriptOf r.version r.books (parts_with parts stage)
       → script_words parts stage ≡ script_words r.parts r.stage ++ these ∷ [] → IsReached (lines ++ words ∷ [])
-  goes_on_with parts stage these is script more = WithinScript (record {
+  goes_on_with parts stage {these} is script more = WithinScript (record {
     version = r.version;
     books = r.books;
     subs = r.subs;
@@ -232,19 +201,19 @@ module _ (lines : List Words) (words : Words) (r : Inside lines) (none : fault_o
       operation_has_room _ _ o (ap (is_too_many (length (operations_of (parts_with r.parts r.stage))) (sum_by alternatives_in (parts_with r.parts r.stage)))
       (sym is)
       ∙ no_reason.few) in
-      goes_on_with (parts_more r.parts r.stage o) (open_more r.stage o) (books_operation_words o) is
-      (operation_fits r.version r.books r.parts r.stage o r.script fits (leb-false MOST_OPERATIONS _ room)) (words_more r.parts r.stage o)
+      goes_on_with (parts_more r.parts r.stage o) (open_more r.stage o) is
+      (operation_fits r.parts r.stage o r.script fits (leb-false MOST_OPERATIONS _ room)) (words_more r.parts r.stage o)
 
 -- a line of a script
-within_step : (lines : List Words) (words : Words) → (r : Inside lines) → fault_of lines words ≡ None → IsReached (lines ++ words ∷ [])
-within_step lines words r none = by r.stage refl
+within_step : {lines : List Words} (words : Words) → (r : Inside lines) → fault_of lines words ≡ None → IsReached (lines ++ words ∷ [])
+within_step {lines} words r none = by r.stage refl
   where
     n : HasNoFaultInside r.version (region_of r.stage) r.books.instruments (length (operations_of (parts_with r.parts r.stage)))
         (sum_by alternatives_in (parts_with r.parts r.stage)) words
-    n = no_reason lines words r none
+    n = no_reason words r none
 
     line_is : IsOneOf (turning_forms (region_of r.stage)) words ⊎ ((o : Op) × IsOperationOf r.version r.books o × (words ≡ books_operation_words o))
-    line_is = operation_line r.version r.books (instruments_fit r.books r.range) (turning_forms (region_of r.stage)) words n.formed n.numbers n.ranges
+    line_is = operation_line r.version r.books (instruments_fit r.range) (turning_forms (region_of r.stage)) n.formed n.numbers n.ranges
 
     s : Submission
     s = record { caller = r.name; script = r.parts }
@@ -259,7 +228,7 @@ within_step lines words r none = by r.stage refl
         turn : (stage : Open) → r.stage ≡ stage
             → IsOneOf (turning_forms (region_of stage)) words ⊎ ((o : Op) × IsOperationOf r.version r.books o × (words ≡ books_operation_words o))
             → IsReached (lines ++ words ∷ [])
-        turn stage is (inr o) = with_operation lines words r none o.0 o.1 o.2
+        turn stage is (inr o) = with_operation words r none o.0 o.1 o.2
         turn BetweenParts is (inl turns) = elim (end_or_try words turns) [
           | inl e ↦ Outside (record {
             version = r.version;
@@ -274,34 +243,34 @@ within_step lines words r none = by r.stage refl
                 ∙ ap (λ o. lines_inside r.version r.books r.subs r.name r.parts o ++ (codes "end" ∷ []) ∷ []) is
                 ∙ ended_more r.version r.books r.subs r.name r.parts;
           })
-          | inr e ↦ goes_on_with lines words r none r.parts (InFirst []) (codes "try" ∷ []) e
-              (try_fits r.version r.books r.parts (subst (λ o. IsScriptOf r.version r.books (parts_with r.parts o)) is r.script)
+          | inr e ↦ goes_on_with words r none r.parts (InFirst []) e
+              (try_fits (subst (λ o. IsScriptOf r.version r.books (parts_with r.parts o)) is r.script)
               (leb-false MOST_ALTERNATIVES _ (sym (ap (λ w. is_too_many (length (operations_of r.parts)) (sum_by alternatives_in r.parts) w) e)
               ∙ ap (λ o. is_too_many (length (operations_of (parts_with r.parts o))) (sum_by alternatives_in (parts_with r.parts o)) words) (sym is) ∙ n.few)))
               (words_try r.parts ∙ ap (λ l. l ++ (codes "try" ∷ []) ∷ []) (sym (at BetweenParts is)))
         ]
         turn (InFirst first) is (inl turns) =
-            goes_on_with lines words r none r.parts (InSecond first []) (codes "else" ∷ []) (closing (codes "else") words turns)
+            goes_on_with words r none r.parts (InSecond first []) (closing turns)
             (subst (λ o. IsScriptOf r.version r.books (parts_with r.parts o)) is r.script)
             (words_else r.parts first ∙ ap (λ l. l ++ (codes "else" ∷ []) ∷ []) (sym (at (InFirst first) is)))
         turn (InSecond first second) is (inl turns) =
-            goes_on_with lines words r none (r.parts ++ part.Either first second ∷ []) BetweenParts (codes "done" ∷ []) (closing (codes "done") words turns)
+            goes_on_with words r none (r.parts ++ part.Either first second ∷ []) BetweenParts (closing turns)
             (subst (λ o. IsScriptOf r.version r.books (parts_with r.parts o)) is r.script)
             (words_done r.parts first second ∙ ap (λ l. l ++ (codes "done" ∷ []) ∷ []) (sym (at (InSecond first second) is)))
 
 -- one more line without fault
-pub reach : (lines : List Words) (words : Words) → IsReached lines → fault_of lines words ≡ None
+pub reach : {lines : List Words} (words : Words) → IsReached lines → fault_of lines words ≡ None
     → is_only (codes "finish") words ≡ false → IsReached (lines ++ words ∷ [])
-reach lines words (AtStart e) none more = subst (λ l. IsReached (l ++ words ∷ [])) (sym e) (
+reach words (AtStart e) none more = subst (λ l. IsReached (l ++ words ∷ [])) (sym e) (
     let h = header_adds words (sym (ap (λ l. fault_of l words) e) ∙ none) in
     InBooks (header_version words) (books_of_header words) h.in_range h.within (sym h.lines)
     )
-reach lines words (InBooks version b range within e) none more =
-    subst (λ l. IsReached (l ++ words ∷ [])) (sym e) (books_step version b range within words (sym (ap (λ l. fault_of l words) e) ∙ none))
-reach lines words (Outside r) none more = outside_step lines words r none more
-reach lines words (WithinScript r) none more = within_step lines words r none
+reach words (InBooks version b range within e) none more =
+    subst (λ l. IsReached (l ++ words ∷ [])) (sym e) (books_step range within words (sym (ap (λ l. fault_of l words) e) ∙ none))
+reach words (Outside r) none more = outside_step words r none more
+reach words (WithinScript r) none more = within_step words r none
 
 -- all lines without fault
-pub reach_all : (before more : List Words) → IsReached before → AreFaultless before more → IsReached (before ++ more)
-reach_all before [] r f = subst IsReached (sym (append-nil before)) r
-reach_all before (w ∷ more) r f = subst IsReached (append_assoc before (w ∷ []) more) (reach_all (before ++ w ∷ []) more (reach before w r f.1 f.2) f.3)
+pub reach_all : {before : List Words} (more : List Words) → IsReached before → AreFaultless before more → IsReached (before ++ more)
+reach_all {before} [] r f = subst IsReached (sym (append-nil before)) r
+reach_all {before} (w ∷ more) r f = subst IsReached (append_assoc before (w ∷ []) more) (reach_all more (reach w r f.1 f.2) f.3)

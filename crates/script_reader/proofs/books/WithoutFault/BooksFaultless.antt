@@ -1,31 +1,13 @@
 -- The lines of books in range have no fault.
-use Rattle.std.proofs.Common.{lit<, ◌≡◌, ℕ, ◌+◌, ◌<◌, ◌≤◌, ◌^◌, true, false, not, ◌||◌, ◌==◌, cond, List, [], ◌∷◌, ◌++◌, codes, map, length, Option, Some, None}
-use Rattle.std.proofs.Common.{IsSome, refl, sym, ap, subst, ◌∙◌, append_assoc, arith}
-use Rattle.std.specs.List.{list_any, AllByRecursion}
-use Rattle.std.specs.Cmp.{nat_cmp_total}
-use Rattle.std.specs.Ordering.{nat_cmp, is_eq}
-use Rattle.std.specs.declared.cmp.Ordering.{Ordering}
-use Rattle.std.specs.declared.cmp.Ordering.TheVariants.{Less, Equal, Greater}
-use Rattle.std.specs.FinMap as finmap
-use Rattle.std.specs.FinMap.{find, get-entries, len-entries}
-use Rattle.std.proofs.lemmas.Bool.{eq-eqb}
-use Rattle.std.proofs.lemmas.Cmp.{ranked}
-use Rattle.std.proofs.lemmas.List.{append-nil}
-use Rattle.std.proofs.lemmas.List.Elements.{recursion_from_All}
-use Rattle.books_model.specs.Books.{ClearingBooks, position_cmp}
-use Rattle.books_model.specs.Ranges.{AreInRange, IsCall}
-use Rattle.books_model.specs.declared.limits.TheConstants.{GREATEST_SHORTFALL, MOST_INSTRUMENTS, MOST_RING}
-use Rattle.books_model.proofs.Maps.Trees.{positions_total}
-use Rattle.script_reader.specs.declared.books.version.Version.TheVariants.{One, Two}
-use Rattle.script_reader.specs.Versions.{version_word, most_blocks, greatest_cash, AreBooksWithin}
-use Rattle.script_reader.specs.Lines.{IsWord, AreWords}
-use Rattle.script_reader.specs.ListLanguage.{AreNumbersIn}
-use Rattle.script_reader.specs.Text.{header_words, account_words, price_words, position_words, call_words}
-use Rattle.script_reader.specs.Inner.LinesAsWords.{books_words}
-use Rattle.script_reader.specs.Forms.{Words, accounts, prices, quantities, sizes, books_size_words, are_numbers, are_in_range}
+use Rattle.script_reader.proofs.Common.{lit<, ◌≡◌, ℕ, ◌+◌, ◌<◌, ◌≤◌, ◌^◌, true, false, not, ◌||◌, ◌==◌, cond, List, [], ◌∷◌, ◌++◌, codes, map, length, Option}
+use Rattle.script_reader.proofs.Common.{Some, None, IsSome, refl, sym, ap, subst, ◌∙◌, append_assoc, arith, list_any, AllByRecursion, nat_cmp_total, nat_cmp}
+use Rattle.script_reader.proofs.Common.{is_eq, Ordering, Less, Equal, Greater, find, get-entries, len-entries, eq-eqb, ranked, append-nil, recursion_from_All}
+use Rattle.script_reader.proofs.Common.{ClearingBooks, position_cmp, AreInRange, GREATEST_SHORTFALL, MOST_INSTRUMENTS, MOST_RING, positions_total, One, Two}
+use Rattle.script_reader.proofs.Common.{version_word, most_blocks, greatest_cash, AreBooksWithin, IsWord, AreWords, AreNumbersIn, header_words, account_words}
+use Rattle.script_reader.proofs.Common.{price_words, position_words, call_words, books_words, Words, accounts, prices, quantities, sizes, books_size_words}
+use Rattle.script_reader.proofs.Common.{are_numbers, are_in_range, fault_of, first_reason, header_fault, Version}
+use Rattle.books_model.proofs.Common.{IsCall}
 use Rattle.script_reader.proofs.books.NoneFaulty.{AreFaultless}
-use Rattle.script_reader.specs.Faults.{fault_of, first_reason, header_fault}
-use Rattle.script_reader.specs.declared.fault.Fault.TheVariants as fault
 use Rattle.script_reader.proofs.text.Tokens.Cutting.{word_from_test}
 use Rattle.script_reader.proofs.text.Tokens.Numerals.{number-IsWord}
 use Rattle.script_reader.proofs.books.Versions.{version_known, version_read, blocks_small, cash_small}
@@ -33,10 +15,11 @@ use Rattle.script_reader.proofs.Conditions.{or_right}
 use Rattle.script_reader.proofs.books.Printing.Printed.{Printed, IsSmall}
 use Rattle.script_reader.proofs.language.Listed.Numbers.{texts_are_numbers, texts_are_in_range, both_in, three_in}
 use Rattle.script_reader.proofs.books.Printing.Sections.{rises_entries, rises_follow, number_less, pair_less, each_entry, all_follow}
-use Rattle.script_reader.proofs.books.WithoutFault.Faultless.{IsAccount, IsPrice, IsPosition, IsMarginCall, small_price, small_position}
-use Rattle.script_reader.proofs.books.WithoutFault.Faultless.{accounts_faultless, prices_faultless, positions_faultless, calls_faultless}
-use Rattle.script_reader.specs.declared.books.version.Version.{Version}
+use Rattle.script_reader.proofs.books.WithoutFault.Faultless.{IsAccount, IsPrice, IsPosition, IsMarginCall, small_price, small_position, accounts_faultless}
+use Rattle.script_reader.proofs.books.WithoutFault.Faultless.{prices_faultless, positions_faultless, calls_faultless}
 use Rattle.script_reader.proofs.Judging.{faultless_append}
+use Rattle.std.specs.FinMap as finmap
+use Rattle.script_reader.specs.declared.fault.Fault.TheVariants as fault
 
 -- a key that is found is one of the keys
 pub found_is_given : (a : ℕ) (es : List (ℕ × ℕ)) → IsSome (find nat_cmp a es) → list_any (λ x. x.0 == a) es ≡ true
@@ -71,7 +54,7 @@ pub some_of : {A : Type 0} (o : Option A) → IsSome o → (x : A) × (o ≡ Som
 some_of None h = cc
 some_of (Some x) h = (x, refl)
 
-module _ (b : ClearingBooks) (range : AreInRange b) where
+module _ {b : ClearingBooks} (range : AreInRange b) where
   pub blocks_fit : b.blocks < 2 ^ 64
   blocks_fit = omega (arith, range.blocks.1)
 
@@ -82,8 +65,8 @@ module _ (b : ClearingBooks) (range : AreInRange b) where
   ring_fits = omega (arith, range.ring.1)
 
   -- the entries keep to their ranges
-  pub accounts_are : (version : Version) → AreBooksWithin version b → AllByRecursion (IsAccount version) (finmap.entries b.accounts)
-  accounts_are version within = each_entry nat_cmp nat_cmp_total (IsAccount version) b.accounts (λ e found.
+  pub accounts_are : {version : Version} → AreBooksWithin version b → AllByRecursion (IsAccount version) (finmap.entries b.accounts)
+  accounts_are {version} within = each_entry nat_cmp nat_cmp_total (IsAccount version) b.accounts (λ e found.
       both_in accounts (0, greatest_cash version) ((range.accounts e.0 e.1 found).0, (omega arith, within.cash e.0 e.1 found)) (lit< tt) (cash_small version))
 
   pub prices_are : AllByRecursion (IsPrice b.instruments) (finmap.entries b.prices)
@@ -134,7 +117,7 @@ version_is_word : (version : Version) → IsWord (version_word version)
 version_is_word One = word_from_test (codes "1") refl
 version_is_word Two = word_from_test (codes "2") refl
 
-module _ (version : Version) (b : ClearingBooks) (range : AreInRange b) (within : AreBooksWithin version b) where
+module _ {version : Version} {b : ClearingBooks} (range : AreInRange b) (within : AreBooksWithin version b) where
   -- the header
   pub header_words_are : AreWords (header_words version b)
   header_words_are =
@@ -142,9 +125,9 @@ module _ (version : Version) (b : ClearingBooks) (range : AreInRange b) (within 
       let blocks = word_from_test (codes "blocks") refl in
       let instruments = word_from_test (codes "instruments") refl in
       let ring = word_from_test (codes "ring") refl in
-      let of_blocks = number-IsWord b.blocks (blocks_fit b range) in
-      let of_instruments = number-IsWord b.instruments (instruments_fit b range) in
-      let of_ring = number-IsWord b.ring (ring_fits b range) in
+      let of_blocks = number-IsWord (blocks_fit range) in
+      let of_instruments = number-IsWord (instruments_fit range) in
+      let of_ring = number-IsWord (ring_fits range) in
       record { some = omega arith; each = (title, (version_is_word version, (blocks, (of_blocks, (instruments, (of_instruments, (ring, (of_ring, tt)))))))) }
 
   sizes_within : AreNumbersIn (sizes version) (b.blocks ∷ b.instruments ∷ b.ring ∷ [])
@@ -180,22 +163,22 @@ module _ (version : Version) (b : ClearingBooks) (range : AreInRange b) (within 
         header_has_none,
         refl,
         faultless_append fault_of (h ∷ []) A _
-            (accounts_faultless version b.blocks b.instruments b.ring (blocks_fit b range) (instruments_fit b range) (ring_fits b range) []
-            (finmap.entries b.accounts) tt (accounts_are b range version within) (rises_follow _ _ [] _ (λ x e. number_less x.0 e.0)
+            (accounts_faultless version b.blocks b.instruments b.ring (blocks_fit range) (instruments_fit range) (ring_fits range) []
+            (finmap.entries b.accounts) tt (accounts_are range within) (rises_follow _ _ [] _ (λ x e. number_less x.0 e.0)
             (rises_entries nat_cmp b.accounts)) (omega (arith, room)))
             (faultless_append fault_of (h ∷ A) P _
             (subst (λ l. AreFaultless (h ∷ l) P) (append-nil A)
-            (prices_faultless version b.blocks b.instruments b.ring (blocks_fit b range) (instruments_fit b range) (ring_fits b range)
-            (finmap.entries b.accounts) (small_accounts b range) [] (finmap.entries b.prices) tt (prices_are b range)
+            (prices_faultless version b.blocks b.instruments b.ring (blocks_fit range) (instruments_fit range) (ring_fits range)
+            (finmap.entries b.accounts) (small_accounts range) [] (finmap.entries b.prices) tt (prices_are range)
             (rises_follow _ _ [] _ (λ x e. number_less x.0 e.0) (rises_entries nat_cmp b.prices)) (omega (arith, room))))
             (faultless_append fault_of (h ∷ (A ++ P)) Q _
             (subst (λ l. AreFaultless (h ∷ (A ++ l)) Q) (append-nil P)
-            (positions_faultless version b.blocks b.instruments b.ring (blocks_fit b range) (instruments_fit b range) (ring_fits b range)
-            (finmap.entries b.accounts) (small_accounts b range) (finmap.entries b.prices) (small_prices b range) []
-            (finmap.entries b.positions) tt (positions_are b range) (positions_given b range)
+            (positions_faultless version b.blocks b.instruments b.ring (blocks_fit range) (instruments_fit range) (ring_fits range)
+            (finmap.entries b.accounts) (small_accounts range) (finmap.entries b.prices) (small_prices range) []
+            (finmap.entries b.positions) tt (positions_are range) (positions_given range)
             (rises_follow _ _ [] _ (λ x e. pair_less x.0 e.0) (rises_entries position_cmp b.positions)) (omega (arith, room))))
             (subst (λ l. AreFaultless (h ∷ l) (map call_words b.calls)) (ap (λ l. A ++ (P ++ l)) (append-nil Q) ∙ sym (append_assoc A P Q))
-            (calls_faultless version b.blocks b.instruments b.ring (blocks_fit b range) (instruments_fit b range) (ring_fits b range)
-            (finmap.entries b.accounts) (small_accounts b range) (finmap.entries b.prices) (small_prices b range)
-            (finmap.entries b.positions) (small_positions b range) [] b.calls (calls_are b range) (omega (arith, range.queue)))))),
+            (calls_faultless version b.blocks b.instruments b.ring (blocks_fit range) (instruments_fit range) (ring_fits range)
+            (finmap.entries b.accounts) (small_accounts range) (finmap.entries b.prices) (small_prices range)
+            (finmap.entries b.positions) (small_positions range) [] b.calls (calls_are range) (omega (arith, range.queue)))))),
       )

@@ -1,15 +1,11 @@
 -- The lines of an input have no fault.
-use Rattle.std.proofs.Common.{◌≡◌, ℕ, ◌+◌, ◌<◌, ◌≤◌, ◌^◌, true, ◌==◌, List, [], ◌∷◌, ◌++◌, codes, map, length, refl, subst, length-append, arith}
-use Rattle.std.specs.List.{list_any, AllByRecursion}
-use Rattle.script_reader.specs.declared.books.version.Version.{Version}
+use Rattle.script_reader.proofs.Common.{◌≡◌, ℕ, ◌+◌, ◌<◌, ◌≤◌, ◌^◌, true, ◌==◌, List, [], ◌∷◌, ◌++◌, codes, map, length, refl, subst, length-append, arith}
+use Rattle.script_reader.proofs.Common.{list_any, AllByRecursion, Version, IsWord, AreWords, number, account_words, price_words, position_words, call_words}
+use Rattle.script_reader.proofs.Common.{is_below, AreNumbersIn}
 use Rattle.script_reader.proofs.books.RowRanges.{account_ranges, price_ranges, position_ranges, call_ranges}
-use Rattle.script_reader.specs.Lines.{IsWord, AreWords}
-use Rattle.script_reader.specs.Text.{number, account_words, price_words, position_words, call_words}
 use Rattle.script_reader.proofs.books.NoneFaulty.{AreFaultless}
-use Rattle.script_reader.specs.Faults.{is_below}
 use Rattle.script_reader.proofs.Conditions.{all_append}
 use Rattle.script_reader.proofs.text.Tokens.Cutting.{word_from_test}
-use Rattle.script_reader.specs.ListLanguage.{AreNumbersIn}
 use Rattle.script_reader.proofs.language.Listed.Numbers.{texts_are_words}
 use Rattle.script_reader.proofs.books.Printing.Printed.{Printed, IsSmall, header_of, print}
 use Rattle.script_reader.proofs.books.Printing.Growing.{account_more, price_more, position_more, call_more}
@@ -17,8 +13,8 @@ use Rattle.script_reader.proofs.books.WithoutFault.NoFault.{account_has_none, pr
 use Rattle.script_reader.proofs.books.Printing.Sections.{Rises}
 
 -- a word and numbers behind it are words of a line
-pub row_are_words : (k : List ℕ) (ns : List ℕ) (ranges : List (ℕ × ℕ)) → IsWord k → AreNumbersIn ranges ns → AreWords (k ∷ map number ns)
-row_are_words k ns ranges is h = record { some = omega arith; each = (is, texts_are_words ranges ns h) }
+pub row_are_words : {k : List ℕ} (ns : List ℕ) (ranges : List (ℕ × ℕ)) → IsWord k → AreNumbersIn ranges ns → AreWords (k ∷ map number ns)
+row_are_words ns ranges is h = record { some = omega arith; each = (is, texts_are_words ranges ns h) }
 
 -- what the numbers of entries keep to
 abbrev pub IsAccount : Version → ℕ × ℕ → Type 0
@@ -73,8 +69,8 @@ module _ (version : Version) (blocks instruments ring : ℕ) (small_blocks : blo
   accounts_faultless done [] small all rises room = tt
   accounts_faultless done (e ∷ rest) small all rises room =
       let p : Printed = sized done [] [] [] in (
-        row_are_words (codes "account") (e.0 ∷ e.1 ∷ []) (account_ranges version) (word_from_test (codes "account") refl) all.0,
-        account_has_none p (is_small done [] [] [] small tt tt) e refl refl refl all.0 rises.0 (omega (arith, room)),
+        row_are_words (e.0 ∷ e.1 ∷ []) (account_ranges version) (word_from_test (codes "account") refl) all.0,
+        account_has_none (is_small done [] [] [] small tt tt) e refl refl refl all.0 rises.0 (omega (arith, room)),
         refl,
         subst (λ ls. AreFaultless (header_of p ∷ ls) (map account_words rest)) (account_more done [] [] [] e refl refl refl)
             (accounts_faultless (done ++ e ∷ []) rest
@@ -91,8 +87,8 @@ module _ (version : Version) (blocks instruments ring : ℕ) (small_blocks : blo
     prices_faultless done [] small all rises room = tt
     prices_faultless done (e ∷ rest) small all rises room =
         let p : Printed = sized accounts done [] [] in (
-          row_are_words (codes "price") (e.0 ∷ e.1 ∷ []) (price_ranges instruments) (word_from_test (codes "price") refl) all.0,
-          price_has_none p (is_small accounts done [] [] small_accounts small tt) e refl refl all.0 rises.0 (omega (arith, room)),
+          row_are_words (e.0 ∷ e.1 ∷ []) (price_ranges instruments) (word_from_test (codes "price") refl) all.0,
+          price_has_none (is_small accounts done [] [] small_accounts small tt) e refl refl all.0 rises.0 (omega (arith, room)),
           refl,
           subst (λ ls. AreFaultless (header_of p ∷ ls) (map price_words rest)) (price_more accounts done [] [] e refl refl)
               (prices_faultless (done ++ e ∷ []) rest
@@ -115,8 +111,8 @@ module _ (version : Version) (blocks instruments ring : ℕ) (small_blocks : blo
       positions_faultless done [] small all given rises room = tt
       positions_faultless done (e ∷ rest) small all given rises room =
           let p : Printed = sized accounts prices done [] in (
-            row_are_words (codes "position") (e.0.0 ∷ e.0.1 ∷ e.1 ∷ []) (position_ranges instruments) (word_from_test (codes "position") refl) all.0,
-            position_has_none p (is_small accounts prices done [] small_accounts small_prices small) e refl all.0 rises.0 given.0.0 given.0.1
+            row_are_words (e.0.0 ∷ e.0.1 ∷ e.1 ∷ []) (position_ranges instruments) (word_from_test (codes "position") refl) all.0,
+            position_has_none (is_small accounts prices done [] small_accounts small_prices small) e refl all.0 rises.0 given.0.0 given.0.1
                 (omega (arith, room)),
             refl,
             subst (λ ls. AreFaultless (header_of p ∷ ls) (map position_words rest)) (position_more accounts prices done [] e refl)
@@ -132,8 +128,8 @@ module _ (version : Version) (blocks instruments ring : ℕ) (small_blocks : blo
         calls_faultless done [] all room = tt
         calls_faultless done (e ∷ rest) all room =
             let p : Printed = sized accounts prices positions done in (
-              row_are_words (codes "call") (e.0 ∷ e.1 ∷ []) call_ranges (word_from_test (codes "call") refl) all.0,
-              call_has_none p (is_small accounts prices positions done small_accounts small_prices small_positions) e all.0 (omega (arith, room)),
+              row_are_words (e.0 ∷ e.1 ∷ []) call_ranges (word_from_test (codes "call") refl) all.0,
+              call_has_none (is_small accounts prices positions done small_accounts small_prices small_positions) e all.0 (omega (arith, room)),
               refl,
               subst (λ ls. AreFaultless (header_of p ∷ ls) (map call_words rest))
                   (call_more accounts prices positions done e) (calls_faultless (done ++ e ∷ []) rest all.1 (omega (arith, room, length-append done (e ∷ [])))),

@@ -1,47 +1,29 @@
 -- The lines of scripts have no fault.
-use Rattle.std.proofs.Common.{◌≡◌, ℕ, ◌+◌, ◌≤◌, false, List, [], ◌∷◌, ◌++◌, codes, map}
-use Rattle.std.proofs.Common.{All, sum_by, None, fold, length, refl, sym, ap, subst, ◌∙◌, append_assoc, length-append, arith}
-use Rattle.std.specs.List.{flat_map, AllByRecursion}
-use Rattle.std.proofs.lemmas.Bool.{lt-leb}
-use Rattle.std.proofs.lemmas.List.{append-nil}
-use Rattle.std.proofs.lemmas.List.Concat.{flat_map-append}
-use Rattle.std.proofs.lemmas.List.Elements.{recursion_from_All}
-use Rattle.std.proofs.lemmas.List.Sums.{sum_by-append, sum_by-cons}
-use Rattle.books_model.specs.Books.{ClearingBooks}
-use Rattle.books_model.specs.Ranges.{AreInRange}
-use Rattle.books_model.specs.declared.limits.TheConstants.{MOST_ALTERNATIVES, MOST_OPERATIONS}
-use Rattle.books_model.specs.declared.script.Op.{Op}
-use Rattle.books_model.specs.declared.script.Part.{Part}
-use Rattle.books_model.specs.declared.script.Part.TheVariants as part
-use Rattle.books_model.specs.Scripts.{operations_in, operations_of, alternatives_in}
-use Rattle.books_model.proofs.Scripts.Branches.{All-front, All-back}
-use Rattle.script_reader.specs.declared.limits.TheConstants.{MOST_CALLERS, MOST_SCRIPTS}
-use Rattle.script_reader.specs.Lines.{IsWord}
-use Rattle.script_reader.specs.Text.{books_operation_words, part_words}
+use Rattle.script_reader.proofs.Common.{◌≡◌, ℕ, ◌+◌, ◌≤◌, false, List, [], ◌∷◌, ◌++◌, codes, map, All, sum_by, None, fold, length, refl, sym, ap, subst, ◌∙◌}
+use Rattle.script_reader.proofs.Common.{length-append, arith, flat_map, AllByRecursion, lt-leb, append-nil, recursion_from_All, sum_by-append, sum_by-cons}
+use Rattle.script_reader.proofs.Common.{ClearingBooks, AreInRange, MOST_ALTERNATIVES, MOST_OPERATIONS, Op, Part, operations_in, operations_of, alternatives_in}
+use Rattle.script_reader.proofs.Common.{All-front, All-back, MOST_CALLERS, MOST_SCRIPTS, IsWord, books_operation_words, part_words, Open, BetweenParts, InFirst}
+use Rattle.script_reader.proofs.Common.{InSecond, parts_with, script_words, books_words, books_submission_words, lines_so_far, lines_inside, Submission}
+use Rattle.script_reader.proofs.Common.{callers_of, AreBooksWithin, Words, is_only, inside_fault, fault_of, add_submission, is_beyond_in, IsScriptOf}
+use Rattle.script_reader.proofs.Common.{IsOperationOf, AreCallersOf, Version}
+use Rattle.script_reader.proofs.Joined.{joined}
 use Rattle.script_reader.proofs.books.Regions.{region_of}
-use Rattle.script_reader.specs.Inner.LinesAsWords.{Open, BetweenParts, InFirst, InSecond, parts_with, script_words, books_words}
-use Rattle.script_reader.specs.Inner.LinesAsWords.{books_submission_words, lines_so_far, lines_inside}
-use Rattle.script_reader.specs.Input.{Submission, callers_of, count_scripts}
-use Rattle.script_reader.specs.Versions.{AreBooksWithin}
-use Rattle.script_reader.specs.Forms.{Words, is_only}
+use Rattle.script_reader.specs.Input.{count_scripts}
 use Rattle.script_reader.proofs.books.NoneFaulty.{AreFaultless}
-use Rattle.script_reader.specs.Faults.{inside_fault, fault_of}
 use Rattle.script_reader.proofs.text.Tokens.Cutting.{word_from_test}
 use Rattle.script_reader.proofs.books.Printing.Scripted.{ended, outside_fault_is, inside_fault_is}
 use Rattle.script_reader.proofs.books.OperationRows.{no_finish, operation-AreWords}
-use Rattle.script_reader.proofs.books.Printing.Opened.{parts_more, open_more, words_more, operations_more, words_try, operations_try, words_else}
-use Rattle.script_reader.proofs.books.Printing.Opened.{inside_more, rest_of_branch, first_count}
+use Rattle.script_reader.proofs.books.Printing.Opened.{parts_more, open_more, words_more, operations_more, words_try, operations_try, words_else, inside_more}
+use Rattle.script_reader.proofs.books.Printing.Opened.{rest_of_branch, first_count}
 use Rattle.script_reader.proofs.books.WithoutFault.NoFault.{operation_has_none, try_fault, scripts_has_none}
 use Rattle.script_reader.proofs.books.WithoutFault.BooksFaultless.{printed, printed_small, instruments_fit, books_faultless}
 use Rattle.script_reader.proofs.language.Grouped.Submitting.{IsGoodScript, scripts_are_good, caller-AreWords}
 use Rattle.script_reader.proofs.language.Grouped.Grouping.{callers_of-push, callers_of-gathered}
 use Rattle.script_reader.proofs.language.Grouped.Outside.{outside_none, room_for}
-use Rattle.script_reader.specs.Inner.Gatherings.{add_submission, is_beyond_in}
-use Rattle.script_reader.specs.Inner.OfVersion.{IsScriptOf, IsOperationOf, AreCallersOf}
-use Rattle.script_reader.specs.declared.books.version.Version.{Version}
 use Rattle.script_reader.proofs.Judging.{faultless_append}
+use Rattle.books_model.specs.declared.script.Part.TheVariants as part
 
-module _ (version : Version) (b : ClearingBooks) (range : AreInRange b) where
+module _ (version : Version) {b : ClearingBooks} (range : AreInRange b) where
   -- lines behind scripts that have ended
   before : List Submission → List Words
   before subs = books_words version b ++ ended subs
@@ -52,9 +34,9 @@ module _ (version : Version) (b : ClearingBooks) (range : AreInRange b) where
       → AreFaultless (lines_inside version b subs name parts stage) (map books_operation_words rest)
   operations_faultless subs name parts stage [] all room = tt
   operations_faultless subs name parts stage (o ∷ rest) all room = (
-    operation-AreWords version b (instruments_fit b range) o all.0,
-    inside_fault_is (printed version b) subs name parts stage (books_operation_words o) (printed_small b range version)
-        ∙ operation_has_none version b (instruments_fit b range) (region_of stage) (length (operations_of (parts_with parts stage))) _
+    operation-AreWords version b (instruments_fit range) o all.0,
+    inside_fault_is subs name parts stage (books_operation_words o) (printed_small range version)
+        ∙ operation_has_none version b (instruments_fit range) (region_of stage) (length (operations_of (parts_with parts stage))) _
         (omega (arith, room)) o all.0,
     no_finish o,
     subst (λ ls. AreFaultless ls (map books_operation_words rest))
@@ -71,7 +53,7 @@ module _ (version : Version) (b : ClearingBooks) (range : AreInRange b) where
       → AreFaultless (lines_inside version b subs name parts stage) ((word ∷ []) ∷ [])
   turning_faultless subs name parts stage word is more none = (
     record { some = omega arith; each = (is, tt) },
-    inside_fault_is (printed version b) subs name parts stage (word ∷ []) (printed_small b range version) ∙ none,
+    inside_fault_is subs name parts stage (word ∷ []) (printed_small range version) ∙ none,
     more,
     tt,
   )
@@ -96,7 +78,7 @@ module _ (version : Version) (b : ClearingBooks) (range : AreInRange b) where
       faultless_append fault_of start ((codes "try" ∷ []) ∷ [])
       (map books_operation_words first ++ ((codes "else" ∷ []) ∷ (map books_operation_words second ++ (codes "done" ∷ []) ∷ [])))
       (turning_faultless subs name parts BetweenParts (codes "try") (word_from_test (codes "try") refl) refl
-      (try_fault version b.instruments (length (operations_of parts)) (sum_by alternatives_in parts) false
+      (try_fault version b.instruments (length (operations_of parts)) (sum_by alternatives_in parts)
       (lt-leb MOST_ALTERNATIVES (sum_by alternatives_in parts) (omega (arith, few)))))
       (subst (λ ls. AreFaultless ls (map books_operation_words first ++
       ((codes "else" ∷ []) ∷ (map books_operation_words second ++ (codes "done" ∷ []) ∷ [])))) begun
@@ -123,10 +105,7 @@ module _ (version : Version) (b : ClearingBooks) (range : AreInRange b) where
       → AreFaultless (lines_inside version b subs name done BetweenParts) (flat_map part_words rest)
   parts_faultless subs name done [] all room few = tt
   parts_faultless subs name done (p ∷ rest) all room few =
-      let one : flat_map part_words (p ∷ []) ≡ part_words p = append-nil (part_words p) in
-      let more : script_words (done ++ p ∷ []) BetweenParts ≡ script_words done BetweenParts ++ part_words p =
-      append-nil (flat_map part_words (done ++ p ∷ [])) ∙ flat_map-append part_words done (p ∷ [])
-      ∙ (λ i. sym (append-nil (flat_map part_words done)) i ++ one i) in
+      let more : script_words (done ++ p ∷ []) BetweenParts ≡ script_words done BetweenParts ++ part_words p = simp joined in
       let long = length-append (operations_in p) (operations_of rest) in
       let counted = sum_by-cons alternatives_in p rest in
       faultless_append fault_of (lines_inside version b subs name done BetweenParts) (part_words p) (flat_map part_words rest)
@@ -135,21 +114,13 @@ module _ (version : Version) (b : ClearingBooks) (range : AreInRange b) where
       (subst (λ ls. AreFaultless ls (flat_map part_words rest))
       (inside_more version b subs name done (done ++ p ∷ []) BetweenParts BetweenParts (part_words p) more)
       (parts_faultless subs name (done ++ p ∷ []) rest (All-back (IsOperationOf version b) (operations_in p) (operations_of rest) all)
-      (omega (
-        arith,
-        room,
-        long,
-        ap length (flat_map-append operations_in done (p ∷ [])),
-        length-append (operations_of done)
-            (operations_in p ++ []),
-        length-append (operations_in p) [],
-      ))
+      (simp (length-append, joined) (omega (arith, room, long)))
       (omega (arith, few, counted, sum_by-append alternatives_in done (p ∷ [])))))
 
   -- a script behind others
-  submission_faultless : (done : List Submission) (s : Submission) → IsGoodScript (IsScriptOf version b) s
+  submission_faultless : (done : List Submission) {s : Submission} → IsGoodScript (IsScriptOf version b) s
       → is_beyond_in (callers_of done) s.caller ≡ false → AreFaultless (lines_so_far version b done) (books_submission_words s)
-  submission_faultless done s good room = (
+  submission_faultless done {s} good room = (
     caller-AreWords s.caller good.name,
     outside_fault_is (printed version b) done (codes "script" ∷ s.caller ∷ []) ∙ outside_none (callers_of done) s.caller good.name room,
     refl,
@@ -166,13 +137,9 @@ module _ (version : Version) (b : ClearingBooks) (range : AreInRange b) where
   submissions_faultless done [] all few space = tt
   submissions_faultless done (s ∷ rest) all few space =
       let push = callers_of-push done s in
-      let one : flat_map books_submission_words (s ∷ []) ≡ books_submission_words s = append-nil (books_submission_words s) in
-      let more : lines_so_far version b done ++ books_submission_words s ≡ lines_so_far version b (done ++ s ∷ []) =
-      append_assoc (books_words version b) (ended done) (books_submission_words s)
-      ∙ ap (λ l. books_words version b ++ ((codes "scripts" ∷ []) ∷ l)) (ap (λ l. flat_map books_submission_words done ++ l) (sym one)
-      ∙ sym (flat_map-append books_submission_words done (s ∷ []))) in
+      let more : lines_so_far version b done ++ books_submission_words s ≡ lines_so_far version b (done ++ s ∷ []) = simp joined in
       faultless_append fault_of (lines_so_far version b done) (books_submission_words s) (flat_map books_submission_words rest)
-      (submission_faultless done s all.0 (room_for (callers_of done) s rest few space))
+      (submission_faultless done all.0 (room_for (callers_of done) s rest few space))
       (subst (λ ls. AreFaultless ls (flat_map books_submission_words rest)) (sym more)
       (submissions_faultless (done ++ s ∷ []) rest all.1
       (subst (λ c. count_scripts (fold add_submission c rest) ≤ MOST_SCRIPTS) (sym push) few)
@@ -189,9 +156,9 @@ module _ (version : Version) (b : ClearingBooks) (range : AreInRange b) where
   -- all lines of an input before its last
   pub input_faultless : AreBooksWithin version b → (subs : List Submission) → AreCallersOf version b (callers_of subs)
       → AreFaultless [] (lines_so_far version b subs)
-  input_faultless within subs valid = faultless_append fault_of [] (books_words version b) (ended subs) (books_faultless version b range within) (
+  input_faultless within subs valid = faultless_append fault_of [] (books_words version b) (ended subs) (books_faultless range within) (
     record { some = omega arith; each = (word_from_test (codes "scripts") refl, tt) },
-    scripts_has_none (printed version b) (printed_small b range version),
+    scripts_has_none (printed_small range version),
     refl,
     scripts_faultless subs valid,
   )

@@ -1,9 +1,4 @@
-use Rattle.std.proofs.Common.{◌≡◌, ◌++◌, List, length}
-use Rattle.std.specs.List.{flat_map}
-use Rattle.script_reader.specs.Versions.{AreBooksWithin}
-use Rattle.script_reader.specs.Text.{line}
-use Rattle.script_reader.specs.Inner.LinesAsWords.{books_words}
-use Rattle.script_reader.specs.Forms.{Words}
+use Rattle.script_reader.proofs.Common.{◌≡◌, ◌++◌, List, length, flat_map, AreBooksWithin, line, books_words, Words}
 use Rattle.script_reader.proofs.books.fill.Given as goal
 
 abbrev pub invariant-loop-words : goal.invariant-loop-words

@@ -1,6 +1,4 @@
-use Rattle.std.proofs.Common.{◌≡◌, nat_lt, true, List, [], ◌∷◌, length, refl, ap, ◌∙◌, arith}
-use Rattle.std.specs.List.{list_any}
-use Rattle.std.proofs.lemmas.Bool.{lt-ltb}
+use Rattle.script_reader.proofs.Common.{◌≡◌, nat_lt, true, List, [], ◌∷◌, length, refl, ap, ◌∙◌, arith, list_any, lt-ltb}
 use Rattle.script_reader.proofs.books.has_calls.Goals as goal
 
 -- a list with elements is longer than 0

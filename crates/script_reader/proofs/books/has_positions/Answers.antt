@@ -1,13 +1,8 @@
-use Rattle.std.proofs.Common.{◌||◌, ◌&&◌, ◌==◌, true, nat_lt, ap, ◌∙◌, arith}
-use Rattle.std.specs.Option.{is_some}
-use Rattle.std.specs.Ordering.{is_lt}
-use Rattle.std.specs.FinMap as map
-use Rattle.std.proofs.lemmas.Bool.{lt-ltb}
-use Rattle.books_model.specs.Books.{position_cmp}
-use Rattle.books_model.proofs.Maps.Trees.{positions_total}
+use Rattle.script_reader.proofs.Common.{◌||◌, ◌&&◌, ◌==◌, true, nat_lt, ap, ◌∙◌, arith, is_some, is_lt, lt-ltb, position_cmp, positions_total}
 use Rattle.script_reader.proofs.books.Printing.Sections.{each_entry, less_pair}
 use Rattle.script_reader.proofs.books.WithoutFault.BooksFaultless.{some_of}
 use Rattle.script_reader.proofs.Finding.{found_any, map_found}
+use Rattle.std.specs.FinMap as map
 use Rattle.script_reader.proofs.books.has_positions.Goals as goal
 
 pub returns : goal.returns

@@ -1,8 +1,4 @@
-use Rattle.std.proofs.Common.{true, nat_lt, ap, ◌∙◌, arith}
-use Rattle.std.specs.Option.{is_some}
-use Rattle.std.specs.Cmp.{nat_cmp_total}
-use Rattle.std.specs.Ordering.{nat_cmp}
-use Rattle.std.proofs.lemmas.Bool.{lt-ltb}
+use Rattle.script_reader.proofs.Common.{true, nat_lt, ap, ◌∙◌, arith, is_some, nat_cmp_total, nat_cmp, lt-ltb}
 use Rattle.script_reader.proofs.books.Printing.Sections.{each_entry}
 use Rattle.script_reader.proofs.Finding.{found_any}
 use Rattle.script_reader.proofs.books.has_prices.Goals as goal

@@ -1,12 +1,7 @@
-use Rattle.std.proofs.Common.{◌≡◌, sym, subst, ◌∙◌}
-use Rattle.books_model.specs.declared.limits.TheConstants.{MOST_BLOCKS, MOST_INSTRUMENTS, MOST_RING}
-use Rattle.books_model.specs.Books.{empty_books}
-use Rattle.books_model.specs.Ranges.{IsWithin}
-use Rattle.script_reader.specs.Versions.{AreBooksWithin}
-use Rattle.script_reader.specs.Inner.LinesAsWords.{books_words}
+use Rattle.script_reader.proofs.Common.{◌≡◌, sym, subst, ◌∙◌, MOST_BLOCKS, MOST_INSTRUMENTS, MOST_RING, empty_books, IsWithin, AreBooksWithin, books_words}
 use Rattle.script_reader.proofs.books.Printing.Extending.{header_adds, books_of_header}
-use Rattle.script_reader.proofs.books.header_of.Goals as goal
 use Rattle.script_reader.proofs.books.header_of.Goals.{After-new}
+use Rattle.script_reader.proofs.books.header_of.Goals as goal
 
 pub new-requires-clause-blocks : goal.new-requires-clause-blocks
 new-requires-clause-blocks c =

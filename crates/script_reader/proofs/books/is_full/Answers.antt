@@ -1,6 +1,5 @@
-use Rattle.std.proofs.Common.{◌≡◌, ◌+◌, nat_le, length, arith}
+use Rattle.script_reader.proofs.Common.{◌≡◌, ◌+◌, nat_le, length, arith, len-entries}
 use Rattle.std.specs.FinMap as map
-use Rattle.std.specs.FinMap.{len-entries}
 use Rattle.script_reader.proofs.books.is_full.Goals as goal
 
 pub returns : goal.returns

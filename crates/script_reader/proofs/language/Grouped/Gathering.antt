@@ -1,18 +1,14 @@
 -- Callers that are gathered one script at a time.
-use Rattle.std.proofs.Common.{◌≡◌, ℕ, suc, zero, ◌+◌, ◌<◌, ◌≤◌, Bool, true, false, not, cond, ◌||◌, List, [], ◌∷◌, ◌++◌, map, length, set, slice_index_or}
-use Rattle.std.proofs.Common.{if◌then◌else◌, nat_lt, Some, None, refl, sym, ap, ◌∙◌, length-append, arith}
-use Rattle.std.specs.List.{list_any, position, position_or_len}
-use Rattle.std.specs.Str.{bytes_eq}
-use Rattle.std.proofs.lemmas.List.{map-append, length-map}
-use Rattle.std.proofs.lemmas.Option.{same_Some}
-use Rattle.std.proofs.lemmas.List.Sums.{sum_by-cons}
-use Rattle.script_reader.specs.Gathered.{CallerOf, SubmissionOf, count_scripts, add_name}
-use Rattle.script_reader.specs.Inner.Gatherings.{beside, add_submission, is_caller, put_script}
+use Rattle.script_reader.proofs.Common.{◌≡◌, ℕ, suc, zero, ◌+◌, ◌<◌, ◌≤◌, Bool, true, false, not, cond, ◌||◌, List, [], ◌∷◌, ◌++◌, map, length, set}
+use Rattle.script_reader.proofs.Common.{slice_index_or, if◌then◌else◌, nat_lt, Some, None, refl, sym, ap, ◌∙◌, length-append, arith, list_any, position}
+use Rattle.script_reader.proofs.Common.{position_or_len, bytes_eq, map-append, length-map, same_Some, sum_by-cons, CallerOf, SubmissionOf, count_scripts}
+use Rattle.script_reader.proofs.Common.{add_name, beside, add_submission, is_caller}
+use Rattle.script_reader.specs.Inner.Gatherings.{put_script}
 
 -- a choice between two lists, behind one element
-pub choice-cons : {A : Type 0} (b : Bool) (x : A) (xs ys : List A) → (if b then x ∷ xs else x ∷ ys) ≡ x ∷ (if b then xs else ys)
-choice-cons true x xs ys = refl
-choice-cons false x xs ys = refl
+pub choice-cons : {A : Type 0} (b : Bool) {x : A} (xs ys : List A) → (if b then x ∷ xs else x ∷ ys) ≡ x ∷ (if b then xs else ys)
+choice-cons true xs ys = refl
+choice-cons false xs ys = refl
 
 -- the place of a name among keys is that of its bytes
 pub position-map : {K : Type 0} (bytes : K → List ℕ) (name : List ℕ) (keys : List K)
@@ -27,16 +23,16 @@ any-map bytes name [] = refl
 any-map bytes name (k ∷ keys) = ap (λ b. bytes_eq name (bytes k) || b) (any-map bytes name keys)
 
 -- the place at which a test is passed first is the place that is counted
-pub position-found : {K : Type 0} (test : K → Bool) (keys : List K) (place : ℕ) → position test keys ≡ Some place → position_or_len test keys ≡ place
-position-found test keys place = by (nat_lt (position_or_len test keys) (length keys))
+pub position-found : {K : Type 0} (test : K → Bool) (keys : List K) {place : ℕ} → position test keys ≡ Some place → position_or_len test keys ≡ place
+position-found test keys {place} = by (nat_lt (position_or_len test keys) (length keys))
   where
     by : (b : Bool) → cond b (Some (position_or_len test keys)) None ≡ Some place → position_or_len test keys ≡ place
     by true found = same_Some (position_or_len test keys) place found
     by false found = absurd (cc)
 
 -- a name that is known is not added
-pub name-known : (names : List (List ℕ)) (name : List ℕ) → list_any (bytes_eq name) names ≡ true → names ≡ add_name names name
-name-known names name known = sym (ap (λ b. if b then names else names ++ name ∷ []) known)
+pub name-known : {names : List (List ℕ)} (name : List ℕ) → list_any (bytes_eq name) names ≡ true → names ≡ add_name names name
+name-known {names} name known = sym (ap (λ b. if b then names else names ++ name ∷ []) known)
 
 -- a new key is a new name
 pub keys-add : {K : Type 0} (bytes : K → List ℕ) (keys : List K) (key : K)
@@ -83,7 +79,7 @@ module _ {S : Type 0} where
       by false there place rest =
           let later : 1 + place ≡ suc place = omega arith in
           ap (λ p. beside (if there then n ∷ names else (n ∷ names) ++ s.caller ∷ []) (put_script (x ∷ scripts) p s.script)) later
-          ∙ ap (λ l. beside l (x ∷ put_script scripts place s.script)) (choice-cons there n names (names ++ s.caller ∷ []))
+          ∙ ap (λ l. beside l (x ∷ put_script scripts place s.script)) (choice-cons there names (names ++ s.caller ∷ []))
           ∙ ap (λ l. record { name = n; scripts = x } ∷ l) rest
 
   -- names and scripts stay beside each other
@@ -101,7 +97,7 @@ module _ {S : Type 0} where
       by true there place rest = e
       by false there place rest =
           let later : 1 + place ≡ suc place = omega arith in
-          ap length (choice-cons there n names (names ++ name ∷ [])) ∙ ap suc rest ∙ ap (λ p. length (put_script (x ∷ scripts) p script)) (sym later)
+          ap length (choice-cons there names (names ++ name ∷ [])) ∙ ap suc rest ∙ ap (λ p. length (put_script (x ∷ scripts) p script)) (sym later)
 
   -- each script that is added counts
   pub count-add : (callers : List (CallerOf S)) (s : SubmissionOf S) → count_scripts (add_submission callers s) ≡ count_scripts callers + 1
@@ -126,18 +122,18 @@ module _ {S : Type 0} where
       )
 
   -- a list of scripts with one more at a place
-  pub map-set-put : {V : Type 0} (view : V → List S) (xs : List V) (i : ℕ) (old new : V) (script : S)
+  pub map-set-put : {V : Type 0} (view : V → List S) (xs : List V) (i : ℕ) {old : V} (new : V) (script : S)
       → i < length xs → slice_index_or xs i old ≡ old → view new ≡ view old ++ script ∷ [] → map view (set xs i new) ≡ put_script (map view xs) i script
-  map-set-put view [] i old new script less at e = absurd (omega arith)
-  map-set-put view (x ∷ xs) zero old new script less at e = ap (λ v. v ∷ map view xs) (e ∙ ap (λ o. view o ++ script ∷ []) (sym at))
-  map-set-put view (x ∷ xs) (suc i) old new script less at e = ap (λ l. view x ∷ l) (map-set-put view xs i old new script (omega arith) at e)
+  map-set-put view [] i new script less at e = absurd (omega arith)
+  map-set-put view (x ∷ xs) zero new script less at e = ap (λ v. v ∷ map view xs) (e ∙ ap (λ o. view o ++ script ∷ []) (sym at))
+  map-set-put view (x ∷ xs) (suc i) new script less at e = ap (λ l. view x ∷ l) (map-set-put view xs i new script (omega arith) at e)
 
   -- a list of scripts with one more caller
-  pub map-push-put : {V : Type 0} (view : V → List S) (xs : List V) (i : ℕ) (new : V) (script : S)
+  pub map-push-put : {V : Type 0} (view : V → List S) (xs : List V) (i : ℕ) (new : V) {script : S}
       → length xs ≤ i → view new ≡ script ∷ [] → map view (xs ++ new ∷ []) ≡ put_script (map view xs) i script
-  map-push-put view [] i new script past e = ap (λ v. v ∷ []) e
-  map-push-put view (x ∷ xs) zero new script past e = absurd (omega arith)
-  map-push-put view (x ∷ xs) (suc i) new script past e = ap (λ l. view x ∷ l) (map-push-put view xs i new script (omega arith) e)
+  map-push-put view [] i new past e = ap (λ v. v ∷ []) e
+  map-push-put view (x ∷ xs) zero new past e = absurd (omega arith)
+  map-push-put view (x ∷ xs) (suc i) new past e = ap (λ l. view x ∷ l) (map-push-put view xs i new (omega arith) e)
 
   module _ {K V : Type 0} (bytes : K → List ℕ) (view : V → List S) (keys : List K) (xs : List V) (even : length keys ≡ length xs) where
     -- so are their views
@@ -152,7 +148,7 @@ module _ {S : Type 0} where
     pub has_caller : (name : List ℕ) → is_caller name (beside (map bytes keys) (map view xs)) ≡ list_any (λ k. bytes_eq name (bytes k)) keys
     has_caller name = is_caller-beside name (map bytes keys) (map view xs) even_views ∙ sym (any-map bytes name keys)
 
-    module _ (keys' : List K) (xs' : List V) (name : List ℕ) (script : S) (place : ℕ)
+    module _ (keys' : List K) (xs' : List V) (name : List ℕ) (script : S) {place : ℕ}
         (names_after : map bytes keys' ≡ add_name (map bytes keys) name)
         (at : place ≡ position_or_len (bytes_eq name) (map bytes keys))
         (put : map view xs' ≡ put_script (map view xs) place script) where

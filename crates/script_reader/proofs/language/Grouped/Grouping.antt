@@ -1,17 +1,14 @@
 -- The callers of a text's scripts are those that are gathered one script at a time.
-use Rattle.std.proofs.Common.{◌≡◌, ℕ, Bool, true, false, cond, ◌||◌, List, [], ◌∷◌, ◌++◌, map, filter, fold, if◌then◌else◌, refl, sym, ap, ◌∙◌, append_assoc}
-use Rattle.std.proofs.Common.{true≢false}
-use Rattle.std.specs.List.{list_any, AllByRecursion, IsDistinct}
-use Rattle.std.specs.Str.{bytes_eq}
+use Rattle.script_reader.proofs.Common.{◌≡◌, ℕ, Bool, true, false, cond, ◌||◌, List, [], ◌∷◌, ◌++◌, map, filter, fold, if◌then◌else◌, refl, sym, ap, ◌∙◌}
+use Rattle.script_reader.proofs.Common.{append_assoc, arith, list_any, AllByRecursion, bytes_eq, map-append, append-nil, filter-append, fold_push}
+use Rattle.script_reader.proofs.Common.{bytes_eq-Decides, CallerOf, SubmissionOf, add_name, first_seen, scripts_by, add_submission}
+use Rattle.std.specs.List.{IsDistinct}
 use Rattle.std.specs.Cmp.{IsEquivalence}
 use Rattle.std.specs.Cmp.Lexicographic.{nat_list_eq_equiv}
-use Rattle.std.proofs.lemmas.List.{map-append, append-nil}
-use Rattle.std.proofs.lemmas.List.Elements.{filter-append}
-use Rattle.std.proofs.lemmas.List.Sums.{fold_push}
 use Rattle.std.proofs.lemmas.Map.Keys.{IsDistinct-head, IsDistinct-tail, IsDistinct-push}
-use Rattle.std.proofs.lemmas.Slice.Eq.{bytes_eq-Decides}
-use Rattle.script_reader.specs.Gathered.{CallerOf, SubmissionOf, add_name, first_seen, scripts_by, callers_of}
-use Rattle.script_reader.specs.Inner.Gatherings.{add_submission}
+use Rattle.script_reader.specs.Gathered.{callers_of}
+use Rattle.std.proofs.lemmas.List.Folds.{list_any-append}
+use Rattle.script_reader.proofs.Conditions.{or_assoc, or_false}
 
 -- equal bytes are equal texts, and texts that are equal to one another are equal to the same others
 pub laws : IsEquivalence bytes_eq
@@ -19,16 +16,7 @@ laws = nat_list_eq_equiv
 
 -- some name of a list with one more is the given one
 any-push : (c x : List ℕ) (seen : List (List ℕ)) → list_any (bytes_eq c) (seen ++ x ∷ []) ≡ (list_any (bytes_eq c) seen || bytes_eq c x)
-any-push c x [] = by (bytes_eq c x)
-  where
-    by : (b : Bool) → (b || false) ≡ (false || b)
-    by true = refl
-    by false = refl
-any-push c x (y ∷ seen) = ap (λ b. bytes_eq c y || b) (any-push c x seen) ∙ by (bytes_eq c y) (list_any (bytes_eq c) seen) (bytes_eq c x)
-  where
-    by : (p q r : Bool) → (p || (q || r)) ≡ ((p || q) || r)
-    by true q r = refl
-    by false q r = refl
+any-push c x seen = simp (list_any-append, or_false)
 
 -- what is equal to a name that is there is there
 any-same : (c x : List ℕ) (seen : List (List ℕ)) → bytes_eq c x ≡ true → list_any (bytes_eq x) seen ≡ list_any (bytes_eq c) seen
@@ -42,26 +30,15 @@ any-add_name c x seen = by (list_any (bytes_eq x) seen) refl (bytes_eq c x) refl
         → list_any (bytes_eq c) (if there then seen else seen ++ x ∷ []) ≡ (list_any (bytes_eq c) seen || same)
     by false e same f = any-push c x seen ∙ ap (λ b. list_any (bytes_eq c) seen || b) f
     by true e true f = let here : list_any (bytes_eq c) seen ≡ true = sym (any-same c x seen f) ∙ e in rw here refl
-    by true e false f = right_false (list_any (bytes_eq c) seen)
-      where
-        right_false : (b : Bool) → b ≡ (b || false)
-        right_false true = refl
-        right_false false = refl
+    by true e false f = sym (or_false (list_any (bytes_eq c) seen))
 
 -- the names that are first seen are all the names
 pub any-seen : (c : List ℕ) (names seen : List (List ℕ)) → list_any (bytes_eq c) (fold add_name seen names)
     ≡ (list_any (bytes_eq c) seen || list_any (bytes_eq c) names)
-any-seen c [] seen = by (list_any (bytes_eq c) seen)
-  where
-    by : (b : Bool) → b ≡ (b || false)
-    by true = refl
-    by false = refl
+any-seen c [] seen = sym (or_false (list_any (bytes_eq c) seen))
 any-seen c (x ∷ names) seen = any-seen c names (add_name seen x)
-    ∙ ap (λ b. b || list_any (bytes_eq c) names) (any-add_name c x seen) ∙ by (list_any (bytes_eq c) seen) (bytes_eq c x) (list_any (bytes_eq c) names)
-  where
-    by : (p q r : Bool) → ((p || q) || r) ≡ (p || (q || r))
-    by true q r = refl
-    by false q r = refl
+    ∙ ap (λ b. b || list_any (bytes_eq c) names) (any-add_name c x seen)
+    ∙ or_assoc (list_any (bytes_eq c) seen) (bytes_eq c x) (list_any (bytes_eq c) names)
 
 -- a name that may be new leaves the names distinct
 pub add_name-distinct : (seen : List (List ℕ)) (x : List ℕ) → IsDistinct bytes_eq seen → IsDistinct bytes_eq (add_name seen x)
@@ -85,13 +62,7 @@ module _ {S : Type 0} where
   -- a name that no script has has no scripts
   no-scripts : (c : List ℕ) (subs : List (SubmissionOf S)) → list_any (bytes_eq c) (map (λ s. s.caller) subs) ≡ false → scripts_by c subs ≡ []
   no-scripts c [] none = refl
-  no-scripts c (s ∷ subs) none = by (bytes_eq c s.caller) none (no-scripts c subs)
-    where
-      by : (b : Bool) → (b || list_any (bytes_eq c) (map (λ s. s.caller) subs)) ≡ false
-          → (list_any (bytes_eq c) (map (λ s. s.caller) subs) ≡ false → scripts_by c subs ≡ [])
-          → map (λ s. s.script) (cond b (s ∷ filter (λ s. bytes_eq c s.caller) subs) (filter (λ s. bytes_eq c s.caller) subs)) ≡ []
-      by true there rest = absurd (true≢false there)
-      by false there rest = rest there
+  no-scripts c (s ∷ subs) none = grind (arith, no-scripts c subs, none)
 
   -- the scripts of a caller after one more script
   scripts_by-push : (n : List ℕ) (subs : List (SubmissionOf S)) (s : SubmissionOf S)
@@ -120,11 +91,11 @@ module _ {S : Type 0} where
         ∙ ap (λ l. record { name = n; scripts = l }) (append-nil (scripts n))
 
     -- and so do all others
-    others : (c : List ℕ) → c ≡ s.caller → (names : List (List ℕ)) → AllByRecursion (λ m. bytes_eq c m ≡ false) names → map has names ≡ map had names
-    others c same [] apart = refl
-    others c same (n ∷ names) apart =
+    others : {c : List ℕ} → c ≡ s.caller → (names : List (List ℕ)) → AllByRecursion (λ m. bytes_eq c m ≡ false) names → map has names ≡ map had names
+    others same [] apart = refl
+    others {c} same (n ∷ names) apart =
         let away : bytes_eq n s.caller ≡ false = ap (bytes_eq n) (sym same) ∙ laws.symm n c ∙ apart.0 in
-        ap (λ x. x ∷ map has names) (other n away) ∙ ap (λ l. had n ∷ l) (others c same names apart.1)
+        ap (λ x. x ∷ map has names) (other n away) ∙ ap (λ l. had n ∷ l) (others same names apart.1)
 
     -- one more script, among distinct names
     add-had : (names : List (List ℕ)) → IsDistinct bytes_eq names
@@ -150,7 +121,7 @@ module _ {S : Type 0} where
             append-nil (has n ∷ map has names)
             ∙ ap (λ x. x ∷ map has names) own
             ∙ ap (λ l. record { name = n; scripts = scripts n ++ s.script ∷ [] } ∷ l)
-            (others n (sym ((bytes_eq-Decides s.caller n).0 e)) names (IsDistinct-head bytes_eq n names apart))
+            (others (sym ((bytes_eq-Decides s.caller n).0 e)) names (IsDistinct-head bytes_eq n names apart))
         by false e rest =
             ap (λ x. x ∷ (map has names ++ (if list_any (bytes_eq s.caller) names then [] else record {
               name =

@@ -1,33 +1,22 @@
 -- What is wrong with a line between scripts, by the callers of the scripts before it.
-use Rattle.std.proofs.Common.{◌≡◌, ℕ, ◌+◌, ◌<◌, ◌≤◌, Bool, true, false, not, ◌&&◌, ◌||◌, nat_le, cond, List, [], ◌∷◌, codes, map, filter, fold, length, Option}
-use Rattle.std.proofs.Common.{Some, None, refl, sym, ap, subst, ◌∙◌, arith}
-use Rattle.std.specs.List.{list_any, count_by}
-use Rattle.std.specs.Str.{bytes_eq}
-use Rattle.std.proofs.lemmas.Bool.{lt-leb, leb-false}
-use Rattle.std.proofs.lemmas.List.{length-map}
-use Rattle.std.proofs.lemmas.List.Sums.{sum_by-cons}
-use Rattle.script_reader.specs.declared.limits.TheConstants.{MOST_CALLERS, MOST_SCRIPTS}
-use Rattle.script_reader.specs.declared.fault.Fault.{Fault}
-use Rattle.script_reader.specs.declared.fault.Fault.TheVariants as fault
-use Rattle.script_reader.specs.Lines.{word_at}
-use Rattle.script_reader.specs.Forms.{Words, begins, is_only, is_script_line}
-use Rattle.script_reader.specs.Faults.{first_reason, callers_before, is_beyond, outside_fault}
-use Rattle.script_reader.specs.Gathered.{CallerOf, SubmissionOf, AreCallers, IsName, is_name, first_seen, callers_of, count_scripts, scripts_by}
-use Rattle.script_reader.specs.Inner.Gatherings.{is_caller, add_submission, is_beyond_in}
-use Rattle.script_reader.proofs.Conditions.{any_last, both, neither, passed}
+use Rattle.script_reader.proofs.Common.{◌≡◌, ℕ, ◌<◌, ◌≤◌, Bool, true, false, not, ◌&&◌, ◌||◌, nat_le, cond, List, [], ◌∷◌, codes, map, filter, fold, length}
+use Rattle.script_reader.proofs.Common.{Option, Some, None, refl, sym, ap, subst, ◌∙◌, arith, list_any, count_by, bytes_eq, length-map, sum_by-cons, nat_tests}
+use Rattle.script_reader.proofs.Common.{MOST_CALLERS, MOST_SCRIPTS, Fault, word_at, Words, begins, is_only, is_script_line, first_reason, is_beyond}
+use Rattle.script_reader.proofs.Common.{outside_fault, CallerOf, SubmissionOf, AreCallers, first_seen, count_scripts, scripts_by, is_caller, add_submission}
+use Rattle.script_reader.proofs.Common.{is_beyond_in}
+use Rattle.script_reader.specs.Faults.{callers_before}
+use Rattle.script_reader.specs.Gathered.{IsName, is_name, callers_of}
+use Rattle.script_reader.proofs.Conditions.{any_last, both, passed}
 use Rattle.script_reader.proofs.LineFaults.LineKinds.{none_applies, one_behind}
 use Rattle.script_reader.proofs.language.Grouped.Gathering.{any-map, count-add}
 use Rattle.script_reader.proofs.language.Grouped.Grouping.{callers_of-gathered, no-names}
 use Rattle.script_reader.proofs.language.Grouped.Submitting.{count-fold, length-add-new, length-fold-ge}
+use Rattle.script_reader.specs.declared.fault.Fault.TheVariants as fault
 
 -- how many lines pass a test
 count_filter : (t : Words → Bool) (ls : List Words) → count_by t ls ≡ length (filter t ls)
 count_filter t [] = refl
-count_filter t (l ∷ ls) = sum_by-cons (λ w. cond (t w) 1 0) l ls ∙ ap (λ n. cond (t l) 1 0 + n) (count_filter t ls) ∙ by (t l)
-  where
-    by : (b : Bool) → cond b 1 0 + length (filter t ls) ≡ length (cond b (l ∷ filter t ls) (filter t ls))
-    by true = omega arith
-    by false = omega arith
+count_filter t (l ∷ ls) = grind (arith, count_filter t ls, sum_by-cons (λ w. cond (t w) 1 0) l ls)
 
 module _ {S : Type 0} where
   -- the names of the callers of scripts
@@ -74,10 +63,15 @@ module _ {S : Type 0} where
   outside_none callers name named room = λ i. first_reason ((not (false || named i), fault.Word) ∷ (named i && room i, fault.Limit) ∷ [])
 
   -- one script too many, or one caller
-  pub outside_beyond : (callers : List (CallerOf S)) (name : List ℕ) (words : Words) → words ≡ codes "script" ∷ name ∷ []
+  pub outside_beyond : (callers : List (CallerOf S)) {name : List ℕ} {words : Words} → words ≡ codes "script" ∷ name ∷ []
       → IsName name → is_beyond_in callers name ≡ true → outside_in callers words ≡ Some fault.Limit
-  outside_beyond callers name words is named beyond =
+  outside_beyond callers is named beyond =
       ap (outside_in callers) is ∙ (λ i. first_reason ((not (false || named i), fault.Word) ∷ (named i && beyond i, fault.Limit) ∷ []))
+
+  -- one more script, and its caller, have room
+  pub has_room : (callers : List (CallerOf S)) (name : List ℕ) → is_beyond_in callers name ≡ false
+      → (count_scripts callers < MOST_SCRIPTS) × (is_caller name callers ≡ false → length callers < MOST_CALLERS)
+  has_room callers name room = (grind (arith, nat_tests), λ new. grind (arith, nat_tests))
 
   -- a line without fault that is not the last one begins a script, for which and for whose caller there is room
   pub record BeginsScript (callers : List (CallerOf S)) (words : Words) : Type 0 where
@@ -97,13 +91,13 @@ module _ {S : Type 0} where
       let name = one_behind (codes "script") words form.0 in
       let beyond : is_beyond_in callers name.0 ≡ false =
       subst (λ w. is_beyond_in callers (word_at w 1) ≡ false) name.1 (sym (ap (λ c. c && is_beyond_in callers (word_at words 1)) script) ∙ n2.0) in
-      let limits = neither beyond in
+      let room = has_room callers name.0 beyond in
       record {
         name = name.0;
         words_are = name.1;
         named = subst (λ w. is_name (word_at w 1) ≡ true) name.1 form.1;
-        room = leb-false MOST_SCRIPTS _ limits.0;
-        space = λ new. leb-false MOST_CALLERS _ (sym (ap (λ c. not c && nat_le MOST_CALLERS (length callers)) new) ∙ limits.1);
+        room = room.0;
+        space = room.1;
       }
 
   module _ (lines : List Words) (subs : List (SubmissionOf S))
@@ -142,18 +136,14 @@ module _ {S : Type 0} where
 pub room_for : {S : Type 0} (callers : List (CallerOf S)) (s : SubmissionOf S) (rest : List (SubmissionOf S))
     → count_scripts (fold add_submission (add_submission callers s) rest) ≤ MOST_SCRIPTS
     → length (fold add_submission (add_submission callers s) rest) ≤ MOST_CALLERS → is_beyond_in callers s.caller ≡ false
-room_for callers s rest few space = by (is_caller s.caller callers) refl
-  where
-    scripts : nat_le MOST_SCRIPTS (count_scripts callers) ≡ false
-    scripts = lt-leb MOST_SCRIPTS (count_scripts callers) (omega (arith, few, count-fold (add_submission callers s) rest, count-add callers s))
-
-    by : (b : Bool) → is_caller s.caller callers ≡ b → (nat_le MOST_SCRIPTS (count_scripts callers) || (not
-        (is_caller s.caller callers) && nat_le MOST_CALLERS (length callers))) ≡ false
-    by true e = λ i. scripts i || (not (e i) && nat_le MOST_CALLERS (length callers))
-    by false e =
-        let callers_few = lt-leb MOST_CALLERS (length callers)
-        (omega (arith, space, length-fold-ge (add_submission callers s) rest, length-add-new callers s e)) in
-        λ i. scripts i || (not (e i) && callers_few i)
+room_for callers s rest few space = grind (
+  arith,
+  nat_tests,
+  count-fold (add_submission callers s) rest,
+  count-add callers s,
+  length-fold-ge (add_submission callers s) rest,
+  length-add-new callers s,
+)
 
 -- no callers are valid
 pub no_callers : {S : Type 0} (IsScript : S → Type 0) → AreCallers IsScript []

@@ -1,28 +1,21 @@
 -- Callers with one more script, and the scripts of callers.
-use Rattle.std.proofs.Common.{◌≡◌, ℕ, ◌+◌, ◌<◌, ◌≤◌, Bool, true, false, ◌||◌, ◌&&◌, nat_le, List, [], ◌∷◌, ◌++◌, map, fold, length, codes, if◌then◌else◌, inl}
-use Rattle.std.proofs.Common.{inr, refl, sym, ap, subst, ◌∙◌, length-append, true≢false, lit<, arith}
-use Rattle.std.specs.List.{list_any, list_all, All, AllByRecursion, IsDistinct}
-use Rattle.std.specs.Str.{bytes_eq}
-use Rattle.std.proofs.lemmas.Bool.{leb-true}
-use Rattle.std.proofs.lemmas.Bool.Decides.{eqb_tells}
-use Rattle.std.proofs.lemmas.List.{length-map}
-use Rattle.std.proofs.lemmas.List.Elements.{All-push, All-from_recursion, recursion_from_All}
-use Rattle.std.proofs.lemmas.Slice.Eq.{bytes_eq-Decides}
-use Rattle.script_reader.specs.declared.limits.TheConstants.{MOST_CALLERS, MOST_SCRIPTS}
-use Rattle.script_reader.specs.declared.text.words.TheConstants.{SPACE, LINE_FEED}
-use Rattle.script_reader.specs.Lines.{IsFreeOf, AreWords}
-use Rattle.script_reader.specs.Gathered.{CallerOf, SubmissionOf, AreCallers, count_scripts, add_name, callers_of, IsName}
-use Rattle.script_reader.specs.Inner.Gatherings.{add_submission, is_caller}
+use Rattle.script_reader.proofs.Common.{◌≡◌, ℕ, ◌+◌, ◌<◌, ◌≤◌, Bool, true, false, ◌||◌, ◌&&◌, nat_le, List, [], ◌∷◌, ◌++◌, map, fold, length, codes}
+use Rattle.script_reader.proofs.Common.{if◌then◌else◌, inl, inr, refl, sym, ap, subst, ◌∙◌, length-append, lit<, arith, list_any, list_all, AllByRecursion}
+use Rattle.script_reader.proofs.Common.{bytes_eq, leb-true, eqb_tells, length-map, All-push, All-from_recursion, recursion_from_All, bytes_eq-Decides}
+use Rattle.script_reader.proofs.Common.{MOST_CALLERS, MOST_SCRIPTS, IsFreeOf, AreWords, CallerOf, SubmissionOf, AreCallers, count_scripts, add_name}
+use Rattle.script_reader.proofs.Common.{add_submission, is_caller}
+use Rattle.std.specs.List.{All, IsDistinct}
+use Rattle.script_reader.specs.Gathered.{callers_of, IsName}
 use Rattle.script_reader.proofs.text.Tokens.Cutting.{word_from_test}
 use Rattle.script_reader.proofs.Conditions.{both}
 use Rattle.script_reader.proofs.language.Grouped.Gathering.{choice-cons, any-map, count-add}
 use Rattle.script_reader.proofs.language.Grouped.Grouping.{add_name-distinct, callers_of-gathered}
 
 -- how many names there are after one more, which may be new
-pub length-add_name : (most : ℕ) (names : List (List ℕ)) (name : List ℕ) (there : Bool)
+pub length-add_name : {most : ℕ} (names : List (List ℕ)) (name : List ℕ) (there : Bool)
     → (there ≡ false → length names < most) → length names ≤ most → length (if there then names else names ++ name ∷ []) ≤ most
-length-add_name most names name true room few = few
-length-add_name most names name false room few = omega (arith, room refl, length-append names (name ∷ []))
+length-add_name names name true room few = few
+length-add_name names name false room few = omega (arith, room refl, length-append names (name ∷ []))
 
 -- what holds of each element of two lists holds of the first, and of an element behind it
 pub all_but_last : {A : Type 0} (P : A → Type 0) (xs : List A) (x : A) → AllByRecursion P (xs ++ x ∷ []) → AllByRecursion P xs × P x
@@ -34,15 +27,15 @@ pub letters_of : (name : List ℕ) → IsName name → list_all (λ c. nat_le 97
 letters_of name h = (both h).1
 
 -- a name can stand as a word
-letters-free : (c : ℕ) (name : List ℕ) → c < 97 → list_all (λ c. nat_le 97 c && nat_le c 122) name ≡ true → IsFreeOf c name
-letters-free c [] low letters = tt
-letters-free c (b ∷ name) low letters = (
+letters-free : {c : ℕ} (name : List ℕ) → c < 97 → list_all (λ c. nat_le 97 c && nat_le c 122) name ≡ true → IsFreeOf c name
+letters-free [] low letters = tt
+letters-free {c} (b ∷ name) low letters = (
   elim (eqb_tells b c) [
     | inl same ↦ absurd (omega (arith, leb-true 97 b (both (both letters).0).0))
     | inr apart ↦
         apart.0
   ],
-  letters-free c name low (both letters).1,
+  letters-free name low (both letters).1,
 )
 
 -- the words of the line that begins a script are those of a line
@@ -51,7 +44,7 @@ caller-AreWords name h = record {
   some = omega arith;
   each = (
     word_from_test (codes "script") refl,
-    ((letters-free SPACE name (lit< tt) (letters_of name h), letters-free LINE_FEED name (lit< tt) (letters_of name h)), tt),
+    ((letters-free name (lit< tt) (letters_of name h), letters-free name (lit< tt) (letters_of name h)), tt),
   );
 }
 
@@ -78,7 +71,7 @@ module _ {S : Type 0} where
           → map (λ c. c.name) (if here then record { name = c.name; scripts = c.scripts ++ s.script ∷ [] } ∷ callers else c ∷ add_submission callers s)
           ≡ (if here || there then c.name ∷ map (λ c. c.name) callers else (c.name ∷ map (λ c. c.name) callers) ++ s.caller ∷ [])
       by true there rest = refl
-      by false there rest = ap (λ l. c.name ∷ l) rest ∙ sym (choice-cons there c.name (map (λ c. c.name) callers) (map (λ c. c.name) callers ++ s.caller ∷ []))
+      by false there rest = ap (λ l. c.name ∷ l) rest ∙ sym (choice-cons there (map (λ c. c.name) callers) (map (λ c. c.name) callers ++ s.caller ∷ []))
 
   -- callers with one more script
   pub callers_more : (IsScript : S → Type 0) (callers : List (CallerOf S)) (s : SubmissionOf S) → AreCallers IsScript callers → IsName s.caller
@@ -96,7 +89,7 @@ module _ {S : Type 0} where
           names,
           many,
           as_many,
-          length-add_name MOST_CALLERS (map (λ c. c.name) callers) s.caller (list_any (bytes_eq s.caller) (map (λ c. c.name) callers))
+          length-add_name (map (λ c. c.name) callers) s.caller (list_any (bytes_eq s.caller) (map (λ c. c.name) callers))
               (λ absent. subst (λ n. n < MOST_CALLERS) (sym many) (space (any-map (λ c. c.name) s.caller callers
               ∙ absent))) (subst (λ n. n ≤ MOST_CALLERS) (sym many) h.few),
         );
@@ -176,12 +169,7 @@ module _ {S : Type 0} where
   -- a script takes no caller away
   length-add-ge : (callers : List (CallerOf S)) (s : SubmissionOf S) → length callers ≤ length (add_submission callers s)
   length-add-ge [] s = omega arith
-  length-add-ge (c ∷ callers) s = by (bytes_eq s.caller c.name) (length-add-ge callers s)
-    where
-      by : (b : Bool) → length callers ≤ length (add_submission callers s)
-          → length (c ∷ callers) ≤ length (if b then record { name = c.name; scripts = c.scripts ++ s.script ∷ [] } ∷ callers else c ∷ add_submission callers s)
-      by true rest = omega arith
-      by false rest = omega arith
+  length-add-ge (c ∷ callers) s = grind (arith, length-add-ge callers s)
 
   -- nor do more scripts
   pub length-fold-ge : (callers : List (CallerOf S)) (subs : List (SubmissionOf S)) → length callers ≤ length (fold add_submission callers subs)
@@ -192,9 +180,4 @@ module _ {S : Type 0} where
   pub length-add-new : (callers : List (CallerOf S)) (s : SubmissionOf S) → is_caller s.caller callers ≡ false
       → length callers < length (add_submission callers s)
   length-add-new [] s new = omega arith
-  length-add-new (c ∷ callers) s new = by (bytes_eq s.caller c.name) new (length-add-new callers s)
-    where
-      by : (b : Bool) → (b || is_caller s.caller callers) ≡ false → (is_caller s.caller callers ≡ false → length callers < length (add_submission callers s))
-          → length (c ∷ callers) < length (if b then record { name = c.name; scripts = c.scripts ++ s.script ∷ [] } ∷ callers else c ∷ add_submission callers s)
-      by true absent rest = absurd (true≢false absent)
-      by false absent rest = omega (arith, rest absent)
+  length-add-new (c ∷ callers) s new = grind (arith, length-add-new callers s)

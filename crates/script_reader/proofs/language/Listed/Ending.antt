@@ -1,19 +1,13 @@
 -- A text that was read up to its last line, or up to its first fault.
-use Rattle.std.proofs.Common.{◌≡◌, ◌≢◌, ℕ, ◌+◌, ◌-◌, ◌<◌, ◌≤◌, ◌^◌, ◌==◌, List, [], ◌∷◌, ◌++◌, length, take, refl, sym, ap, subst, ◌∙◌, length-append, arith}
-use Rattle.std.specs.List.{count_by}
-use Rattle.std.proofs.lemmas.List.{append-nil}
-use Rattle.script_reader.specs.declared.text.words.TheConstants.{LINE_FEED}
-use Rattle.script_reader.specs.declared.fault.Fault.{Fault}
-use Rattle.script_reader.specs.declared.fault.Fault.TheVariants as fault
-use Rattle.script_reader.specs.Gathered.{CallerOf}
-use Rattle.script_reader.specs.Reading.{IsFaultBehind, IsFaultInFront, GoesOnBehind}
-use Rattle.script_reader.specs.ListLanguage.{ListLanguage, IsListLanguage, IsTextOf, IsText, judge}
-use Rattle.script_reader.specs.Inner.ListScripts.{HasTextInFront}
-use Rattle.script_reader.proofs.Judged as judged
+use Rattle.script_reader.proofs.Common.{◌≡◌, ◌≢◌, ℕ, ◌+◌, ◌-◌, ◌<◌, ◌≤◌, ◌^◌, ◌==◌, List, [], ◌∷◌, ◌++◌, length, take, refl, sym, ap, subst, ◌∙◌, length-append}
+use Rattle.script_reader.proofs.Common.{arith, count_by, append-nil, LINE_FEED, Fault, CallerOf, IsFaultBehind, IsFaultInFront, GoesOnBehind, ListLanguage}
+use Rattle.script_reader.proofs.Common.{IsListLanguage, IsTextOf, IsText, judge, HasTextInFront}
 use Rattle.script_reader.proofs.Judged.{Told, feeds}
 use Rattle.script_reader.proofs.books.Texts.Fronting.{take_front}
 use Rattle.script_reader.proofs.language.Listed.Feeds.{few_lines, not_missing}
 use Rattle.script_reader.proofs.language.Listed.Telling.{whole}
+use Rattle.script_reader.specs.declared.fault.Fault.TheVariants as fault
+use Rattle.script_reader.proofs.Judged as judged
 
 -- no bytes
 no_bytes : (left : List ℕ) → length left ≡ 0 → left ≡ []
@@ -29,10 +23,10 @@ module _ {O S : Type 0} (g : ListLanguage O S) where
       → (why ≡ fault.End → number ≡ n + 1) → (why ≢ fault.End → number ≡ n) → IsFaultInFront (judge g) text number why
   in_front = judged.in_front (judge g) (few_lines g) (not_missing g)
 
-  module _ (text left : List ℕ) (ns : List ℕ) (callers : List (CallerOf S)) (h : HasTextInFront g ns callers text left) where
+  module _ {text left : List ℕ} {ns : List ℕ} {callers : List (CallerOf S)} (h : HasTextInFront g ns callers text left) where
     -- what stands in front of what is left
     front_is : take (length text - length left) text ≡ h.front
-    front_is = take_front text h.front left (length text - length left) h.text refl
+    front_is = take_front left (length text - length left) h.text refl
 
     pub shorter : length left ≤ length text
     shorter = omega (arith, ap length h.text, length-append h.front left)
@@ -42,8 +36,8 @@ module _ {O S : Type 0} (g : ListLanguage O S) where
     whole_text none = subst (λ t. IsTextOf g t ns callers) (sym (h.text ∙ ap (λ l. h.front ++ l) (no_bytes left none) ∙ append-nil h.front)) h.spelled
 
     -- something is left
-    pub goes_on : (length left ≡ 0 → ⊥) → (n : ℕ) → n ≡ feeds text left → GoesOnBehind (IsText g) text (n + 1) fault.End
-    goes_on more n counted = record {
+    pub goes_on : (length left ≡ 0 → ⊥) → {n : ℕ} → n ≡ feeds text left → GoesOnBehind (IsText g) text (n + 1) fault.End
+    goes_on more counted = record {
       front = h.front;
       rest = left;
       text_is = h.text;
@@ -55,4 +49,4 @@ module _ {O S : Type 0} (g : ListLanguage O S) where
 
     pub few_feeds : IsListLanguage g → feeds text left + 1 < 2 ^ 32
     few_feeds lawful = subst (λ t. count_by (λ b. b == LINE_FEED) t + 1 < 2 ^ 32) (sym front_is)
-        (judged.few_of_text (judge g) (few_lines g) (not_missing g) h.front (whole g lawful h.front (ns, callers, h.spelled)))
+        (judged.few_of_text (judge g) (few_lines g) (not_missing g) (whole g lawful h.front (ns, callers, h.spelled)))

@@ -1,23 +1,15 @@
 -- How many lines are read, and which of them is faulty.
-use Rattle.std.proofs.Common.{◌≡◌, ◌≢◌, ℕ, ◌+◌, ◌*◌, ◌<◌, ◌≤◌, ◌^◌, Bool, true, false, not, ◌&&◌, ◌||◌, nat_le, cond, if◌then◌else◌, List}
-use Rattle.std.proofs.Common.{[], ◌∷◌, ◌++◌, codes, drop, length, Some, None, refl, sym, ap, subst, ◌∙◌, append_assoc, length-append, true≢false, arith}
-use Rattle.std.specs.List.{count_by}
-use Rattle.std.specs.Option.{is_none}
-use Rattle.std.proofs.lemmas.Bool.{leb-false}
-use Rattle.std.proofs.lemmas.List.{append-nil}
-use Rattle.std.proofs.lemmas.List.Sums.{fold_push, sum_by-append, sum_by-cons}
-use Rattle.books_model.specs.declared.limits.TheConstants.{MOST_OPERATIONS}
-use Rattle.script_reader.specs.declared.limits.TheConstants.{MOST_SCRIPTS}
-use Rattle.script_reader.specs.declared.fault.Fault.TheVariants as fault
-use Rattle.script_reader.specs.Lines.{word_at}
-use Rattle.script_reader.specs.Forms.{Words, Form, begins, is_only, form_of, ranges_of, is_script_line, are_numbers, are_in_range}
-use Rattle.script_reader.specs.Faults.{is_beyond}
-use Rattle.script_reader.specs.Reading.{HaveNoFault}
-use Rattle.script_reader.specs.ListLanguage.{ListLanguage, LinePlace, BetweenScripts, WithinScript, place_after}
-use Rattle.script_reader.specs.ListLanguage.{place_behind, script_line_fault, operation_fault, sizes_at, judge, is_head_with, size_words, size_ranges}
+use Rattle.script_reader.proofs.Common.{◌≡◌, ◌≢◌, ℕ, ◌+◌, ◌*◌, ◌<◌, ◌≤◌, ◌^◌, Bool, true, false, not, ◌&&◌, ◌||◌, nat_le, cond, if◌then◌else◌, List, [], ◌∷◌}
+use Rattle.script_reader.proofs.Common.{◌++◌, codes, drop, length, Some, None, refl, sym, ap, subst, ◌∙◌, append_assoc, length-append, true≢false, arith}
+use Rattle.script_reader.proofs.Common.{count_by, is_none, leb-false, append-nil, fold_push, sum_by-append, sum_by-cons, MOST_OPERATIONS, MOST_SCRIPTS, word_at}
+use Rattle.script_reader.proofs.Common.{Words, Form, begins, is_only, form_of, ranges_of, is_script_line, are_numbers, are_in_range, is_beyond, HaveNoFault}
+use Rattle.script_reader.proofs.Common.{ListLanguage, BetweenScripts, WithinScript, place_after, place_behind, script_line_fault, operation_fault, sizes_at}
+use Rattle.script_reader.proofs.Common.{judge, is_head_with, size_words, size_ranges}
+use Rattle.script_reader.specs.ListLanguage.{LinePlace}
 use Rattle.script_reader.proofs.Conditions.{both, neither, passed}
 use Rattle.script_reader.proofs.LineFaults.LineKinds.{none_applies}
 use Rattle.script_reader.proofs.Judged.{other, no_more}
+use Rattle.script_reader.specs.declared.fault.Fault.TheVariants as fault
 
 -- the most lines of a script, with the line that begins it and the one that ends it
 abbrev most_script_lines : ℕ
@@ -44,9 +36,9 @@ count_more lines words = omega (
 )
 
 -- a line behind the line `scripts` without fault
-one_more : (forms : List Form) (lines : List Words) (words : Words) → IsFewAt lines
+one_more : (forms : List Form) {lines : List Words} (words : Words) → IsFewAt lines
     → script_line_fault forms lines (place_behind lines) words ≡ None → is_only (codes "finish") words ≡ false → IsFewAt (lines ++ words ∷ [])
-one_more forms lines words at none more = by (place_behind lines) at.few none (fold_push place_after BetweenScripts lines words)
+one_more forms {lines} words at none more = by (place_behind lines) at.few none (fold_push place_after BetweenScripts lines words)
   where
     long : length (lines ++ words ∷ []) ≡ length lines + 1
     long = length-append lines (words ∷ [])
@@ -100,9 +92,9 @@ one_more forms lines words at none more = by (place_behind lines) at.few none (f
 abbrev most_lines : ℕ
 most_lines = most_script_lines * MOST_SCRIPTS + MOST_OPERATIONS + 2
 
-few_at : (scripts lines : ℕ) (place : LinePlace) → AreFew scripts lines place → scripts ≤ MOST_SCRIPTS → lines + 2 ≤ most_lines
-few_at scripts lines BetweenScripts few most = omega (arith, few, most)
-few_at scripts lines (WithinScript count) few most = omega (arith, few.0, few.1, most)
+few_at : {scripts : ℕ} (lines : ℕ) (place : LinePlace) → AreFew scripts lines place → scripts ≤ MOST_SCRIPTS → lines + 2 ≤ most_lines
+few_at lines BetweenScripts few most = omega (arith, few, most)
+few_at lines (WithinScript count) few most = omega (arith, few.0, few.1, most)
 
 module _ {O S : Type 0} (g : ListLanguage O S) where
   more_lines : (header scripts : Words) (lines more : List Words) → IsFewAt lines → HaveNoFault (judge g) (header ∷ scripts ∷ lines) more
@@ -110,7 +102,7 @@ module _ {O S : Type 0} (g : ListLanguage O S) where
   more_lines header scripts lines [] at f = subst IsFewAt (sym (append-nil lines)) at
   more_lines header scripts lines (w ∷ more) at f =
       subst IsFewAt (append_assoc lines (w ∷ []) more)
-      (more_lines header scripts (lines ++ w ∷ []) more (one_more (g.forms (sizes_at header)) lines w at f.1 f.2) f.3)
+      (more_lines header scripts (lines ++ w ∷ []) more (one_more (g.forms (sizes_at header)) w at f.1 f.2) f.3)
 
   -- lines without fault are few
   pub few_lines : (lines : List Words) → HaveNoFault (judge g) [] lines → length lines + 2 < 2 ^ 32
@@ -118,7 +110,7 @@ module _ {O S : Type 0} (g : ListLanguage O S) where
   few_lines (header ∷ []) f = omega arith
   few_lines (header ∷ scripts ∷ more) f =
       let at = more_lines header scripts [] more (record { scripts = 0; most = omega arith; counted = omega arith; few = omega arith }) f.3.3 in
-      omega (arith, few_at at.scripts (length more) (place_behind more) at.few at.most)
+      omega (arith, few_at (length more) (place_behind more) at.few at.most)
 
   -- a line that is there is not missing
   pub not_missing : (before : List Words) (words : Words) → judge g before words ≢ Some fault.End

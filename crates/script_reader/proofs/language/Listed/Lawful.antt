@@ -1,33 +1,22 @@
 -- The lines of a text have no fault.
-use Rattle.std.proofs.Common.{◌≡◌, ℕ, ◌+◌, ◌≤◌, false, List, [], ◌∷◌, ◌++◌, codes, map, fold, None, length, refl, sym, ap, subst, ◌∙◌, length-append, arith}
-use Rattle.std.specs.List.{flat_map, AllByRecursion}
-use Rattle.std.proofs.lemmas.Bool.{lt-leb}
-use Rattle.std.proofs.lemmas.List.{append-nil}
-use Rattle.std.proofs.lemmas.List.Concat.{flat_map-append}
-use Rattle.std.proofs.lemmas.List.Elements.{recursion_from_All}
-use Rattle.books_model.specs.declared.limits.TheConstants.{MOST_OPERATIONS}
-use Rattle.script_reader.specs.declared.limits.TheConstants.{MOST_CALLERS, MOST_SCRIPTS}
-use Rattle.script_reader.specs.Lines.{AreWords}
-use Rattle.script_reader.specs.Input.{IsName}
-use Rattle.script_reader.specs.Gathered.{SubmissionOf, AreCallers, callers_of, count_scripts}
-use Rattle.script_reader.specs.Reading.{HaveNoFault}
-use Rattle.script_reader.specs.ListLanguage.{ListLanguage, AreSizes, IsListLanguage, IsOperationIn, IsScriptIn, operation_words, submission_words}
-use Rattle.script_reader.specs.ListLanguage.{lines_of, head_words, judge}
-use Rattle.script_reader.specs.Inner.Gatherings.{add_submission, is_beyond_in}
-use Rattle.script_reader.specs.Inner.ListScripts.{lines_within}
+use Rattle.script_reader.proofs.Common.{◌≡◌, ℕ, ◌+◌, ◌≤◌, false, List, [], ◌∷◌, ◌++◌, codes, map, fold, None, length, refl, sym, subst, ◌∙◌, length-append}
+use Rattle.script_reader.proofs.Common.{arith, flat_map, AllByRecursion, lt-leb, recursion_from_All, MOST_OPERATIONS, MOST_CALLERS, MOST_SCRIPTS, AreWords}
+use Rattle.script_reader.proofs.Common.{IsName, SubmissionOf, AreCallers, count_scripts, HaveNoFault, ListLanguage, AreSizes, IsListLanguage, IsOperationIn}
+use Rattle.script_reader.proofs.Common.{IsScriptIn, operation_words, submission_words, lines_of, judge, add_submission, is_beyond_in, lines_within}
+use Rattle.script_reader.specs.Gathered.{callers_of}
+use Rattle.script_reader.proofs.Joined.{joined}
 use Rattle.script_reader.proofs.text.Tokens.Cutting.{word_from_test}
-use Rattle.script_reader.proofs.language.Grouped.Submitting.{caller-AreWords}
+use Rattle.script_reader.proofs.language.Grouped.Submitting.{caller-AreWords, IsGoodScript, scripts_are_good}
 use Rattle.script_reader.proofs.language.Listed.Numbers.{texts_are_words, head_fine, head_AreWords, head_goes_on}
 use Rattle.script_reader.proofs.language.Grouped.Grouping.{callers_of-push, callers_of-gathered}
-use Rattle.script_reader.proofs.language.Grouped.Submitting.{IsGoodScript, scripts_are_good}
 use Rattle.script_reader.proofs.language.Grouped.Outside.{room_for, outside_none}
 use Rattle.script_reader.proofs.Judging.{faultless_append}
 use Rattle.script_reader.proofs.language.Listed.Standing.{operation_goes_on, outside_is, within_is, operation_is, within_more}
 
-module _ {O S : Type 0} (g : ListLanguage O S) (lawful : IsListLanguage g) (ns : List ℕ) (sized : AreSizes g ns) where
+module _ {O S : Type 0} {g : ListLanguage O S} (lawful : IsListLanguage g) (ns : List ℕ) (sized : AreSizes g ns) where
   -- the words of an operation are those of a line
-  operation-AreWords : (o : O) → IsOperationIn g ns o → AreWords (operation_words g o)
-  operation-AreWords o h = record {
+  operation-AreWords : {o : O} → IsOperationIn g ns o → AreWords (operation_words g o)
+  operation-AreWords {o} h = record {
     some = omega arith;
     each = (
       word_from_test (g.keyword o) (lawful.keywords o),
@@ -41,9 +30,9 @@ module _ {O S : Type 0} (g : ListLanguage O S) (lawful : IsListLanguage g) (ns :
       → length done + length rest ≤ MOST_OPERATIONS → HaveNoFault (judge g) (lines_within g ns subs name done) (map (operation_words g) rest)
   operations_faultless subs name done [] all room = tt
   operations_faultless subs name done (o ∷ rest) all room = (
-    operation-AreWords o all.0,
+    operation-AreWords all.0,
     within_is g lawful ns sized subs name done (operation_words g o)
-        ∙ operation_is g lawful ns o (length done) false all.0 (lt-leb MOST_OPERATIONS (length done) (omega (arith, room))),
+        ∙ operation_is g lawful (length done) all.0 (lt-leb MOST_OPERATIONS (length done) (omega (arith, room))),
     operation_goes_on g lawful o,
     subst (λ ls. HaveNoFault (judge g) ls (map (operation_words g) rest)) (sym (within_more g lawful ns subs name done (o ∷ [])))
         (operations_faultless subs name (done ++ o ∷ []) rest all.1 (omega (arith, room, length-append done (o ∷ [])))),
@@ -56,9 +45,9 @@ module _ {O S : Type 0} (g : ListLanguage O S) (lawful : IsListLanguage g) (ns :
       outside_is g lawful ns subs (codes "script" ∷ name ∷ []) ∙ outside_none (callers_of subs) name named room
 
   -- a script
-  submission_faultless : (done : List (SubmissionOf S)) (s : SubmissionOf S) → IsGoodScript (IsScriptIn g ns) s
+  submission_faultless : (done : List (SubmissionOf S)) {s : SubmissionOf S} → IsGoodScript (IsScriptIn g ns) s
       → is_beyond_in (callers_of done) s.caller ≡ false → HaveNoFault (judge g) (lines_of g ns done) (submission_words g s)
-  submission_faultless done s good room = (
+  submission_faultless done {s} good room = (
     caller-AreWords s.caller good.name,
     begins_faultless done s.caller good.name room,
     refl,
@@ -79,11 +68,9 @@ module _ {O S : Type 0} (g : ListLanguage O S) (lawful : IsListLanguage g) (ns :
   submissions_faultless done [] all few space = tt
   submissions_faultless done (s ∷ rest) all few space =
       let push = callers_of-push done s in
-      let more : lines_of g ns done ++ submission_words g s ≡ lines_of g ns (done ++ s ∷ []) =
-      ap (λ l. head_words g ns ∷ (codes "scripts" ∷ []) ∷ l) (ap (λ l. flat_map (submission_words g) done ++ l) (sym (append-nil (submission_words g s)))
-      ∙ sym (flat_map-append (submission_words g) done (s ∷ []))) in
+      let more : lines_of g ns done ++ submission_words g s ≡ lines_of g ns (done ++ s ∷ []) = simp joined in
       faultless_append (judge g) (lines_of g ns done) (submission_words g s) (flat_map (submission_words g) rest)
-      (submission_faultless done s all.0 (room_for (callers_of done) s rest few space))
+      (submission_faultless done all.0 (room_for (callers_of done) s rest few space))
       (subst (λ ls. HaveNoFault (judge g) ls (flat_map (submission_words g) rest)) (sym more)
       (submissions_faultless (done ++ s ∷ []) rest all.1
       (subst (λ c. count_scripts (fold add_submission c rest) ≤ MOST_SCRIPTS) (sym push) few)

@@ -1,21 +1,13 @@
 -- Numbers in their ranges, and the words of a header.
-use Rattle.std.proofs.Common.{◌≡◌, ℕ, ◌<◌, ◌≤◌, ◌^◌, Bool, true, false, not, ◌&&◌, nat_le, List, [], ◌∷◌, codes, map, length}
-use Rattle.std.proofs.Common.{slice_index_or, None, refl, ap, ◌∙◌, arith}
-use Rattle.std.specs.List.{list_all, AllByRecursion}
-use Rattle.std.proofs.lemmas.Bool.{le-leb, leb-true, ne_eqb}
-use Rattle.std.proofs.lemmas.Slice.Eq.{bytes_eq-Decides}
-use Rattle.std.specs.Str.{bytes_eq}
-use Rattle.books_model.specs.Ranges.{IsWithin}
-use Rattle.script_reader.specs.declared.fault.Fault.TheVariants as fault
-use Rattle.script_reader.specs.Lines.{IsWord, AreWords}
-use Rattle.script_reader.specs.Text.{number}
-use Rattle.script_reader.specs.Forms.{Words, is_only, begins, value_of, are_numbers, are_in_range}
-use Rattle.script_reader.specs.Faults.{first_reason}
-use Rattle.script_reader.specs.ListLanguage.{is_word, Size, ListLanguage, AreNumbersIn, AreSizes, IsListLanguage, size_pairs, have_names, seconds}
-use Rattle.script_reader.specs.ListLanguage.{size_words, size_ranges, sizes_at, is_head_with, head_words, head_fault}
+use Rattle.script_reader.proofs.Common.{◌≡◌, ℕ, ◌<◌, ◌≤◌, ◌^◌, Bool, true, false, not, ◌&&◌, nat_le, List, [], ◌∷◌, codes, map, length, slice_index_or, None}
+use Rattle.script_reader.proofs.Common.{refl, ap, ◌∙◌, arith, list_all, AllByRecursion, le-leb, leb-true, ne_eqb, bytes_eq-Decides, bytes_eq, IsWithin, IsWord}
+use Rattle.script_reader.proofs.Common.{AreWords, number, Words, is_only, begins, value_of, are_numbers, are_in_range, first_reason, is_word, Size}
+use Rattle.script_reader.proofs.Common.{ListLanguage, AreNumbersIn, AreSizes, IsListLanguage, size_pairs, have_names, seconds, size_words, size_ranges}
+use Rattle.script_reader.proofs.Common.{sizes_at, is_head_with, head_words, head_fault}
 use Rattle.script_reader.proofs.Conditions.{and_true, both}
 use Rattle.script_reader.proofs.text.Tokens.Cutting.{word_from_test}
 use Rattle.script_reader.proofs.text.Tokens.Numerals.{text_of_number, value_of_number, number-IsNumber, number-IsWord}
+use Rattle.script_reader.specs.declared.fault.Fault.TheVariants as fault
 
 -- the texts of numbers are numbers
 pub texts_are_numbers : (ranges : List (ℕ × ℕ)) (ns : List ℕ) → AreNumbersIn ranges ns → are_numbers (map number ns) ≡ true
@@ -30,7 +22,7 @@ texts_are_in_range [] [] h = refl
 texts_are_in_range [] (n ∷ ns) h = absurd h
 texts_are_in_range (r ∷ ranges) [] h = absurd h
 texts_are_in_range (r ∷ ranges) (n ∷ ns) h =
-    let value = value_of_number n h.2 in
+    let value = value_of_number h.2 in
     and_true (and_true (ap (nat_le r.0) value ∙ le-leb r.0 n h.0) (ap (λ v. nat_le v r.1) value ∙ le-leb n r.1 h.1)) (texts_are_in_range ranges ns h.3)
 
 -- words
@@ -38,14 +30,14 @@ pub texts_are_words : (ranges : List (ℕ × ℕ)) (ns : List ℕ) → AreNumber
 texts_are_words [] [] h = tt
 texts_are_words [] (n ∷ ns) h = absurd h
 texts_are_words (r ∷ ranges) [] h = absurd h
-texts_are_words (r ∷ ranges) (n ∷ ns) h = (number-IsWord n h.2, texts_are_words ranges ns h.3)
+texts_are_words (r ∷ ranges) (n ∷ ns) h = (number-IsWord h.2, texts_are_words ranges ns h.3)
 
 -- and their values are the numbers
 pub values_are : (ranges : List (ℕ × ℕ)) (ns : List ℕ) → AreNumbersIn ranges ns → map value_of (map number ns) ≡ ns
 values_are [] [] h = refl
 values_are [] (n ∷ ns) h = absurd h
 values_are (r ∷ ranges) [] h = absurd h
-values_are (r ∷ ranges) (n ∷ ns) h = λ i. value_of_number n h.2 i ∷ values_are ranges ns h.3 i
+values_are (r ∷ ranges) (n ∷ ns) h = λ i. value_of_number h.2 i ∷ values_are ranges ns h.3 i
 
 -- words that are numbers in ranges of 64 bits
 pub numbers_at : (ranges : List (ℕ × ℕ)) (ws : Words) → length ws ≡ length ranges → AllByRecursion (λ r. r.1 < 2 ^ 64) ranges → are_numbers ws ≡ true
@@ -108,7 +100,7 @@ pairs_are_words : (sizes : List Size) (ns : List ℕ) → list_all (λ s. is_wor
 pairs_are_words [] ns names h = tt
 pairs_are_words (s ∷ sizes) [] names h = absurd h
 pairs_are_words (s ∷ sizes) (n ∷ ns) names h =
-    let parts = both names in (word_from_test s.name parts.0, (number-IsWord n h.2, pairs_are_words sizes ns parts.1 h.3))
+    let parts = both names in (word_from_test s.name parts.0, (number-IsWord h.2, pairs_are_words sizes ns parts.1 h.3))
 
 -- a test beside one that does not pass
 pub and_fails : (b : Bool) {c : Bool} → c ≡ false → (b && c) ≡ false
@@ -117,8 +109,8 @@ and_fails false e = refl
 
 module _ {O S : Type 0} (g : ListLanguage O S) where
   -- the sizes of a header's words
-  pub sizes_are : (ns : List ℕ) → AreSizes g ns → sizes_at (head_words g ns) ≡ ns
-  sizes_are ns h = ap (map value_of) (seconds_there g.sizes ns h) ∙ values_are (size_ranges g) ns h
+  pub sizes_are : {ns : List ℕ} → AreSizes g ns → sizes_at (head_words g ns) ≡ ns
+  sizes_are {ns} h = ap (map value_of) (seconds_there g.sizes ns h) ∙ values_are (size_ranges g) ns h
 
   -- a header has no fault
   pub head_fine : (ns : List ℕ) → AreSizes g ns → head_fault g (head_words g ns) ≡ None

@@ -1,40 +1,26 @@
 -- Lines without fault are those of a text, as far as they go, so bytes are a text or have a first fault.
-use Rattle.std.proofs.Common.{◌≡◌, ◌≢◌, ◌⊎◌, inl, inr, ℕ, ◌<◌, ◌≤◌, Bool, true, false}
-use Rattle.std.proofs.Common.{List, [], ◌∷◌, ◌++◌, codes, map, drop, length, Some, None, All, cond, refl, sym, ap, subst, ◌∙◌, append_assoc}
-use Rattle.std.proofs.Common.{length-append, true≢false, arith}
-use Rattle.std.specs.List.{AllByRecursion, flat_map}
-use Rattle.std.specs.Option.{is_none}
-use Rattle.std.specs.Str.{bytes_eq}
-use Rattle.std.proofs.lemmas.Bool.{leb-false}
-use Rattle.std.proofs.lemmas.List.{append-nil}
-use Rattle.std.proofs.lemmas.List.Concat.{flat_map-append}
-use Rattle.std.proofs.lemmas.List.Elements.{All-push}
-use Rattle.std.proofs.lemmas.Slice.Eq.{bytes_eq-Decides}
-use Rattle.books_model.specs.declared.limits.TheConstants.{MOST_OPERATIONS}
-use Rattle.script_reader.specs.declared.limits.TheConstants.{MOST_CALLERS, MOST_SCRIPTS}
-use Rattle.script_reader.specs.declared.fault.Fault.TheVariants as fault
-use Rattle.script_reader.specs.Lines.{word_at}
-use Rattle.script_reader.specs.Text.{line, number, finish_line}
-use Rattle.script_reader.specs.Input.{IsName}
-use Rattle.script_reader.specs.Forms.{Words, Form, form_of, has_form, is_only, ranges_of, value_of, are_in_range}
-use Rattle.script_reader.specs.Gathered.{SubmissionOf, AreCallers, callers_of, count_scripts}
-use Rattle.script_reader.specs.Reading.{HaveNoFault}
-use Rattle.script_reader.specs.ListLanguage.{ListLanguage, Size, AreNumbersIn, AreSizes, IsFormOfOperations, IsListLanguage, IsOperationIn, IsScriptIn, IsText}
-use Rattle.script_reader.specs.ListLanguage.{IsTextOf, operation_fault, operation_words, submission_words, lines_of, head_words}
-use Rattle.script_reader.specs.ListLanguage.{head_fault, size_pairs, have_names, seconds, size_words, size_ranges, judge}
+use Rattle.script_reader.proofs.Common.{◌≡◌, ◌⊎◌, inl, inr, ℕ, ◌<◌, ◌≤◌, Bool, true, false, List, [], ◌∷◌, ◌++◌, codes, map, drop, length, Some, None, All}
+use Rattle.script_reader.proofs.Common.{cond, refl, sym, ap, subst, ◌∙◌, append_assoc, length-append, true≢false, arith, AllByRecursion, flat_map, is_none}
+use Rattle.script_reader.proofs.Common.{bytes_eq, leb-false, append-nil, All-push, bytes_eq-Decides, MOST_OPERATIONS, MOST_CALLERS, MOST_SCRIPTS, word_at, line}
+use Rattle.script_reader.proofs.Common.{number, finish_line, IsName, Words, Form, form_of, has_form, is_only, ranges_of, value_of, are_in_range, SubmissionOf}
+use Rattle.script_reader.proofs.Common.{AreCallers, count_scripts, HaveNoFault, ListLanguage, Size, AreNumbersIn, AreSizes, IsListLanguage, IsOperationIn}
+use Rattle.script_reader.proofs.Common.{IsScriptIn, IsText, IsTextOf, operation_fault, operation_words, lines_of, head_words, head_fault, size_pairs}
+use Rattle.script_reader.proofs.Common.{have_names, seconds, size_words, size_ranges, judge, is_caller, lines_within}
+use Rattle.script_reader.specs.Gathered.{callers_of}
+use Rattle.script_reader.specs.ListLanguage.{IsFormOfOperations}
 use Rattle.script_reader.specs.Statements.{HasFaultIn}
-use Rattle.script_reader.specs.Inner.Gatherings.{is_caller}
-use Rattle.script_reader.specs.Inner.ListScripts.{lines_within}
+use Rattle.script_reader.proofs.Joined.{joined}
 use Rattle.script_reader.proofs.Conditions.{both, passed}
 use Rattle.script_reader.proofs.Judging.{some_none}
 use Rattle.script_reader.proofs.LineFaults.LineKinds.{behind_keyword, none_applies, only_word}
-use Rattle.script_reader.proofs.Judged as judged
 use Rattle.script_reader.proofs.language.Listed.Numbers.{numbers_at}
 use Rattle.script_reader.proofs.language.Grouped.Grouping.{callers_of-push, no-names}
 use Rattle.script_reader.proofs.language.Listed.Standing.{outside_is, within_is, within_more, operation_goes_on}
 use Rattle.script_reader.proofs.language.Grouped.Outside.{begins_script}
 use Rattle.script_reader.proofs.language.Grouped.Submitting.{callers_more}
 use Rattle.script_reader.proofs.language.Listed.Telling.{not_both}
+use Rattle.script_reader.specs.declared.fault.Fault.TheVariants as fault
+use Rattle.script_reader.proofs.Judged as judged
 
 -- the words of a header that are pairs of names and numbers
 pairs_at : (sizes : List Size) (ws : Words) (ns : List ℕ) → have_names sizes ws ≡ true → seconds ws ≡ map number ns
@@ -102,10 +88,10 @@ data IsReached {O S : Type 0} (g : ListLanguage O S) (lines : List Words) : Type
   Outside : Between g lines → IsReached g lines
   WithinScript : Inside g lines → IsReached g lines
 
-module _ {O S : Type 0} (g : ListLanguage O S) (lawful : IsListLanguage g) where
+module _ {O S : Type 0} {g : ListLanguage O S} (lawful : IsListLanguage g) where
   -- a header
-  header_step : (words : Words) → head_fault g words ≡ None → IsReached g (words ∷ [])
-  header_step words none =
+  header_step : {words : Words} → head_fault g words ≡ None → IsReached g (words ∷ [])
+  header_step {words} none =
       let n1 = none_applies _ fault.Header _ none in
       let n2 = none_applies _ fault.Number _ n1.1 in
       let n3 = none_applies _ fault.Limit _ n2.1 in
@@ -135,9 +121,9 @@ module _ {O S : Type 0} (g : ListLanguage O S) (lawful : IsListLanguage g) where
   }
 
   -- the line that begins the scripts
-  scripts_step : (lines : List Words) (words : Words) (sizes : List ℕ) → AreSizes g sizes → lines ≡ head_words g sizes ∷ [] → judge g lines words ≡ None
+  scripts_step : {lines : List Words} (words : Words) (sizes : List ℕ) → AreSizes g sizes → lines ≡ head_words g sizes ∷ [] → judge g lines words ≡ None
       → IsReached g (lines ++ words ∷ [])
-  scripts_step lines words sizes sized e none =
+  scripts_step words sizes sized e none =
       let n = none_applies _ fault.Word _ (sym (ap (λ l. judge g l words) e) ∙ none) in
       Outside (record {
         sizes = sizes;
@@ -148,9 +134,9 @@ module _ {O S : Type 0} (g : ListLanguage O S) (lawful : IsListLanguage g) where
       })
 
   -- a line between scripts, which is not the last one
-  outside_step : (lines : List Words) (words : Words) → (r : Between g lines) → judge g lines words ≡ None
+  outside_step : {lines : List Words} (words : Words) → (r : Between g lines) → judge g lines words ≡ None
       → is_only (codes "finish") words ≡ false → IsReached g (lines ++ words ∷ [])
-  outside_step lines words r none more =
+  outside_step words r none more =
       let at = sym (ap (λ l. judge g l words) r.lines_are ∙ outside_is g lawful r.sizes r.subs words) ∙ none in
       let begun = begins_script (callers_of r.subs) words at more in
       WithinScript (record {
@@ -169,9 +155,9 @@ module _ {O S : Type 0} (g : ListLanguage O S) (lawful : IsListLanguage g) where
       })
 
   -- a line with no fault behind so many operations is that of an operation, for which there is room
-  operation_at : (sizes : List ℕ) → AreSizes g sizes → (count : ℕ) (words : Words) → operation_fault (g.forms sizes) count words ≡ None
+  operation_at : {sizes : List ℕ} → AreSizes g sizes → {count : ℕ} {words : Words} → operation_fault (g.forms sizes) count words ≡ None
       → (o : O) × IsOperationIn g sizes o × (words ≡ operation_words g o) × (count < MOST_OPERATIONS)
-  operation_at sizes sized count words none =
+  operation_at {sizes} sized {count} {words} none =
       let n1 = none_applies _ fault.Word _ none in
       let n2 = none_applies _ fault.Number _ n1.1 in
       let n3 = none_applies _ fault.Limit _ n2.1 in
@@ -197,32 +183,27 @@ module _ {O S : Type 0} (g : ListLanguage O S) (lawful : IsListLanguage g) where
       )
 
   -- what a line of a script is
-  line_within : (sizes : List ℕ) → AreSizes g sizes → (count : ℕ) (words : Words) (last : Bool) → is_only (codes "end") words ≡ last
+  line_within : {sizes : List ℕ} → AreSizes g sizes → {count : ℕ} {words : Words} (last : Bool) → is_only (codes "end") words ≡ last
       → cond last None (operation_fault (g.forms sizes) count words) ≡ None
       → (words ≡ codes "end" ∷ []) ⊎ ((o : O) × IsOperationIn g sizes o × (words ≡ operation_words g o) × (count < MOST_OPERATIONS))
-  line_within sizes sized count words true e none = inl (only_word (codes "end") words e)
-  line_within sizes sized count words false e none = inr (operation_at sizes sized count words none)
+  line_within sized {words} true e none = inl (only_word (codes "end") words e)
+  line_within sized false e none = inr (operation_at sized none)
 
-  line_is : (lines : List Words) (words : Words) → (r : Inside g lines) → judge g lines words ≡ None
+  line_is : {lines : List Words} (words : Words) → (r : Inside g lines) → judge g lines words ≡ None
       → (words ≡ codes "end" ∷ []) ⊎ ((o : O) × IsOperationIn g r.sizes o × (words ≡ operation_words g o) × (length r.ops < MOST_OPERATIONS))
-  line_is lines words r none =
-      line_within r.sizes r.sized (length r.ops) words (is_only (codes "end") words) refl
+  line_is words r none =
+      line_within r.sized (is_only (codes "end") words) refl
       (sym (ap (λ l. judge g l words) r.lines_are ∙ within_is g lawful r.sizes r.sized r.subs r.name r.ops words) ∙ none)
 
   -- the lines of a script that ends
   ended : (sizes : List ℕ) (subs : List (SubmissionOf S)) (name : List ℕ) (script : S)
       → lines_within g sizes subs name (g.operations script) ++ (codes "end" ∷ []) ∷ []
       ≡ lines_of g sizes (subs ++ record { caller = name; script = script } ∷ [])
-  ended sizes subs name script =
-      let s : SubmissionOf S = record { caller = name; script = script } in
-      append_assoc (lines_of g sizes subs) ((codes "script" ∷ name ∷ []) ∷ map (operation_words g) (g.operations script)) ((codes "end" ∷ []) ∷ [])
-      ∙ ap (λ l. head_words g sizes ∷ (codes "scripts" ∷ []) ∷ l)
-      (ap (λ l. flat_map (submission_words g) subs ++ l) (sym (append-nil (submission_words g s)))
-      ∙ sym (flat_map-append (submission_words g) subs (s ∷ [])))
+  ended sizes subs name script = simp joined
 
   -- a line of a script
-  within_step : (lines : List Words) (words : Words) → (r : Inside g lines) → judge g lines words ≡ None → IsReached g (lines ++ words ∷ [])
-  within_step lines words r none = elim (line_is lines words r none) [
+  within_step : {lines : List Words} (words : Words) → (r : Inside g lines) → judge g lines words ≡ None → IsReached g (lines ++ words ∷ [])
+  within_step words r none = elim (line_is words r none) [
     | inl e ↦
         let made = lawful.every_script r.ops in
         let s : SubmissionOf S = record { caller = r.name; script = made.0 } in
@@ -257,35 +238,35 @@ module _ {O S : Type 0} (g : ListLanguage O S) (lawful : IsListLanguage g) where
   ]
 
   -- one more line without fault
-  reach : (lines : List Words) (words : Words) → IsReached g lines → judge g lines words ≡ None → is_only (codes "finish") words ≡ false
+  reach : {lines : List Words} (words : Words) → IsReached g lines → judge g lines words ≡ None → is_only (codes "finish") words ≡ false
       → IsReached g (lines ++ words ∷ [])
-  reach lines words (AtStart e) none more =
-      subst (λ l. IsReached g (l ++ words ∷ [])) (sym e) (header_step words (sym (ap (λ l. judge g l words) e) ∙ none))
-  reach lines words (AtHeader sizes sized e) none more = scripts_step lines words sizes sized e none
-  reach lines words (Outside r) none more = outside_step lines words r none more
-  reach lines words (WithinScript r) none more = within_step lines words r none
+  reach words (AtStart e) none more =
+      subst (λ l. IsReached g (l ++ words ∷ [])) (sym e) (header_step (sym (ap (λ l. judge g l words) e) ∙ none))
+  reach words (AtHeader sizes sized e) none more = scripts_step words sizes sized e none
+  reach words (Outside r) none more = outside_step words r none more
+  reach words (WithinScript r) none more = within_step words r none
 
   -- all lines without fault
-  reach_all : (before more : List Words) → IsReached g before → HaveNoFault (judge g) before more → IsReached g (before ++ more)
-  reach_all before [] r f = subst (IsReached g) (sym (append-nil before)) r
-  reach_all before (w ∷ more) r f =
-      subst (IsReached g) (append_assoc before (w ∷ []) more) (reach_all (before ++ w ∷ []) more (reach before w r f.1 f.2) f.3)
+  reach_all : {before : List Words} (more : List Words) → IsReached g before → HaveNoFault (judge g) before more → IsReached g (before ++ more)
+  reach_all {before} [] r f = subst (IsReached g) (sym (append-nil before)) r
+  reach_all {before} (w ∷ more) r f =
+      subst (IsReached g) (append_assoc before (w ∷ []) more) (reach_all more (reach w r f.1 f.2) f.3)
 
   -- the last line stands behind scripts that have ended
-  at_finish : (lines : List Words) → IsReached g lines → judge g lines (codes "finish" ∷ []) ≡ None → Between g lines
-  at_finish lines (AtStart e) none =
+  at_finish : {lines : List Words} → IsReached g lines → judge g lines (codes "finish" ∷ []) ≡ None → Between g lines
+  at_finish (AtStart e) none =
       let head = both (passed (none_applies _ fault.Header _ (sym (ap (λ l. judge g l (codes "finish" ∷ [])) e) ∙ none)).0) in
       absurd (true≢false (sym (both head.0).1))
-  at_finish lines (AtHeader sizes sized e) none = absurd (some_none (sym (ap (λ l. judge g l (codes "finish" ∷ [])) e) ∙ none) refl)
-  at_finish lines (Outside r) none = r
-  at_finish lines (WithinScript r) none = elim (line_is lines (codes "finish" ∷ []) r none) [
+  at_finish (AtHeader sizes sized e) none = absurd (some_none (sym (ap (λ l. judge g l (codes "finish" ∷ [])) e) ∙ none) refl)
+  at_finish (Outside r) none = r
+  at_finish (WithinScript r) none = elim (line_is (codes "finish" ∷ []) r none) [
     | inl e ↦ absurd (true≢false (ap (is_only (codes "finish")) e))
     | inr o ↦ absurd (true≢false (ap (is_only (codes "finish")) o.2 ∙ operation_goes_on g lawful o.0))
   ]
 
   -- lines behind which the last line may stand are those of a text
-  spells : (lines : List Words) → (r : Between g lines) → IsTextOf g (flat_map line lines ++ finish_line) r.sizes (callers_of r.subs)
-  spells lines r = record {
+  spells : {lines : List Words} → (r : Between g lines) → IsTextOf g (flat_map line lines ++ finish_line) r.sizes (callers_of r.subs)
+  spells r = record {
     submissions = r.subs;
     text = ap (λ l. flat_map line l ++ finish_line) r.lines_are;
     callers_are = refl;
@@ -295,7 +276,7 @@ module _ {O S : Type 0} (g : ListLanguage O S) (lawful : IsListLanguage g) where
 
   pub either : (text : List ℕ) → IsText g text ⊎ HasFaultIn g text
   either = judged.either (judge g) (IsText g) (λ lines f ends.
-      let r = at_finish lines (reach_all [] lines (AtStart refl) f) ends in (r.sizes, callers_of r.subs, spells lines r))
+      let r = at_finish (reach_all lines (AtStart refl) f) ends in (r.sizes, callers_of r.subs, spells r))
 
   pub never_both : (text : List ℕ) → IsText g text → HasFaultIn g text → ⊥
   never_both text is (number, why, fault) = not_both g lawful text is.0 is.1 number why is.2 fault

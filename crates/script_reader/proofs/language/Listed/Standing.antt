@@ -1,24 +1,14 @@
 -- What the lines of a text say of a line behind them.
-use Rattle.std.proofs.Common.{◌≡◌, ℕ, ◌+◌, Bool, true, false, not, ◌&&◌, ◌==◌, nat_le, cond, if◌then◌else◌, List, [], ◌∷◌, ◌++◌, codes, map, filter, fold}
-use Rattle.std.proofs.Common.{length, Option, Some, None, refl, sym, ap, ◌∙◌, append_assoc, arith}
-use Rattle.std.specs.List.{flat_map}
-use Rattle.std.specs.Option.{is_none}
-use Rattle.std.proofs.lemmas.List.{map-append}
-use Rattle.std.proofs.lemmas.List.Elements.{filter-append}
-use Rattle.std.proofs.lemmas.List.Sums.{fold-append}
-use Rattle.books_model.specs.declared.limits.TheConstants.{MOST_OPERATIONS}
-use Rattle.script_reader.specs.declared.fault.Fault.{Fault}
-use Rattle.script_reader.specs.declared.fault.Fault.TheVariants as fault
-use Rattle.script_reader.specs.Text.{number}
-use Rattle.script_reader.specs.Forms.{Words, begins, is_only, ranges_of, are_numbers, are_in_range}
-use Rattle.script_reader.specs.Faults.{first_reason}
-use Rattle.script_reader.specs.Gathered.{SubmissionOf, callers_of}
-use Rattle.script_reader.specs.ListLanguage.{ListLanguage, BetweenScripts, WithinScript, AreSizes, IsListLanguage, IsOperationIn, place_after}
-use Rattle.script_reader.specs.ListLanguage.{place_behind, script_line_fault}
-use Rattle.script_reader.specs.ListLanguage.{operation_fault, operation_words, submission_words, lines_of, head_words, sizes_at, judge}
-use Rattle.script_reader.specs.Inner.ListScripts.{lines_within}
+use Rattle.script_reader.proofs.Common.{◌≡◌, ℕ, ◌+◌, Bool, true, false, not, ◌&&◌, ◌==◌, nat_le, cond, if◌then◌else◌, List, [], ◌∷◌, ◌++◌, codes, map, filter}
+use Rattle.script_reader.proofs.Common.{fold, length, Option, Some, None, refl, ap, ◌∙◌, arith, flat_map, is_none, filter-append, fold-append, MOST_OPERATIONS}
+use Rattle.script_reader.proofs.Common.{Fault, number, Words, begins, is_only, ranges_of, are_numbers, are_in_range, first_reason, SubmissionOf, ListLanguage}
+use Rattle.script_reader.proofs.Common.{BetweenScripts, WithinScript, AreSizes, IsListLanguage, IsOperationIn, place_after, place_behind, script_line_fault}
+use Rattle.script_reader.proofs.Common.{operation_fault, operation_words, submission_words, lines_of, head_words, sizes_at, judge, lines_within}
+use Rattle.script_reader.specs.Gathered.{callers_of}
+use Rattle.script_reader.proofs.Joined.{joined}
 use Rattle.script_reader.proofs.language.Listed.Numbers.{sizes_are, texts_are_numbers, texts_are_in_range}
 use Rattle.script_reader.proofs.language.Grouped.Outside.{outside_in, outside_of}
+use Rattle.script_reader.specs.declared.fault.Fault.TheVariants as fault
 
 module _ {O S : Type 0} (g : ListLanguage O S) (lawful : IsListLanguage g) where
   -- an operation is no other line
@@ -86,13 +76,13 @@ module _ {O S : Type 0} (g : ListLanguage O S) (lawful : IsListLanguage g) where
   pub within_is : (ns : List ℕ) → AreSizes g ns → (subs : List (SubmissionOf S)) (name : List ℕ) (ops : List O) (words : Words)
       → judge g (lines_within g ns subs name ops) words ≡ within_in ns (length ops) words
   within_is ns h subs name ops words =
-      λ i. script_line_fault (g.forms (sizes_are g ns h i)) (flat_map (submission_words g) subs ++ ((codes "script" ∷ name ∷ []) ∷ map (operation_words g) ops))
+      λ i. script_line_fault (g.forms (sizes_are g h i)) (flat_map (submission_words g) subs ++ ((codes "script" ∷ name ∷ []) ∷ map (operation_words g) ops))
       (place_within subs name ops i) words
 
   -- an operation has no fault, unless there are too many
-  pub operation_is : (ns : List ℕ) (o : O) (count : ℕ) (full : Bool) → IsOperationIn g ns o → nat_le MOST_OPERATIONS count ≡ full
+  pub operation_is : {ns : List ℕ} {o : O} (count : ℕ) {full : Bool} → IsOperationIn g ns o → nat_le MOST_OPERATIONS count ≡ full
       → within_in ns count (operation_words g o) ≡ (if full then Some fault.Limit else None)
-  operation_is ns o count full h is_full =
+  operation_is {ns} {o} count {full} h is_full =
       (λ i. if operation_stays o i then None else operation_fault (g.forms ns) count (operation_words g o))
       ∙ (λ i. first_reason (
       (is_none (h.kind_is i), fault.Word)
@@ -117,6 +107,4 @@ module _ {O S : Type 0} (g : ListLanguage O S) (lawful : IsListLanguage g) where
   -- the lines of a script with one more operation
   pub within_more : (ns : List ℕ) (subs : List (SubmissionOf S)) (name : List ℕ) (done more : List O)
       → lines_within g ns subs name done ++ map (operation_words g) more ≡ lines_within g ns subs name (done ++ more)
-  within_more ns subs name done more =
-      append_assoc (lines_of g ns subs) ((codes "script" ∷ name ∷ []) ∷ map (operation_words g) done) (map (operation_words g) more)
-      ∙ ap (λ l. lines_of g ns subs ++ ((codes "script" ∷ name ∷ []) ∷ l)) (sym (map-append (operation_words g) done more))
+  within_more ns subs name done more = simp joined

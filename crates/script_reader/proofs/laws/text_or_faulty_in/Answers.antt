@@ -3,6 +3,6 @@ use Rattle.script_reader.proofs.laws.text_or_faulty_in.Goals as goal
 
 pub returns : goal.returns
 returns g c = record {
-  either = either g.L.Language.language g.met.L.Language.lawful;
-  not_both = never_both g.L.Language.language g.met.L.Language.lawful;
+  either = either g.met.L.Language.lawful;
+  not_both = never_both g.met.L.Language.lawful;
 }

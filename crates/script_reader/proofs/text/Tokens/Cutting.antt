@@ -1,18 +1,13 @@
 -- How a text is cut into lines, and a line into words.
-use Rattle.std.proofs.Common.{◌≡◌, ℕ, suc, zero, ◌+◌, ◌-◌, nat_lt, ◌<◌, ◌≤◌, ◌==◌, Bool, true, false, not, ◌&&◌, cond, List, [], ◌∷◌, ◌++◌, length, take, drop}
-use Rattle.std.proofs.Common.{get_or, Some, None, refl, sym, ap, subst, ◌∙◌, append_assoc, eq-eqb, eqb-true, take-append-drop, arith, true≢false}
-use Rattle.std.specs.List.{AllByRecursion, list_all, slice_split, onto_first, join_with_byte, position, position_or_len}
-use Rattle.std.proofs.lemmas.Bool.{lt-ltb, le-ltb}
-use Rattle.std.proofs.lemmas.List.{take_rest}
+use Rattle.script_reader.proofs.Common.{◌≡◌, ℕ, suc, zero, ◌+◌, ◌-◌, nat_lt, ◌<◌, ◌≤◌, ◌==◌, Bool, true, false, not, ◌&&◌, cond, List, [], ◌∷◌, ◌++◌, length}
+use Rattle.script_reader.proofs.Common.{take, drop, get_or, Some, None, refl, sym, ap, subst, ◌∙◌, append_assoc, take-append-drop, arith, true≢false}
+use Rattle.script_reader.proofs.Common.{AllByRecursion, list_all, slice_split, onto_first, join_with_byte, position, position_or_len, lt-ltb, take_rest}
+use Rattle.script_reader.proofs.Common.{common_steps, All-from_recursion, recursion_from_All, length-slice_split, fails_before_first, position-Some, IsFreeOf}
+use Rattle.script_reader.proofs.Common.{IsWord, AreWords, line, SPACE, LINE_FEED}
+use Rattle.std.proofs.Common.{eq-eqb, eqb-true}
+use Rattle.std.proofs.lemmas.Bool.{le-ltb}
 use Rattle.std.proofs.Math.Seq.{drop-cons}
-use Rattle.std.proofs.lemmas.Grind.{common_steps}
-use Rattle.std.proofs.lemmas.List.Elements.{All-from_recursion, recursion_from_All}
-use Rattle.std.proofs.lemmas.List.Splits.{slice_split_none, slice_split_at, length-slice_split, join_with_byte-slice_split}
-use Rattle.std.proofs.lemmas.List.Sums.{fails_before_first}
-use Rattle.std.proofs.lemmas.List.Quantifiers.{position-Some}
-use Rattle.script_reader.specs.Lines.{IsFreeOf, IsWord, AreWords}
-use Rattle.script_reader.specs.Text.{line}
-use Rattle.script_reader.specs.declared.text.words.TheConstants.{SPACE, LINE_FEED}
+use Rattle.std.proofs.lemmas.List.Splits.{slice_split_none, slice_split_at, join_with_byte-slice_split}
 
 -- a byte is not free of itself
 itself : (c b : ℕ) → (b == c) ≡ false → b ≡ c → ⊥
@@ -45,18 +40,18 @@ before-free c (x ∷ xs) zero h f = tt
 before-free c (x ∷ xs) (suc i) h f = (f 0 (omega arith), before-free c xs i (omega arith) (λ k less. f (suc k) (omega arith)))
 
 -- a list that begins with a byte is that byte and the rest
-split_first : (c : ℕ) (zs ys : List ℕ) → zs ≡ c ∷ ys → zs ≡ c ∷ take (length zs - 1) (drop 1 zs)
-split_first c zs ys e = let P : List ℕ → Type 0 = λ us. us ≡ c ∷ take (length us - 1) (drop 1 us) in
+split_first : {c : ℕ} {zs ys : List ℕ} → zs ≡ c ∷ ys → zs ≡ c ∷ take (length zs - 1) (drop 1 zs)
+split_first {c} {ys} e = let P : List ℕ → Type 0 = λ us. us ≡ c ∷ take (length us - 1) (drop 1 us) in
     subst P (sym e) (ap (λ r. c ∷ r) (sym (take_rest (c ∷ ys) 1)))
 
 -- if the search finds a byte, the text is what stands before it, the byte, and what follows
-pub found_at : (c : ℕ) (xs : List ℕ) (i : ℕ) → position (λ b. b == c) xs ≡ Some i → (i < length xs)
+pub found_at : (c : ℕ) (xs : List ℕ) {i : ℕ} → position (λ b. b == c) xs ≡ Some i → (i < length xs)
     × IsFreeOf c (take i xs) × (xs ≡ take i xs ++ c ∷ take (length (drop i xs) - 1) (drop 1 (drop i xs)))
-found_at c xs i e =
+found_at c xs {i} e =
     let found = position-Some (λ b. b == c) xs i 0 e in
     let here : get_or xs i 0 ≡ c = eqb-true (get_or xs i 0) c found.1 in
     let back : drop i xs ≡ c ∷ drop (suc i) xs = drop-cons xs i 0 found.0 ∙ ap (λ x. x ∷ drop (suc i) xs) here in
-    (found.0, before-free c xs i found.0 found.2, sym (take-append-drop i xs) ∙ ap (λ r. take i xs ++ r) (split_first c (drop i xs) (drop (suc i) xs) back))
+    (found.0, before-free c xs i found.0 found.2, sym (take-append-drop i xs) ∙ ap (λ r. take i xs ++ r) (split_first back))
 
 -- if it finds none, there is none
 pub found_none : (c : ℕ) (xs : List ℕ) → position (λ b. b == c) xs ≡ None → IsFreeOf c xs
@@ -105,8 +100,8 @@ line_once ws vs r s a b e =
     (sym (split-join ws a.some a.each) ∙ ap (slice_split (λ b. b == SPACE)) cut.0 ∙ split-join vs b.some b.each, cut.1)
 
 -- a text without a line feed begins with no line
-pub no_line : (text : List ℕ) (vs : List (List ℕ)) (s : List ℕ) → IsFreeOf LINE_FEED text → text ≡ line vs ++ s → ⊥
-no_line text vs s f e = not_free LINE_FEED (join_with_byte SPACE vs) s (subst (IsFreeOf LINE_FEED) (e ∙ line-append vs s) f)
+pub no_line : {text : List ℕ} (vs : List (List ℕ)) (s : List ℕ) → IsFreeOf LINE_FEED text → text ≡ line vs ++ s → ⊥
+no_line vs s f e = not_free LINE_FEED (join_with_byte SPACE vs) s (subst (IsFreeOf LINE_FEED) (e ∙ line-append vs s) f)
 
 -- what a line that was taken says of its words
 pub taken : (old bytes new : List ℕ) (words : List (List ℕ)) → (old ≡ bytes ++ LINE_FEED ∷ new)
@@ -138,9 +133,9 @@ first_of c (x ∷ xs) (suc i) less before here =
     ap (λ (b : Bool). cond (not b) (1 + position_or_len (λ b. b == c) xs) 0) (before 0 (omega arith))
     ∙ omega (arith, first_of c xs i (omega arith) (λ k lower. before (suc k) (omega arith)) here)
 
-pub first_is_at : (c : ℕ) (xs : List ℕ) (i : ℕ) → i < length xs → ((k : ℕ) → k < i → (get_or xs k 0 == c) ≡ false)
+pub first_is_at : (c : ℕ) (xs : List ℕ) {i : ℕ} → i < length xs → ((k : ℕ) → k < i → (get_or xs k 0 == c) ≡ false)
     → (get_or xs i 0 == c) ≡ true → Some i ≡ position (λ b. b == c) xs
-first_is_at c xs i less before here =
+first_is_at c xs {i} less before here =
     let at = first_of c xs i less before here in
     sym ((λ t. cond (nat_lt (at t) (length xs)) (Some (at t)) None) ∙ ap (λ (b : Bool). cond b (Some i) None) (lt-ltb i (length xs) less))
 

@@ -1,12 +1,8 @@
 -- Names are text.
-use Rattle.std.proofs.Common.{ℕ, ◌≡◌, ◌<◌, true, ◌&&◌, nat_le, List, [], ◌∷◌, arith}
-use Rattle.std.specs.List.{list_all, AllByRecursion}
+use Rattle.script_reader.proofs.Common.{ℕ, ◌≡◌, ◌<◌, true, ◌&&◌, nat_le, List, [], ◌∷◌, arith, list_all, AllByRecursion, leb-true, All-from_recursion, IsName}
 use Rattle.std.specs.Str.{IsUtf8}
-use Rattle.std.proofs.lemmas.Bool.{leb-true}
 use Rattle.std.proofs.lemmas.Str.{IsUtf8-from_ascii}
 use Rattle.std.proofs.lemmas.Str.Ascii.{IsAscii-from_all}
-use Rattle.std.proofs.lemmas.List.Elements.{All-from_recursion}
-use Rattle.script_reader.specs.Input.{IsName}
 use Rattle.script_reader.proofs.Conditions.{both}
 
 -- letters are small bytes

@@ -1,20 +1,13 @@
 -- What words that are numbers say.
-use Rattle.std.proofs.Common.{refl, ◌≡◌, ℕ, ◌^◌, ◌<◌, true, not, ◌||◌, ◌==◌, min, Option, Some, None, List, [], ◌∷◌, length, slice_index, sym, ap, subst, ◌∙◌}
-use Rattle.std.proofs.Common.{lit<, inl, inr, arith}
+use Rattle.script_reader.proofs.Common.{refl, ◌≡◌, ℕ, ◌^◌, ◌<◌, true, not, ◌||◌, ◌==◌, min, Option, Some, None, List, [], ◌∷◌, length, sym, ap, subst, ◌∙◌}
+use Rattle.script_reader.proofs.Common.{lit<, inl, inr, arith, all_ascii_digits, digits_value, cases_lt, leb-true, le-leb, eqb-true, eq-eqb, ne_eqb, eqb_tells}
+use Rattle.script_reader.proofs.Common.{numerals_by_value, tells_all_ascii_digits, IsFreeOf, IsWord, number}
+use Rattle.std.proofs.Common.{slice_index}
 use Rattle.std.specs.Option.{SomeIff}
-use Rattle.std.specs.Str.{all_ascii_digits}
-use Rattle.std.specs.Str.Parse.{digits_value}
-use Rattle.std.specs.Option.{ok_or}
-use Rattle.std.specs.Result.{IfOk}
-use Rattle.std.proofs.lemmas.Bool.{cases_lt, leb-true, le-leb, eqb-true, eq-eqb, ne_eqb}
-use Rattle.std.proofs.lemmas.Bool.Decides.{eqb_tells}
 use Rattle.std.proofs.lemmas.Fmt.{decimal-digits_value, digits_decimal, digits_value-decimal, decimal_nonempty, first_decimal, length-decimal-le}
-use Rattle.std.proofs.lemmas.Str.Parse.{IsNumeralModel, numerals_by_value, tells_all_ascii_digits}
-use Rattle.script_reader.specs.Lines.{IsFreeOf, IsWord}
+use Rattle.std.proofs.lemmas.Str.Parse.{IsNumeralModel}
 use Rattle.script_reader.specs.Number.{IsNumber}
-use Rattle.script_reader.specs.Text.{number}
 use Rattle.script_reader.proofs.Conditions.{both, and_true, or_left, or_right}
-use Rattle.script_reader.specs.declared.text.words.TheConstants.{SPACE, LINE_FEED}
 
 -- digits and their value, in the words of the library
 model : IsNumeralModel (λ ds. all_ascii_digits ds ≡ true) (digits_value 10)
@@ -51,19 +44,19 @@ number-IsNumber n small = and_true (and_true (le-leb 1 (length (number n)) (deci
     ]
 
 -- with its value
-pub value_of_number : (n : ℕ) → n < 2 ^ 64 → digits_value 10 (number n) ≡ n
-value_of_number n small = digits_value-decimal model n small
+pub value_of_number : {n : ℕ} → n < 2 ^ 64 → digits_value 10 (number n) ≡ n
+value_of_number {n} small = digits_value-decimal model n small
 
 -- digits can stand as a word
-digits-free : (c : ℕ) (word : List ℕ) → c < 48 → all_ascii_digits word ≡ true → IsFreeOf c word
-digits-free c [] low digits = tt
-digits-free c (b ∷ word) low digits =
+digits-free : {c : ℕ} (word : List ℕ) → c < 48 → all_ascii_digits word ≡ true → IsFreeOf c word
+digits-free [] low digits = tt
+digits-free {c} (b ∷ word) low digits =
     let parts = tells_all_ascii_digits.parts b word digits in
-    (elim (eqb_tells b c) [ inl same ↦ absurd (omega arith) | inr apart ↦ apart.0 ], digits-free c word low parts.1)
+    (elim (eqb_tells b c) [ inl same ↦ absurd (omega arith) | inr apart ↦ apart.0 ], digits-free word low parts.1)
 
 -- the text of a number can stand as a word
-pub number-IsWord : (n : ℕ) → n < 2 ^ 64 → IsWord (number n)
-number-IsWord n small = (digits-free SPACE _ (lit< tt) (digits_decimal model n small), digits-free LINE_FEED _ (lit< tt) (digits_decimal model n small))
+pub number-IsWord : {n : ℕ} → n < 2 ^ 64 → IsWord (number n)
+number-IsWord {n} small = (digits-free _ (lit< tt) (digits_decimal model n small), digits-free _ (lit< tt) (digits_decimal model n small))
 
 -- the greatest number of 64 bits, as which a greater one is read
 abbrev pub greatest_u64 : ℕ
@@ -78,12 +71,6 @@ pub number_is_read : (r : Option ℕ) (word : List ℕ) (n : ℕ)
     → SomeIff r (IsNumber word) (min (digits_value 10 word) greatest_u64) → n < greatest_u64 → word ≡ number n → r ≡ Some n
 number_is_read None word n h small e = absurd (h (subst IsNumber (sym e) (number-IsNumber n (omega arith))))
 number_is_read (Some x) word n h small e =
-    let value : digits_value 10 word ≡ n = ap (digits_value 10) e ∙ value_of_number n (omega arith) in
+    let value : digits_value 10 word ≡ n = ap (digits_value 10) e ∙ value_of_number (omega arith) in
     let same : x ≡ n = omega arith in
     ap Some same
-
--- what was read, or a fault, is the word's number
-pub read_found : {E : Type 0} (r : Option ℕ) (word : List ℕ) (fault : E)
-    → SomeIff r (IsNumber word) (min (digits_value 10 word) greatest_u64) → IfOk (ok_or r fault) (λ n. n < greatest_u64 → word ≡ number n)
-read_found None word fault h = tt
-read_found (Some x) word fault h = λ small. read_is word x (h.0, sym h.1) small

@@ -1,4 +1,4 @@
-use Rattle.std.proofs.Common.{◌≡◌, ◌+◌, ◌<◌, ◌^◌, refl, arith}
+use Rattle.transfers.proofs.Common.{◌≡◌, ◌+◌, ◌<◌, ◌^◌, refl, arith}
 use Rattle.txn.proofs.Common.{each_plain, some_from, only_read, only_write, only_then, sees_read, sees_write, sees_then}
 use Rattle.transfers.proofs.Summing.{sum_fits, sum_adds}
 use Rattle.transfers.proofs.adding.add_to.Goals as goal

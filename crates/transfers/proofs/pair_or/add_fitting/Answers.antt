@@ -1,4 +1,4 @@
-use Rattle.std.proofs.Common.{◌+◌, ◌<◌, ◌≤◌, ◌^◌, arith}
+use Rattle.transfers.proofs.Common.{◌+◌, ◌<◌, ◌≤◌, ◌^◌, arith}
 use Rattle.transfers.proofs.Fitting.{leads_fits, leads_not}
 use Rattle.transfers.proofs.pair_or.add_fitting.Goals as goal
 

@@ -1,6 +1,5 @@
-use Rattle.std.proofs.Common.{ℕ, true, false, ◌∙◌, subst}
-use Rattle.txn.proofs.Common.{Trace, Begins, begins_trans, fits_begins, LeadsTo, TakesBack, leads_marked, leads_then, marked_stays, same_as_at_mark}
-use Rattle.transfers.specs.Counting.{AddsWhereFits}
+use Rattle.transfers.proofs.Common.{ℕ, true, false, ◌∙◌, subst, Trace, AddsWhereFits}
+use Rattle.txn.proofs.Common.{Begins, begins_trans, fits_begins, LeadsTo, TakesBack, leads_marked, leads_then, marked_stays, same_as_at_mark}
 use Rattle.transfers.proofs.Fitting.{both_fit, first_not, second_not}
 use Rattle.transfers.proofs.pair_or.add_pair.Goals as goal
 

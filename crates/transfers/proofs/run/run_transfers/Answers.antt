@@ -1,5 +1,5 @@
-use Rattle.std.proofs.Common.{◌≡◌, ℕ, Bool, List, get_or, sum, sym, ap, ◌∙◌, subst, arith}
-use Rattle.std.proofs.lemmas.Option.{same_Some, slice_get-get_or}
+use Rattle.transfers.proofs.Common.{◌≡◌, ℕ, List, get_or, sum, sym, ap, ◌∙◌, subst, arith, same_Some, slice_get-get_or}
+use Rattle.std.proofs.Common.{Bool}
 use Rattle.std.proofs.lemmas.Result.{IfOk-weaker}
 use Rattle.transfers.specs.declared.request.Answer.{Answer}
 use Rattle.transfers.specs.declared.request.Request.{Request}

@@ -1,8 +1,6 @@
-use Rattle.std.proofs.Common.{◌≡◌, ◌∙◌, arith}
-use Rattle.std.proofs.lemmas.Result.{IfOk-at_ok}
+use Rattle.twoplsf.proofs.Common.{◌≡◌, ◌∙◌, arith, IfOk-at_ok, RESTARTS_BELOW}
 use Rattle.books_report.specs.declared.check.Checked.{Checked}
 use Rattle.books_report.specs.declared.check.Checked.TheVariants.{Agrees}
-use Rattle.books_report.specs.declared.limits.TheConstants.{RESTARTS_BELOW}
 use Rattle.twoplsf.proofs.Days.{day_output}
 use Rattle.twoplsf.proofs.Drills.{output_below}
 use Rattle.twoplsf.proofs.agreement.agree.Goals as goal

@@ -1,10 +1,5 @@
-use Rattle.std.proofs.Common.{◌≡◌, ℕ, List, sym, ap, ◌∙◌, subst}
-use Rattle.std.proofs.lemmas.Result.{IfOk-weaker}
-use Rattle.books_model.specs.Books.{ClearingBooks}
-use Rattle.txn_books.specs.declared.shape.BooksShape.{BooksShape}
-use Rattle.txn_books.specs.Layout.{shape_of}
-use Rattle.txn_books.specs.Standing.{Stands}
-use Rattle.twoplsf.specs.Day.{closing_books}
+use Rattle.twoplsf.proofs.Common.{◌≡◌, ℕ, List, sym, ap, ◌∙◌, subst, IfOk-weaker, ClearingBooks, BooksShape, shape_of, closing_books}
+use Rattle.txn_books.proofs.Common.{Stands}
 use Rattle.twoplsf.proofs.answer.closing_of.Goals as goal
 
 pub read_books-requires : goal.read_books-requires

@@ -1,10 +1,4 @@
-use Rattle.std.proofs.Common.{All, List, map, ap, ◌∙◌, subst, sym}
-use Rattle.std.proofs.lemmas.Result.{IfOk-weaker}
-use Rattle.script_reader.specs.Journal.{IsPlace}
-use Rattle.books_report.specs.Lines.{lent, place_of_line}
-use Rattle.books_report.specs.declared.line.Line.{Line}
-use Rattle.worker_pool.specs.Days.{Done}
-use Rattle.txn_stores.specs.Journals.{line_of_done}
+use Rattle.twoplsf.proofs.Common.{All, List, map, ap, ◌∙◌, subst, sym, IfOk-weaker, IsPlace, lent, place_of_line, Line, Done, line_of_done}
 use Rattle.twoplsf.proofs.Days.{lines_places, text_is}
 use Rattle.twoplsf.proofs.answer.output_of.Goals as goal
 

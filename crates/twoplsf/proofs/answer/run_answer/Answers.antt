@@ -1,8 +1,4 @@
-use Rattle.std.proofs.Common.{Err, ap, ◌∙◌, inl}
-use Rattle.std.proofs.lemmas.Result.{IfOk-weaker}
-use Rattle.script_reader.specs.Faults.{IsFirstFault}
-use Rattle.script_reader.specs.Grammar.{Spells}
-use Rattle.twoplsf.specs.Answer.{IsRunOf}
+use Rattle.twoplsf.proofs.Common.{Err, ap, ◌∙◌, inl, IfOk-weaker, IsFirstFault, Spells, IsRunOf}
 use Rattle.twoplsf.proofs.Serving.{refusing}
 use Rattle.twoplsf.proofs.Days.{day_output}
 use Rattle.twoplsf.proofs.Served.{no_input}

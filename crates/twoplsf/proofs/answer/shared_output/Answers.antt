@@ -1,13 +1,7 @@
-use Rattle.std.proofs.Common.{List, All, ◌++◌, map, ap, ◌∙◌, subst, sym}
-use Rattle.std.proofs.lemmas.Result.{IfOk-weaker}
-use Rattle.std.specs.String.{string_bytes}
-use Rattle.script_reader.specs.Journal.{IsPlace}
-use Rattle.books_report.specs.Journals.{journal_lines}
-use Rattle.worker_pool.specs.Days.{Done, place_of_item}
-use Rattle.twoplsf.specs.Day.{ran_of_item}
+use Rattle.twoplsf.proofs.Common.{List, All, ◌++◌, map, ap, ◌∙◌, subst, sym, IfOk-weaker, string_bytes, IsPlace, journal_lines, Done, place_of_item}
+use Rattle.twoplsf.proofs.Common.{ran_of_item, reply_words}
 use Rattle.twoplsf.proofs.Days.{items_places, joined_is}
 use Rattle.twoplsf.proofs.answer.shared_output.Goals as goal
-use Rattle.books_report.specs.Words.{reply_words}
 
 pub write_shared-requires-clause-places : goal.write_shared-requires-clause-places
 write_shared-requires-clause-places g c _ _ =

@@ -1,8 +1,5 @@
-use Rattle.std.proofs.Common.{sym, subst}
+use Rattle.twoplsf.proofs.Common.{sym, subst, CELLS, sums_of, AreCellValues}
 use Rattle.txn_cells.specs.contracts.numbers.U128Coded.TheImpl.{ghosts as numbers}
-use Rattle.txn_cells.specs.declared.limits.TheConstants.{CELLS}
-use Rattle.txn_cells.specs.Adding.{sums_of}
-use Rattle.txn_cells.specs.Cells.{AreCellValues}
 use Rattle.twoplsf.proofs.cells.add_to_cells.Goals as goal
 
 pub text_of_cells-requires : goal.text_of_cells-requires

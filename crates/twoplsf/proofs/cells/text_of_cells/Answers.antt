@@ -1,9 +1,7 @@
-use Rattle.std.proofs.Common.{◌≡◌, ◌++◌, ℕ, Vec, Global, take, sym, ap, ◌∙◌, subst, arith}
+use Rattle.twoplsf.proofs.Common.{◌≡◌, ◌++◌, ℕ, Vec, Global, take, sym, ap, ◌∙◌, subst, arith, CELLS, AreCellValues, cell_line, cells_text}
+use Rattle.txn_cells.proofs.Common.{AreCells}
 use Rattle.std.proofs.lemmas.List.{take_all}
 use Rattle.txn_cells.specs.contracts.numbers.U128Coded.TheImpl.{ghosts as numbers}
-use Rattle.txn_cells.specs.declared.limits.TheConstants.{CELLS}
-use Rattle.txn_cells.specs.Cells.{AreCells, AreCellValues}
-use Rattle.twoplsf.specs.Cells.{cell_line, cells_text}
 use Rattle.twoplsf.proofs.CellLines.{line_more}
 use Rattle.twoplsf.proofs.cells.text_of_cells.Goals as goal
 

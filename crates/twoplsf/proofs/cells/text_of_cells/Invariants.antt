@@ -1,9 +1,5 @@
-use Rattle.std.proofs.Common.{◌≡◌, ℕ, List, take}
-use Rattle.std.specs.String.{string_bytes}
+use Rattle.twoplsf.proofs.Common.{◌≡◌, ℕ, List, take, string_bytes, CELLS, AreCellValues, cells_text}
 use Rattle.txn_cells.specs.contracts.numbers.U128Coded.TheImpl.{ghosts as numbers}
-use Rattle.txn_cells.specs.declared.limits.TheConstants.{CELLS}
-use Rattle.txn_cells.specs.Cells.{AreCellValues}
-use Rattle.twoplsf.specs.Cells.{cells_text}
 use Rattle.twoplsf.proofs.cells.text_of_cells.Given as goal
 
 -- the cells so far have their lines

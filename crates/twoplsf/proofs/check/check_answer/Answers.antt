@@ -1,10 +1,7 @@
-use Rattle.std.proofs.Common.{◌-◌, ◌++◌, ℕ, List, length, take, drop, sym, ap, ◌∙◌, Err, inl, take-append-drop}
+use Rattle.twoplsf.proofs.Common.{◌-◌, ◌++◌, ℕ, List, length, take, sym, ap, ◌∙◌, Err, inl, IfOk-weaker, IsFrontFault, ClearingInput, Spells, AreTwoTexts}
+use Rattle.twoplsf.proofs.Common.{IsComparisonOf}
+use Rattle.std.proofs.Common.{drop, take-append-drop}
 use Rattle.std.proofs.lemmas.List.{take_rest}
-use Rattle.std.proofs.lemmas.Result.{IfOk-weaker}
-use Rattle.script_reader.specs.Faults.{IsFrontFault}
-use Rattle.script_reader.specs.Input.{ClearingInput}
-use Rattle.script_reader.specs.Grammar.{Spells, AreTwoTexts}
-use Rattle.twoplsf.specs.Answer.{IsComparisonOf}
 use Rattle.twoplsf.proofs.Serving.{refusing}
 use Rattle.twoplsf.proofs.Served.{no_front}
 use Rattle.twoplsf.proofs.check.check_answer.Goals as goal

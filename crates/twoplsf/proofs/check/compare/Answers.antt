@@ -1,5 +1,4 @@
-use Rattle.std.proofs.Common.{Ok, ap, inr, ◌∙◌}
-use Rattle.std.proofs.lemmas.Result.{IfOk-weaker}
+use Rattle.twoplsf.proofs.Common.{Ok, ap, inr, ◌∙◌, IfOk-weaker}
 use Rattle.twoplsf.proofs.check.compare.Goals as goal
 
 pub returns-in-Differs : goal.returns-in-Differs

@@ -1,7 +1,5 @@
-use Rattle.std.proofs.Common.{◌≡◌, rules, arith, length}
+use Rattle.twoplsf.proofs.Common.{◌≡◌, rules, arith, length, number, texts_of}
 use Rattle.std.proofs.lemmas.Grind.{common_steps}
-use Rattle.script_reader.specs.Text.{number}
-use Rattle.twoplsf.specs.Command.{texts_of}
 use Rattle.twoplsf.proofs.Commands.{five_words, in_none}
 use Rattle.twoplsf.proofs.command.command_of.Goals as goal
 

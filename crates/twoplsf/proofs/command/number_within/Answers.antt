@@ -1,4 +1,4 @@
-use Rattle.std.proofs.Common.{◌≡◌, arith}
+use Rattle.twoplsf.proofs.Common.{◌≡◌, arith}
 use Rattle.script_reader.proofs.text.Tokens.Numerals.{number_is_read}
 use Rattle.twoplsf.proofs.Commands.{number_of, other_some}
 use Rattle.twoplsf.proofs.command.number_within.Goals as goal

@@ -1,8 +1,5 @@
-use Rattle.std.proofs.Common.{◌≡◌, sym, ap, ◌∙◌, subst}
-use Rattle.history_model.specs.Fitting.{IsGood}
-use Rattle.txn_books.specs.declared.shape.BooksShape.{BooksShape}
-use Rattle.txn_books.specs.Layout.{shape_of, words_of}
-use Rattle.txn_books.specs.Standing.{IsGoodFor}
+use Rattle.twoplsf.proofs.Common.{◌≡◌, sym, ap, ◌∙◌, subst, BooksShape, shape_of}
+use Rattle.txn_books.proofs.Common.{IsGood, words_of, IsGoodFor}
 use Rattle.twoplsf.proofs.day.run_day.Goals as goal
 
 pub new-requires-clause-good : goal.new-requires-clause-good

@@ -1,7 +1,4 @@
-use Rattle.std.proofs.Common.{Err, ap, ◌∙◌}
-use Rattle.std.proofs.lemmas.Result.{IfOk-weaker}
-use Rattle.order_text.specs.Grammar.{SpellsOrders, IsOrderFault}
-use Rattle.twoplsf.specs.Answer.{IsOrdersRunOf}
+use Rattle.twoplsf.proofs.Common.{Err, ap, ◌∙◌, IfOk-weaker, SpellsOrders, IsOrderFault, IsOrdersRunOf}
 use Rattle.twoplsf.proofs.Serving.{refusing}
 use Rattle.twoplsf.proofs.Served.{no_orders}
 use Rattle.twoplsf.proofs.orders.orders_answer.Goals as goal

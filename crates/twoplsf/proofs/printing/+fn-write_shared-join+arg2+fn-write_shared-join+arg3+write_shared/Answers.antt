@@ -1,10 +1,6 @@
-use Rattle.std.proofs.Common.{◌≡◌, ◌+◌, ◌++◌, IfOk, length, map, refl, subst, ◌∙◌}
-use Rattle.std.specs.String.{string_bytes}
-use Rattle.books_report.specs.Journals.{journal_lines}
-use Rattle.twoplsf.specs.Day.{ran_of_item}
+use Rattle.twoplsf.proofs.Common.{◌≡◌, ◌+◌, ◌++◌, IfOk, length, map, refl, subst, ◌∙◌, string_bytes, journal_lines, ran_of_item, reply_words}
 use Rattle.twoplsf.proofs.Printed.{pieces_joined}
 use Rattle.twoplsf.proofs.printing.+fn-write_shared-join+arg2+fn-write_shared-join+arg3+write_shared.Goals as goal
-use Rattle.books_report.specs.Words.{reply_words}
 
 pub returns : goal.returns
 returns g t c =

@@ -1,8 +1,4 @@
-use Rattle.std.proofs.Common.{List, ap, ◌∙◌, sym, subst, All}
-use Rattle.std.specs.String.{string_bytes}
-use Rattle.script_reader.specs.Journal.{IsPlace}
-use Rattle.books_report.specs.Lines.{lent, place_of_line}
-use Rattle.books_report.specs.declared.line.Line.{Line}
+use Rattle.twoplsf.proofs.Common.{List, ap, ◌∙◌, sym, subst, All, string_bytes, IsPlace, lent, place_of_line, Line}
 use Rattle.twoplsf.proofs.Days.{places_of_lines}
 use Rattle.twoplsf.proofs.Printed.{items_written}
 use Rattle.twoplsf.proofs.printing.write_items.Goals as goal

@@ -1,9 +1,6 @@
-use Rattle.std.proofs.Common.{inl}
-use Rattle.script_reader.specs.Grammar.{BeginWithInput, IsValidInput}
-use Rattle.twoplsf.specs.Orders.{IsOrdersText}
-use Rattle.twoplsf.specs.Records.{IsRecordsText}
-use Rattle.twoplsf.specs.declared.status.Status.TheVariants as status
+use Rattle.twoplsf.proofs.Common.{inl, BeginWithInput, IsValidInput, IsOrdersText, IsRecordsText}
 use Rattle.twoplsf.proofs.Endings.{one_status, one_of_two, ends_in_two, ends_in_three, some_with, where_ok}
+use Rattle.twoplsf.specs.declared.status.Status.TheVariants as status
 use Rattle.twoplsf.proofs.program.run_program.Goals as goal
 
 pub returns-in-Ok-clause-headline : goal.returns-in-Ok-clause-headline

@@ -1,4 +1,4 @@
-use Rattle.std.proofs.Common.{sym, subst, IfSome}
+use Rattle.twoplsf.proofs.Common.{sym, subst, IfSome}
 use Rattle.script_reader.specs.Pieces.{AreScripts}
 use Rattle.script_reader.proofs.books.Texts.Piecing.{both_pieces}
 use Rattle.twoplsf.proofs.reading.+fn-scripts_of-join+arg2+fn-scripts_of-join+arg3+scripts_of.Goals as goal

@@ -1,4 +1,4 @@
-use Rattle.script_reader.proofs.books.Texts.Deciding.{not_both}
+use Rattle.twoplsf.proofs.Common.{not_both}
 use Rattle.script_reader.proofs.books.Texts.OneInput.{one_input}
 use Rattle.twoplsf.proofs.reading.read_shared.Goals as goal
 

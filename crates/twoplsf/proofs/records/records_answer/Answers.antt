@@ -1,7 +1,4 @@
-use Rattle.std.proofs.Common.{Err, ap, ◌∙◌}
-use Rattle.std.proofs.lemmas.Result.{IfOk-weaker}
-use Rattle.record_text.specs.Grammar.{SpellsRecords, IsRecordFault}
-use Rattle.twoplsf.specs.Answer.{IsRecordsRunOf}
+use Rattle.twoplsf.proofs.Common.{Err, ap, ◌∙◌, IfOk-weaker, SpellsRecords, IsRecordFault, IsRecordsRunOf}
 use Rattle.twoplsf.proofs.Serving.{refusing}
 use Rattle.twoplsf.proofs.Served.{no_records}
 use Rattle.twoplsf.proofs.records.records_answer.Goals as goal

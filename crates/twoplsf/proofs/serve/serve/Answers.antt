@@ -1,10 +1,9 @@
-use Rattle.io_ends.specs.Counts.{Rose}
+use Rattle.twoplsf.proofs.Common.{Rose, texts_of}
 use Rattle.txn_cells.specs.contracts.numbers.U128Coded.TheImpl.{ghosts as numbers}
-use Rattle.twoplsf.specs.Command.{texts_of}
 use Rattle.twoplsf.proofs.CellLines.{one_list}
 use Rattle.twoplsf.proofs.Serving.{took_by}
-use Rattle.twoplsf.proofs.FromText.{HasEnded, causes, headline, headline_records, headline_orders, made}
-use Rattle.twoplsf.proofs.FromText.{complete, complete_check, complete_records, complete_orders, complete_making}
+use Rattle.twoplsf.proofs.FromText.{HasEnded, causes, headline, headline_records, headline_orders, made, complete, complete_check, complete_records}
+use Rattle.twoplsf.proofs.FromText.{complete_orders, complete_making}
 use Rattle.twoplsf.proofs.serve.serve.Given.{Over}
 use Rattle.twoplsf.proofs.serve.serve.Goals as goal
 

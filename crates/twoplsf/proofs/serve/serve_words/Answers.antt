@@ -1,12 +1,9 @@
-use Rattle.std.proofs.Common.{rules, ◌≡◌, ◌+◌, IfSome, refl, arith, inl, inr}
-use Rattle.io_ends.specs.Taken.{TakesAtMost, count_taken}
-use Rattle.script_reader.specs.declared.limits.TheConstants.{MOST_INPUT_BYTES}
+use Rattle.twoplsf.proofs.Common.{rules, ◌≡◌, ◌+◌, IfSome, refl, arith, inl, inr, TakesAtMost, count_taken, MOST_INPUT_BYTES, IsValidCommand, texts_of}
+use Rattle.twoplsf.proofs.Common.{refused_size, refused_words}
 use Rattle.txn_cells.specs.contracts.numbers.U128Coded.TheImpl.{ghosts as numbers}
-use Rattle.twoplsf.specs.Command.{IsValidCommand, texts_of}
-use Rattle.twoplsf.specs.Answer.{refused_size, refused_words}
-use Rattle.twoplsf.specs.declared.status.Status.TheVariants as status
 use Rattle.twoplsf.proofs.CellLines.{one_list}
 use Rattle.twoplsf.proofs.Serving.{by_answer, by_written, no_error, nothing_counted, printed_none, reading_by, valid_is, was_read}
+use Rattle.twoplsf.specs.declared.status.Status.TheVariants as status
 use Rattle.twoplsf.proofs.serve.serve_words.Goals as goal
 
 pub returns-in_default : goal.returns-in_default

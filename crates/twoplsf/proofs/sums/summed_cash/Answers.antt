@@ -1,8 +1,5 @@
-use Rattle.std.proofs.Common.{not, nat_lt, refl, sym, ap, ◌∙◌, arith, sum_by}
-use Rattle.std.specs.Cmp.{nat_cmp_total}
-use Rattle.std.specs.FinMap.{entries, entries_sorted}
-use Rattle.books_model.proofs.Maps.Keys.{is_lt-nat_cmp}
-use Rattle.books_report.proofs.Walking.Walks.{up_to_all}
+use Rattle.twoplsf.proofs.Common.{not, nat_lt, refl, sym, ap, ◌∙◌, arith, sum_by, nat_cmp_total, entries, entries_sorted, up_to_all}
+use Rattle.books_report.proofs.Common.{is_lt-nat_cmp}
 use Rattle.books_report.proofs.Walking.Walked.{accounts_from}
 use Rattle.twoplsf.proofs.Summing.{summed_next, some_cash}
 use Rattle.twoplsf.proofs.sums.summed_cash.Goals as goal

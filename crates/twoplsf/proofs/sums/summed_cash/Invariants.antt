@@ -1,6 +1,4 @@
-use Rattle.std.proofs.Common.{◌≡◌, ◌-◌, nat_lt, sum_by}
-use Rattle.std.specs.FinMap.{entries}
-use Rattle.books_report.proofs.Walking.Walks.{up_to}
+use Rattle.twoplsf.proofs.Common.{◌≡◌, ◌-◌, nat_lt, sum_by, entries, up_to}
 use Rattle.twoplsf.proofs.sums.summed_cash.Given as goal
 
 -- the accounts up to the last one are summed up

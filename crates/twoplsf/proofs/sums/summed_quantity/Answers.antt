@@ -1,9 +1,6 @@
-use Rattle.std.proofs.Common.{◌+◌, ℕ, Bool, not, refl, sym, ap, ◌∙◌, arith, sum_by}
-use Rattle.std.specs.Ordering.{is_lt}
-use Rattle.std.specs.FinMap.{entries, entries_sorted}
-use Rattle.books_model.specs.Books.{position_cmp}
-use Rattle.books_model.specs.Inner.Keys.{positions_total}
-use Rattle.books_report.proofs.Walking.Walks.{up_to_all, fewer_left}
+use Rattle.twoplsf.proofs.Common.{◌+◌, ℕ, Bool, not, refl, sym, ap, ◌∙◌, arith, sum_by, is_lt, entries, entries_sorted, position_cmp, up_to_all}
+use Rattle.books_report.proofs.Common.{positions_total}
+use Rattle.books_report.proofs.Walking.Walks.{fewer_left}
 use Rattle.books_report.proofs.Walking.Walked.{positions_from, found_entry, found_nothing}
 use Rattle.twoplsf.proofs.Summing.{summed_next, some_quantity}
 use Rattle.twoplsf.proofs.sums.summed_quantity.Goals as goal

@@ -1,8 +1,4 @@
-use Rattle.std.proofs.Common.{◌≡◌, ◌-◌, length, sum_by}
-use Rattle.std.specs.Ordering.{is_lt}
-use Rattle.std.specs.FinMap.{entries}
-use Rattle.books_model.specs.Books.{position_cmp}
-use Rattle.books_report.proofs.Walking.Walks.{up_to}
+use Rattle.twoplsf.proofs.Common.{◌≡◌, ◌-◌, length, sum_by, is_lt, entries, position_cmp, up_to}
 use Rattle.twoplsf.proofs.sums.summed_quantity.Given as goal
 
 -- the positions up to the last one are summed up

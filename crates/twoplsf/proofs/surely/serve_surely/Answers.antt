@@ -1,12 +1,6 @@
-use Rattle.std.proofs.Common.{◌≡◌, ◌≤◌, ◌<◌, ◌⊎◌, ◌∙◌, ℕ, List, length, Option, None, Some, IfSome, sym, ap, subst, inl, inr, arith}
-use Rattle.std.proofs.lemmas.Option.{IfSome_then}
-use Rattle.io_ends.specs.Counts.{Rose}
-use Rattle.script_reader.specs.Grammar.{AreTwoTexts, BeginWithInput, IsValidInput}
-use Rattle.script_reader.specs.declared.limits.TheConstants.{MOST_INPUT_BYTES}
-use Rattle.twoplsf.specs.Answer.{HaveInputFor, IsDayFor, OfBytesRead}
-use Rattle.twoplsf.specs.Command.{texts_of}
-use Rattle.twoplsf.specs.Orders.{IsOrdersText}
-use Rattle.twoplsf.specs.Records.{IsRecordsText}
+use Rattle.twoplsf.proofs.Common.{◌≡◌, ◌≤◌, ◌<◌, ◌⊎◌, ◌∙◌, ℕ, List, length, Option, None, Some, IfSome, sym, ap, subst, inl, inr, arith, IfSome_then, Rose}
+use Rattle.twoplsf.proofs.Common.{AreTwoTexts, BeginWithInput, IsValidInput, MOST_INPUT_BYTES, HaveInputFor, IsDayFor, OfBytesRead, texts_of, IsOrdersText}
+use Rattle.twoplsf.proofs.Common.{IsRecordsText}
 use Rattle.twoplsf.proofs.surely.serve_surely.Goals as goal
 
 -- a count that is 0 before and after did not rise

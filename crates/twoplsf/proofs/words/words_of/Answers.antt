@@ -1,7 +1,6 @@
-use Rattle.std.proofs.Common.{◌≡◌, length, refl, rules}
+use Rattle.twoplsf.proofs.Common.{◌≡◌, length, refl, rules, IfOk-at_ok}
 use Rattle.std.proofs.lemmas.Iterator.{items_from_collect}
 use Rattle.std.proofs.lemmas.Iterator.Adapters.{YieldsList-from_vec}
-use Rattle.std.proofs.lemmas.Result.{IfOk-at_ok}
 use Rattle.twoplsf.proofs.words.words_of.Goals as goal
 
 pub returns-in_ok-collect-in-Ok-clause-texts : goal.returns-in_ok-collect-in-Ok-clause-texts

@@ -1,11 +1,5 @@
-use Rattle.std.proofs.Common.{◌≡◌, ◌+◌, ◌*◌, ◌<◌, inl, inr, arith, ap, ◌∙◌, rules}
-use Rattle.std.proofs.lemmas.Result.{IfOk-from_err}
-use Rattle.history_model.proofs.Traces.TraceLaws.{begins_trans}
-use Rattle.txn_words.specs.Calls.{GoesOn}
-use Rattle.txn_words.proofs.CallLaws.{each_plain, state_after, goes_call, goes_then, goes_as}
-use Rattle.txn_words.proofs.ReadLaws.{sees_read, sees_then, sees_write}
-use Rattle.txn_words.proofs.FrameLaws.{only_read, only_write, only_then, writes_keep}
-use Rattle.txn_alloc.specs.FreeLists.{block_at, IsHeadOrFirst, IsInOrder, Gives}
+use Rattle.txn_alloc.proofs.Common.{◌≡◌, ◌+◌, ◌*◌, inl, inr, arith, ap, ◌∙◌, rules, begins_trans, each_plain, state_after, goes_call, goes_then, goes_as}
+use Rattle.txn_alloc.proofs.Common.{sees_read, sees_then, sees_write, only_read, only_write, only_then, writes_keep, block_at, IsHeadOrFirst, IsInOrder, Gives}
 use Rattle.txn_alloc.proofs.FreeLists.Rounds.{own_head}
 use Rattle.txn_alloc.proofs.FreeLists.Traces.{Lies, lies, gives_back, order_given}
 use Rattle.txn_alloc.proofs.free.give.Goals as goal
@@ -22,8 +16,7 @@ write-requires-clause-within g c =
     lies a _ _ _ (each_plain g.W.Words g.W.Shape.Shape _ _ c.requires.order) (g.met.W.Words.fits c.args.w.now c.requires.ready.sound) in
     let same : g.W.Shape.Shape.word_count (g.W.Words.shape c.read.new.self)
     ≡ g.W.Shape.Shape.word_count (g.W.Words.shape c.args.w.now) = ap g.W.Shape.Shape.word_count c.in_ok-first.ensures.shape in
-    let within : block_at a c.args.block < g.W.Shape.Shape.word_count (g.W.Words.shape c.args.w.now) = l.block c.args.block c.requires.number in
-    omega (arith, within, same)
+    omega (arith, l.block c.args.block c.requires.number)
 
 pub write-requires-2-clause-within : goal.write-requires-2-clause-within
 write-requires-2-clause-within g c =
@@ -33,7 +26,7 @@ write-requires-2-clause-within g c =
     let same : g.W.Shape.Shape.word_count (g.W.Words.shape c.write.new.self)
     ≡ g.W.Shape.Shape.word_count (g.W.Words.shape c.args.w.now) =
     ap g.W.Shape.Shape.word_count (c.in_ok-write.ensures.shape ∙ c.in_ok-first.ensures.shape) in
-    omega (arith, l.head c.from.result, same, c.head_of-head.ensures)
+    omega (arith, l.head c.from.result, c.head_of-head.ensures)
 
 pub returns-clause-given : goal.returns-clause-given
 returns-clause-given g c =
@@ -81,23 +74,12 @@ returns-clause-reads g c =
     (sees_write seen _ _ _ _ c.in_ok-write-2.ensures.value
     (inl (own_head c.args.arena.now _ _ _ (c.from.ensures ∙ c.number-number.ensures) c.head_of-head.ensures))))
 
-pub returns-in_err-first : goal.returns-in_err-first
-returns-in_err-first g c =
-    let failed = c.from_residual.ensures.0 in
-    let on : GoesOn g.W.Words c.args.w.now c.read.new.self c.from_residual.result = goes_as (goes_call c.in_err-first.ensures) (search rules) in
-    search IfOk-from_err
+pub returns-in_err-first-clause-goes_on : goal.returns-in_err-first-clause-goes_on
+returns-in_err-first-clause-goes_on g c = goes_as (goes_call c.in_err-first.ensures) (search rules)
 
-pub returns-in_err-write : goal.returns-in_err-write
-returns-in_err-write g c =
-    let failed = c.from_residual-in_err-write.ensures.0 in
-    let on : GoesOn g.W.Words c.args.w.now c.write.new.self c.from_residual-in_err-write.result =
-    goes_as (goes_then (goes_call c.in_ok-first.ensures) (goes_call c.in_err-write.ensures)) (search rules) in
-    search IfOk-from_err
+pub returns-in_err-write-clause-goes_on : goal.returns-in_err-write-clause-goes_on
+returns-in_err-write-clause-goes_on g c = goes_as (goes_then (goes_call c.in_ok-first.ensures) (goes_call c.in_err-write.ensures)) (search rules)
 
-pub returns-in_err-write-2 : goal.returns-in_err-write-2
-returns-in_err-write-2 g c =
-    let failed = c.from_residual-in_err-write-2.ensures.0 in
-    let on : GoesOn g.W.Words c.args.w.now c.write-2.new.self c.from_residual-in_err-write-2.result =
-    goes_as (goes_then (goes_then (goes_call c.in_ok-first.ensures) (goes_call c.in_ok-write.ensures))
-    (goes_call c.in_err-write-2.ensures)) (search rules) in
-    search IfOk-from_err
+pub returns-in_err-write-2-clause-goes_on : goal.returns-in_err-write-2-clause-goes_on
+returns-in_err-write-2-clause-goes_on g c = goes_as (goes_then (goes_then (goes_call c.in_ok-first.ensures) (goes_call c.in_ok-write.ensures))
+    (goes_call c.in_err-write-2.ensures)) (search rules)

@@ -1,8 +1,5 @@
-use Rattle.std.proofs.Common.{◌≡◌, ◌+◌, ◌-◌, ◌%◌, ◌<◌, refl, arith, rules, ap, ◌∙◌}
-use Rattle.std.proofs.lemmas.Result.{IfOk-from_err}
-use Rattle.txn_words.specs.Calls.{GoesOn}
-use Rattle.txn_words.proofs.CallLaws.{each_plain, goes, goes_call, goes_then, goes_as}
-use Rattle.txn_words.proofs.Looks.{some_from}
+use Rattle.txn_alloc.proofs.Common.{◌≡◌, ◌+◌, ◌-◌, ◌%◌, ◌<◌, refl, arith, rules, ap, ◌∙◌, each_plain, goes_call, goes_then, goes_as, some_from}
+use Rattle.txn_words.proofs.CallLaws.{goes}
 use Rattle.txn_alloc.proofs.FreeLists.Traces.{lies}
 use Rattle.txn_alloc.proofs.FreeLists.Takings.{none_passed, one_passed, found_block, found_below, all_passed}
 use Rattle.txn_alloc.proofs.free.nearest.Goals as goal
@@ -27,13 +24,10 @@ read-requires-clause-going g c = c.loop-passed.invariant.stop
 pub read-requires-clause-sound : goal.read-requires-clause-sound
 read-requires-clause-sound g c = c.loop-passed.invariant.sound
 
-pub returns-in_err-name : goal.returns-in_err-name
-returns-in_err-name g c =
+pub returns-in_err-name-clause-goes_on : goal.returns-in_err-name-clause-goes_on
+returns-in_err-name-clause-goes_on g c =
     let i = c.loop-passed.invariant in
-    let failed = c.from_residual.ensures.0 in
-    let on : GoesOn g.W.Words c.args.w.now c.read.new.self c.from_residual.result =
-    goes_as (goes_then (goes i.shape i.origin i.looks.begins i.stop i.sound) (goes_call c.in_err-name.ensures)) (search rules) in
-    search IfOk-from_err
+    goes_as (goes_then (goes i.shape i.origin i.looks.begins i.stop i.sound) (goes_call c.in_err-name.ensures)) (search rules)
 
 pub prove-unreachable-requires : goal.prove-unreachable-requires
 prove-unreachable-requires g c =
@@ -45,7 +39,7 @@ prove-unreachable-requires g c =
     let lt : c.in_ok-name.name - 1 < a.blocks =
     found_below a c.args.near _ _ _ _ _ c.loop-passed.passed _ _ i.looks c.head_of.ensures read.value
     (c.in_ok-name.name - 1) c.loop-passed-test.true one_more (each_plain g.W.Words g.W.Shape.Shape _ _ c.requires.order) some in
-    omega (arith, lt, c.if-prove.true, c.from.ensures)
+    omega (arith, c.if-prove.true, c.from.ensures)
 
 pub overflow_cast-result : goal.overflow_cast-result
 overflow_cast-result g c = omega (arith, c.if-prove.false, c.from.ensures)
@@ -78,7 +72,7 @@ loop-passed-preserved g c =
     }
 
 pub returns-clause-none : goal.returns-clause-none
-returns-clause-none g c = all_passed c.args.arena.now c.args.near _ _ _ _ c.loop-passed.passed
+returns-clause-none g c = all_passed c.args.arena.now c.args.near _ _ _ c.loop-passed.passed
     (omega (arith, c.loop-passed-test.false)) c.loop-passed.invariant.looks
 
 pub returns-clause-goes_on : goal.returns-clause-goes_on

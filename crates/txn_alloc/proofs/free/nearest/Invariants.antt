@@ -1,5 +1,4 @@
-use Rattle.std.proofs.Common.{◌≡◌, None}
-use Rattle.txn_words.specs.Looks.{Looks}
+use Rattle.txn_alloc.proofs.Common.{◌≡◌, None, Looks}
 use Rattle.txn_alloc.proofs.FreeLists.Takings.{AreEmpty, IsHeadWithin}
 use Rattle.txn_alloc.proofs.free.nearest.Given as goal
 

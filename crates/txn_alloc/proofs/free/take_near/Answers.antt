@@ -1,11 +1,8 @@
-use Rattle.std.proofs.Common.{Some, inl, inr, arith, ap, ◌∙◌}
-use Rattle.history_model.proofs.Traces.TraceLaws.{begins_trans}
+use Rattle.txn_alloc.proofs.Common.{Some, inl, inr, arith, ap, ◌∙◌, begins_trans, each_plain, leads_plain, state_after, sees_read, sees_then, sees_write}
+use Rattle.txn_alloc.proofs.Common.{sees_more, only_read, only_write, only_then, only_more, writes_keep, each_from, some_from, IsHeadTo, IsWrittenByTake}
+use Rattle.txn_alloc.proofs.Common.{IsReadByTake, IsInOrder, HasNone, Lacks, Takes}
 use Rattle.history_model.proofs.Traces.FittingLaws.{some_at}
-use Rattle.txn_words.proofs.CallLaws.{each_plain, leads_plain, state_after}
-use Rattle.txn_words.proofs.ReadLaws.{sees_read, sees_then, sees_write, sees_more}
-use Rattle.txn_words.proofs.FrameLaws.{only_read, only_write, only_then, only_more, writes_keep}
-use Rattle.txn_words.proofs.Looks.{each_looked, each_from, some_from}
-use Rattle.txn_alloc.specs.FreeLists.{IsHeadTo, IsWrittenByTake, IsReadByTake, IsInOrder, HasNone, Lacks, Takes}
+use Rattle.txn_words.proofs.Looks.{each_looked}
 use Rattle.txn_alloc.proofs.FreeLists.Rounds.{own_head, last_head}
 use Rattle.txn_alloc.proofs.FreeLists.Traces.{lies, taken_from_some, order_taken, lacks_itself}
 use Rattle.txn_alloc.proofs.FreeLists.Takings.{found_none, takes_nearest, takes_some}
@@ -14,7 +11,7 @@ use Rattle.txn_alloc.proofs.free.take_near.Goals as goal
 pub returns-in_default-clause-none : goal.returns-in_default-clause-none
 returns-in_default-clause-none g c =
     let none = rw c.in_default.is at c.in_ok-number.ensures.none in
-    record { at = (found_none c.args.arena.now c.args.near _ _ _ _ none (each_plain g.W.Words g.W.Shape.Shape _ _ c.requires.order)).at }
+    record { at = (found_none c.args.arena.now c.args.near _ _ _ none (each_plain g.W.Words g.W.Shape.Shape _ _ c.requires.order)).at }
 
 pub returns-in_default-clause-order : goal.returns-in_default-clause-order
 returns-in_default-clause-order g c =
@@ -45,7 +42,7 @@ returns-clause-taken g c =
     let found = rw c.in-Some.is at c.in_ok-number.ensures.found in
     rw c.of.ensures (record {
       at =
-          (takes_some a c.args.near _ _ _ _ c.in-Some.number found _ _ _ _ c.in_ok-next.next c.place_of.ensures
+          (takes_some a c.args.near _ _ _ found _ _ _ _ c.in_ok-next.next c.place_of.ensures
           c.in_ok-next.ensures.value (own_head a _ _ _ c.from.ensures c.head_of.ensures) c.in_ok-write.ensures.value).at;
     })
 
@@ -54,7 +51,7 @@ returns-clause-nearest g c =
     let found = rw c.in-Some.is at c.in_ok-number.ensures.found in
     rw c.of.ensures (record {
       at =
-          (takes_nearest c.args.arena.now c.args.near _ _ _ _ c.in-Some.number found _
+          (takes_nearest c.args.arena.now c.args.near _ _ _ found _
           (begins_trans _ _ _ c.in_ok-next.ensures.begins c.in_ok-write.ensures.begins)).at;
     })
 
@@ -64,7 +61,7 @@ returns-clause-none_if g c =
     let some = some_from g.W.Words g.W.Shape.Shape c.args.w.now c.write.new.self
     (c.in_ok-write.ensures.shape ∙ c.in_ok-next.ensures.shape ∙ c.in_ok-number.ensures.goes_on.shape)
     (g.met.W.Words.fits c.write.new.self c.in_ok-write.ensures.sound) in
-    λ none. taken_from_some a _ _ _ _ c.of.result some
+    λ none. taken_from_some a _ _ _ c.of.result some
     (leads_plain g.W.Words g.W.Shape.Shape _ _ (Takes a (Some c.of.result)) (returns-clause-taken g c))
     (leads_plain g.W.Words g.W.Shape.Shape _ _ (λ before after. HasNone a before) none)
 

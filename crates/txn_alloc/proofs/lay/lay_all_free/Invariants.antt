@@ -1,5 +1,4 @@
-use Rattle.std.proofs.Common.{drop}
-use Rattle.txn_alloc.specs.Laying.{all_blocks}
+use Rattle.txn_alloc.proofs.Common.{drop, all_blocks}
 use Rattle.txn_alloc.proofs.FreeLists.Laid.{IsLaidFrom}
 use Rattle.txn_alloc.proofs.lay.lay_all_free.Given as goal
 

@@ -1,4 +1,4 @@
-use Rattle.std.proofs.Common.{◌≡◌, ℕ, suc, ◌-◌, drop, subst, arith}
+use Rattle.txn_alloc.proofs.Common.{◌≡◌, ℕ, suc, ◌-◌, drop, subst, arith}
 use Rattle.txn_alloc.proofs.FreeLists.Laid.{IsLaidFrom, laid_back, laid_free}
 use Rattle.txn_alloc.proofs.lay.lay_free.Goals as goal
 
@@ -8,7 +8,7 @@ loop-index-preserved c =
     let n : ℕ = c.loop-index.index - 1 in
     let more : c.loop-index.index ≡ suc n = omega (arith, c.loop-index-test.true) in
     rw c.put_first.ensures
-    (laid_back c.args.arena.now order c.args.words.now c.requires.laid_out c.requires.once c.requires.below c.loop-index.words n
+    (laid_back c.requires.laid_out c.requires.once c.requires.below n
     (omega (arith, c.loop-index-test.true))
     (subst (λ k. IsLaidFrom c.args.arena.now order c.args.words.now (drop k order) c.loop-index.words) more c.loop-index.invariant))
 
@@ -16,5 +16,5 @@ pub returns-clause-free : goal.returns-clause-free
 returns-clause-free c =
     let order = c.args.order.now in
     let none : c.loop-index.index ≡ 0 = omega (arith, c.loop-index-test.false) in
-    laid_free c.args.arena.now order c.args.words.now c.requires.laid_out c.loop-index.words
+    laid_free c.args.arena.now order c.args.words.now c.requires.laid_out
     (subst (λ k. IsLaidFrom c.args.arena.now order c.args.words.now (drop k order) c.loop-index.words) none c.loop-index.invariant) c.requires.once

@@ -1,4 +1,4 @@
-use Rattle.std.proofs.Common.{drop}
+use Rattle.txn_alloc.proofs.Common.{drop}
 use Rattle.txn_alloc.proofs.FreeLists.Laid.{IsLaidFrom}
 use Rattle.txn_alloc.proofs.lay.lay_free.Given as goal
 

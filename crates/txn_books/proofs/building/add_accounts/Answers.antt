@@ -1,12 +1,8 @@
-use Rattle.std.proofs.Common.{◌+◌, subst, arith}
-use Rattle.std.specs.Ordering.{nat_cmp}
-use Rattle.std.specs.FinMap as entry_map
+use Rattle.txn_books.proofs.Common.{◌+◌, subst, arith, nat_cmp, tree_of, nothing_yet, IsBuilt, above}
 use Rattle.txn_tree_map.proofs.Inserts.SpineSteps.{spine_above}
-use Rattle.txn_books.specs.Layout.{tree_of}
-use Rattle.txn_books.specs.Inner.Reading.{nothing_yet}
 use Rattle.txn_books.proofs.OneState.States.{tree_apart}
-use Rattle.txn_books.specs.Inner.Building.{IsBuilt, above}
-use Rattle.txn_books.proofs.ReadOff.Growing.{number_next, one_less, accounts_first, account_step, accounts_done}
+use Rattle.txn_books.proofs.ReadOff.Growing.{number_next, one_less, accounts_first, account_step, number_done}
+use Rattle.std.specs.FinMap as entry_map
 use Rattle.txn_books.proofs.building.add_accounts.Goals as goal
 
 pub empty_spine-spine-requires : goal.empty_spine-spine-requires
@@ -20,13 +16,13 @@ loop-account-init c = record {
   done = entry_map.empty;
   built = c.requires.nothing;
   spine = rw (c.tree.ensures, c.deref.ensures.value) at c.empty_spine-spine.ensures 1;
-  left = accounts_first c.args.books.now c.ranges-2.ensures;
+  left = accounts_first c.ranges-2.ensures;
 }
 
 pub add_account-requires-clause-books : goal.add_account-requires-clause-books
 add_account-requires-clause-books c =
     let was = c.loop-account.invariant in
-    let k = account_step c.args.books.now c.ranges-2.ensures was.done c.loop-account.last was.left (
+    let k = account_step c.ranges-2.ensures was.done c.loop-account.last was.left (
       c.in-Some.account,
       c.in-Some.cash,
     ) c.in-Some.ensures.first in
@@ -47,7 +43,7 @@ loop-account-smaller c =
 pub loop-account-preserved : goal.loop-account-preserved
 loop-account-preserved c =
     let was = c.loop-account.invariant in
-    let k = account_step c.args.books.now c.ranges-2.ensures was.done c.loop-account.last was.left (
+    let k = account_step c.ranges-2.ensures was.done c.loop-account.last was.left (
       c.in-Some.account,
       c.in-Some.cash,
     ) c.in-Some.ensures.first in
@@ -62,4 +58,4 @@ pub returns : goal.returns
 returns c =
     let was = c.loop-account.invariant in
     subst (λ m. IsBuilt c.args.shape.now c.loop-account.words.items (record (nothing_yet c.args.books.now) { accounts = m }))
-    (accounts_done c.args.books.now c.ranges-2.ensures was.done c.loop-account.last was.left c.in_default.ensures.first) was.built
+    (number_done c.args.books.now.accounts was.done c.loop-account.last was.left c.in_default.ensures.first) was.built

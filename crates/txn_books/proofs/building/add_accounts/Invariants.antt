@@ -1,11 +1,6 @@
-use Rattle.std.proofs.Common.{◌+◌, length}
-use Rattle.std.specs.Ordering.{nat_cmp}
-use Rattle.std.specs.FinMap as entry_map
-use Rattle.txn_alloc.specs.EntryMaps.{Entries}
+use Rattle.txn_books.proofs.Common.{◌+◌, length, nat_cmp, Entries, tree_of, AddsUp, nothing_yet, IsBuilt, above}
 use Rattle.txn_tree_map.specs.Spines.{HasSpine}
-use Rattle.txn_books.specs.Layout.{tree_of}
-use Rattle.txn_books.specs.Inner.Reading.{AddsUp, nothing_yet}
-use Rattle.txn_books.specs.Inner.Building.{IsBuilt, above}
+use Rattle.std.specs.FinMap as entry_map
 use Rattle.txn_books.proofs.building.add_accounts.Given as goal
 
 -- the accounts up to the last one are in, the spine is that of their tree, and those above it make the rest

@@ -1,7 +1,4 @@
-use Rattle.std.proofs.Common.{◌==◌, length, sym, ap, ◌∙◌, subst}
-use Rattle.books_model.specs.Books.{put_call}
-use Rattle.txn_words.specs.Access.{ChangesWithRoom}
-use Rattle.txn_books.specs.Standing.{Stands, IsGoodFor}
+use Rattle.txn_books.proofs.Common.{◌==◌, length, sym, ap, ◌∙◌, subst, put_call, ChangesWithRoom, Stands, IsGoodFor}
 use Rattle.txn_books.proofs.OnBooks.Built.{built_good, led, fresh, as_many, roomy, call_room, built_of}
 use Rattle.txn_books.proofs.building.add_call.Goals as goal
 

@@ -1,6 +1,4 @@
-use Rattle.std.proofs.Common.{take}
-use Rattle.txn_books.specs.Inner.Reading.{with_positions}
-use Rattle.txn_books.specs.Inner.Building.{IsBuilt}
+use Rattle.txn_books.proofs.Common.{take, with_positions, IsBuilt}
 use Rattle.txn_books.proofs.building.add_calls.Given as goal
 
 -- as many calls are in as were gone over

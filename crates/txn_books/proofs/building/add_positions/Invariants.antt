@@ -1,8 +1,5 @@
-use Rattle.std.proofs.Common.{ℕ, length}
+use Rattle.txn_books.proofs.Common.{ℕ, length, position_cmp, AddsUp, with_prices, IsBuilt, above}
 use Rattle.std.specs.FinMap as entry_map
-use Rattle.books_model.specs.Books.{position_cmp}
-use Rattle.txn_books.specs.Inner.Reading.{AddsUp, with_prices}
-use Rattle.txn_books.specs.Inner.Building.{IsBuilt, above}
 use Rattle.txn_books.proofs.building.add_positions.Given as goal
 
 -- the positions up to the last one are in, and those above it make the rest

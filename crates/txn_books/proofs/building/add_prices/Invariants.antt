@@ -1,9 +1,5 @@
-use Rattle.std.proofs.Common.{length}
-use Rattle.std.specs.Ordering.{nat_cmp}
+use Rattle.txn_books.proofs.Common.{length, nat_cmp, Entries, AddsUp, with_accounts, IsBuilt, above}
 use Rattle.std.specs.FinMap as entry_map
-use Rattle.txn_alloc.specs.EntryMaps.{Entries}
-use Rattle.txn_books.specs.Inner.Reading.{AddsUp, with_accounts}
-use Rattle.txn_books.specs.Inner.Building.{IsBuilt, above}
 use Rattle.txn_books.proofs.building.add_prices.Given as goal
 
 -- the prices up to the last one are in, and those above it make the rest

@@ -1,4 +1,4 @@
-use Rattle.std.proofs.Common.{◌+◌, ◌++◌, sym, ap, ◌∙◌, subst, arith}
+use Rattle.txn_books.proofs.Common.{◌+◌, ◌++◌, sym, ap, ◌∙◌, subst, arith}
 use Rattle.txn_books.proofs.LaidOut.Relaid.{AreFreeBelow, free_none, free_more, free_all}
 use Rattle.txn_books.proofs.building.free_blocks.Goals as goal
 

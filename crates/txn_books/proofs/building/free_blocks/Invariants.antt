@@ -1,5 +1,4 @@
-use Rattle.txn_alloc.specs.EntryMaps.{Blocks}
-use Rattle.txn_alloc.specs.FreeLists.{FreeListsHold}
+use Rattle.txn_books.proofs.Common.{Blocks, FreeListsHold}
 use Rattle.txn_books.proofs.LaidOut.Relaid.{AreFreeBelow}
 use Rattle.txn_books.proofs.building.free_blocks.Given as goal
 

@@ -1,5 +1,4 @@
-use Rattle.std.proofs.Common.{ℕ, ◌+◌, ◌-◌, List, length}
-use Rattle.txn_alloc.specs.FreeLists.{HasList}
+use Rattle.txn_books.proofs.Common.{ℕ, ◌+◌, ◌-◌, List, length, HasList}
 use Rattle.txn_books.proofs.LaidOut.Relaid.{GoesThrough}
 use Rattle.txn_books.proofs.building.list_blocks.Given as goal
 

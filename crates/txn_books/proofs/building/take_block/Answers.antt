@@ -1,12 +1,9 @@
-use Rattle.std.proofs.Common.{◌≡◌, ℕ, List, Some, arith}
-use Rattle.std.specs.FinSet as set
-use Rattle.txn_words.specs.Frames.{KeepsOthers}
-use Rattle.txn_alloc.specs.FreeLists.{IsHeadFor, IsInOrder, HasNone, Takes}
-use Rattle.txn_alloc.proofs.FreeLists.Lists.{one_set}
-use Rattle.books_model.specs.Books.{used}
-use Rattle.txn_books.specs.Layout.{arena_of}
+use Rattle.txn_books.proofs.Common.{◌≡◌, ℕ, List, Some, arith, KeepsOthers, one_set, used, arena_of}
+use Rattle.txn_alloc.proofs.Common.{IsInOrder, HasNone, Takes}
+use Rattle.txn_alloc.specs.FreeLists.{IsHeadFor}
 use Rattle.txn_books.proofs.OneState.States.{tree_apart, no_room}
 use Rattle.txn_books.proofs.OnBooks.Built.{built_good, led, fresh}
+use Rattle.std.specs.FinSet as set
 use Rattle.txn_books.proofs.building.take_block.Goals as goal
 
 pub new-plain-requires : goal.new-plain-requires
@@ -29,7 +26,7 @@ unreachable-requires c =
     let none = rw (c.in_default-taken.is, c.arena.ensures) at c.in-Ok.ensures.none in
     let empty : HasNone (arena_of shape) words = led (λ x y. HasNone (arena_of shape) x) shape words
     c.new-plain.result c.take_near.new.w c.new-plain.ensures.view goes.shape goes.origin goes.sound none.at in
-    let all : used books ≡ books.blocks = no_room words books stand.parts stand.range
+    let all : used books ≡ books.blocks = no_room stand.parts stand.range
     (one_set (arena_of shape) words stand.parts.free set.empty (tree_apart shape words books stand).free_lists empty) in
     omega (arith, all, c.requires.2)
 

@@ -1,11 +1,5 @@
-use Rattle.std.proofs.lemmas.Result.{IfOk-weaker}
-use Rattle.std.specs.FinMap as map
-use Rattle.txn_alloc.specs.EntryMaps.{Finds}
-use Rattle.txn_tree_map.specs.Trees.{tree_part}
-use Rattle.txn_books.specs.Layout.{tree_of}
-use Rattle.txn_words.specs.Access.{Tells}
-use Rattle.txn_books.specs.Standing.{Stands}
-use Rattle.txn_books.proofs.OnBooks.Calls.{leads_less, in_some, each_told, looked_stands}
+use Rattle.txn_books.proofs.Common.{◌≤◌, IfSome, refl, GREATEST_CASH, IfOk-weaker}
+use Rattle.txn_books.proofs.OnBooks.Calls.{leads_less, told_stand, told_fits}
 use Rattle.txn_books.proofs.OnBooks.Accounts.{tree_there, tells_cash, cash_most}
 use Rattle.txn_books.proofs.cash.cash.Goals as goal
 
@@ -16,21 +10,13 @@ pub returns-clause-told : goal.returns-clause-told
 returns-clause-told g c =
     let shape = c.args.shape.now in
     IfOk-weaker c.get.result _ _
-    (λ answer. leads_less g.W.Words g.W.Shape.Shape _ _ (Finds (tree_part (tree_of shape)) c.args.account answer)
-    (Tells (Stands shape) (λ books. map.get books.accounts c.args.account) answer) (tells_cash shape c.args.account answer))
+    (λ answer. leads_less (tells_cash shape c.args.account answer))
     (rw c.from.ensures at rw c.tree.ensures at c.get.ensures.found)
 
 pub returns-clause-range : goal.returns-clause-range
 returns-clause-range g c =
-    let goes = c.get.ensures.goes_on in
-    IfOk-weaker c.get.result _ _ (λ answer told.
-    let each = each_told g.W.Words g.W.Shape.Shape c.args.shape.now _ _ goes.shape goes.begins c.requires.stands _ answer told in
-    let some = in_some g.W.Words g.W.Shape.Shape _ _ (g.met.W.Words.fits c.get.new.w goes.sound) each in
-    cash_most some.1.0 some.1.1.range c.args.account answer some.1.2)
-    (returns-clause-told g c)
+    told_fits c.get.ensures.goes_on c.requires.stands _ (λ answer. answer) (returns-clause-told g c) (λ found. IfSome found (λ cash. cash ≤ GREATEST_CASH))
+    (g.met.W.Words.fits c.get.new.w c.get.ensures.goes_on.sound) (λ books range. cash_most books range c.args.account _ refl)
 
 pub returns-clause-stands : goal.returns-clause-stands
-returns-clause-stands g c =
-    let goes = c.get.ensures.goes_on in
-    IfOk-weaker c.get.result _ _ (λ answer. looked_stands g.W.Words g.W.Shape.Shape c.args.shape.now _ _ goes.shape
-    goes.begins c.requires.stands _ answer) (returns-clause-told g c)
+returns-clause-stands g c = told_stand c.get.ensures.goes_on c.requires.stands _ (λ answer. answer) (returns-clause-told g c)

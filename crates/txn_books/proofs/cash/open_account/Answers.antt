@@ -1,5 +1,3 @@
-use Rattle.txn_tree_map.specs.Trees.{tree_part}
-use Rattle.txn_books.specs.Layout.{tree_of}
 use Rattle.txn_books.proofs.OnBooks.Calls.{leads_when, leads_put, room_stands}
 use Rattle.txn_books.proofs.OnBooks.Accounts.{tree_apart_there, account_opened}
 use Rattle.txn_books.proofs.cash.open_account.Goals as goal
@@ -13,11 +11,10 @@ returns-clause-opened g c =
     let put = rw c.from.ensures at rw c.tree.ensures at c.in_ok-put.ensures.put in
     let full = rw c.from.ensures at rw c.tree.ensures at c.in_ok-put.ensures.full in
     let frame = rw c.from.ensures at rw c.tree.ensures at c.in_ok-put.ensures.frame in
-    rw c.has_room.ensures (leads_when g.W.Words g.W.Shape.Shape _ _ _ _ _ c.in_ok-put.ensures.goes_on.begins
+    rw c.has_room.ensures (leads_when c.in_ok-put.ensures.goes_on.begins
     c.requires.absent (account_opened shape c.args.account c.requires.account c.in_ok-put.put)
-    (leads_put g.W.Words g.W.Shape.Shape _ _ (tree_part (tree_of shape)) c.args.account 0 c.in_ok-put.put put full frame))
+    (leads_put put full frame))
 
 pub returns-clause-stands : goal.returns-clause-stands
 returns-clause-stands g c =
-    let goes = c.in_ok-put.ensures.goes_on in
-    room_stands g.W.Words g.W.Shape.Shape c.args.shape.now _ _ goes.shape goes.begins c.requires.stands _ _ _ (returns-clause-opened g c)
+    room_stands c.in_ok-put.ensures.goes_on c.requires.stands (returns-clause-opened g c)

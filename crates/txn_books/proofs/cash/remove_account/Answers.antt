@@ -1,5 +1,3 @@
-use Rattle.txn_tree_map.specs.Trees.{tree_part}
-use Rattle.txn_books.specs.Layout.{tree_of}
 use Rattle.txn_books.proofs.OnBooks.Calls.{leads_when, leads_cut, changed_stands}
 use Rattle.txn_books.proofs.OnBooks.Accounts.{tree_apart_there, account_removed}
 use Rattle.txn_books.proofs.cash.remove_account.Goals as goal
@@ -11,11 +9,10 @@ pub returns-clause-changed : goal.returns-clause-changed
 returns-clause-changed g c =
     let removed = rw c.from.ensures at rw c.tree.ensures at c.in_ok-remove.ensures.removed in
     let frame = rw c.from.ensures at rw c.tree.ensures at c.in_ok-remove.ensures.frame in
-    leads_when g.W.Words g.W.Shape.Shape _ _ _ _ _ c.in_ok-remove.ensures.goes_on.begins c.requires.nothing
+    leads_when c.in_ok-remove.ensures.goes_on.begins c.requires.nothing
     (account_removed c.args.shape.now c.args.account c.in_ok-remove.field-0)
-    (leads_cut g.W.Words g.W.Shape.Shape _ _ (tree_part (tree_of c.args.shape.now)) c.args.account c.in_ok-remove.field-0 removed frame)
+    (leads_cut removed frame)
 
 pub returns-clause-stands : goal.returns-clause-stands
 returns-clause-stands g c =
-    let goes = c.in_ok-remove.ensures.goes_on in
-    changed_stands g.W.Words g.W.Shape.Shape c.args.shape.now _ _ goes.shape goes.begins c.requires.stands _ (returns-clause-changed g c)
+    changed_stands c.in_ok-remove.ensures.goes_on c.requires.stands _ (returns-clause-changed g c)

@@ -27,5 +27,4 @@ returns-clause-blocks g c = rw c.tree.ensures at c.in_ok-set_stored.ensures.bloc
 
 pub returns-clause-stands : goal.returns-clause-stands
 returns-clause-stands g c =
-    let goes = c.in_ok-set_stored.ensures.goes_on in
-    changed_stands g.W.Words g.W.Shape.Shape c.args.shape.now _ _ goes.shape goes.begins c.requires.stands _ (returns-clause-changed g c)
+    changed_stands c.in_ok-set_stored.ensures.goes_on c.requires.stands _ (returns-clause-changed g c)

@@ -1,21 +1,12 @@
-use Rattle.std.proofs.Common.{◌≡◌, ◌+◌, ℕ, length, List, [], ◌∷◌, Result, Ok, Err, IfOk, subst, ◌∙◌, arith}
-use Rattle.history_model.specs.Traces.{Trace, Begins}
-use Rattle.history_model.specs.Marks.{count_writes}
-use Rattle.history_model.proofs.Traces.TraceLaws.{begins_trans}
-use Rattle.books_model.specs.declared.reply.Reply.{Reply}
-use Rattle.books_model.specs.declared.reply.Value.{Value}
-use Rattle.books_model.specs.declared.reply.Value.TheVariants as value
-use Rattle.books_model.specs.Interpreter.{Stops, after_values, run_from}
-use Rattle.books_model.proofs.Scripts.Branches.{All-front, All-back}
-use Rattle.txn_words.specs.Calls.{LeadsTo}
+use Rattle.txn_books.proofs.Common.{◌≡◌, ℕ, Result, Ok, Err, IfOk, subst, ◌∙◌, arith, Trace, Begins, begins_trans, Reply, Stops, run_from, All-front, All-back}
+use Rattle.txn_books.proofs.Common.{IsOperationIn}
+use Rattle.txn_words.proofs.Common.{count_writes}
 use Rattle.txn_words.specs.Marks.{TakesBack}
 use Rattle.txn_words.proofs.GoingBack.{marked_stays, same_as_at_mark}
-use Rattle.txn_books.specs.Inner.Scripts.{Runs}
-use Rattle.txn_books.specs.Operating.{IsOperationIn}
 use Rattle.txn_books.proofs.OnBooks.Turning.{Turned}
 use Rattle.txn_books.proofs.OnBooks.Scripted.{turned_marked, marked_runs, turned_stands, first_done, gone_back, second_ran}
-use Rattle.txn_books.proofs.job.run_either.Goals as goal
 use Rattle.txn_books.proofs.job.run_either.Goals.{In_ok-back_to}
+use Rattle.txn_books.proofs.job.run_either.Goals as goal
 
 -- what follows from what holds of an answer holds of it
 ok_less : {A E : Type 0} (P Q : A → Type 0) (r : Result A E) → ((x : A) → P x → Q x) → IfOk r P → IfOk r Q
@@ -50,15 +41,12 @@ gone g c writes marked back =
     front c.in_ok-back_to.ensures.begins (c.in_ok-back_to.ensures.shape ∙ kept)
     (same_as_at_mark words shapes c.args.w.now c.run_operations.new.w c.back_to.new.self kept front
     c.in_ok-back_to.ensures.begins
-    (subst (λ (m : ℕ). TakesBack (shapes.word_count (words.shape c.run_operations.new.w)) (shapes.good (words.shape c.run_operations.new.w)) m
-    (words.trace c.run_operations.new.w) (words.trace c.back_to.new.self)) marked back))
+    (rw marked at back))
 
 pub returns-in-Done-clause-runs : goal.returns-in-Done-clause-runs
 returns-in-Done-clause-runs g c =
     first_done c.args.number c.args.first.now c.args.second.now c.in-Done.values
-    (subst (λ answer. LeadsTo g.W.Words g.W.Shape.Shape c.args.w.now c.run_operations.new.w
-    (Runs c.args.shape.now (λ books. after_values (value.First ∷ []) (run_from c.args.number c.args.first.now books)) answer))
-    c.in-Done.is (marked_runs (run_from c.args.number c.args.first.now)
+    (rw c.in-Done.is at (marked_runs (run_from c.args.number c.args.first.now)
     c.mark-before.ensures.shape c.mark-before.ensures.trace c.in_ok-named.ensures c.in_ok-values.ensures.runs))
 
 pub back_to-requires : goal.back_to-requires
@@ -90,12 +78,7 @@ returns g c =
           second_ran c.args.number c.args.first.now c.args.second.now answer
           (gone g (goal.at.returns g c).In_ok-back_to _ c.mark-before.ensures.writes c.in_ok-back_to.ensures.back)
           last.shape last.begins
-          (subst (λ (so_far : List Value). LeadsTo g.W.Words g.W.Shape.Shape c.back_to.new.self c.run_operations-2.new.w
-          (Runs c.args.shape.now (λ books. after_values so_far (run_from (c.args.number + length c.args.first.now) c.args.second.now books)) answer))
-          c.in_ok-named-2.ensures
-          (subst (λ n. LeadsTo g.W.Words g.W.Shape.Shape c.back_to.new.self c.run_operations-2.new.w
-          (Runs c.args.shape.now (λ books. after_values c.in_ok-named-2.named (run_from (c.args.number + n) c.args.second.now books)) answer))
-          c.len.ensures runs))) c.run_operations-2.ensures.runs;
+          runs) (rw c.in_ok-named-2.ensures at rw c.len.ensures at c.run_operations-2.ensures.runs);
       stands = c.run_operations-2.ensures.stands;
       hands_on = record {
         shape = last.shape ∙ c.in_ok-back_to.ensures.shape ∙ c.in_ok-values.ensures.hands_on.shape ∙ c.mark-before.ensures.shape;

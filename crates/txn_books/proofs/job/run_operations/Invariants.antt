@@ -1,7 +1,4 @@
-use Rattle.std.proofs.Common.{◌≡◌, ◌+◌, length, All, None}
-use Rattle.std.specs.Slice.Iter.{iter_rest}
-use Rattle.books_model.specs.Interpreter.{after_values, run_from}
-use Rattle.txn_books.specs.Operating.{IsOperationIn}
+use Rattle.txn_books.proofs.Common.{◌≡◌, ◌+◌, length, All, None, iter_rest, after_values, run_from, IsOperationIn}
 use Rattle.txn_books.proofs.OnBooks.Turning.{Turned}
 use Rattle.txn_books.proofs.OnBooks.Scripted.{SoFar}
 use Rattle.txn_books.proofs.job.run_operations.Given as goal

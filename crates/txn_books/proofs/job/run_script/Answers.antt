@@ -1,18 +1,13 @@
-use Rattle.std.proofs.Common.{◌≡◌, ◌+◌, ◌∷◌, ◌++◌, length, List, [], All, refl, sym, ap, subst, ◌∙◌, arith}
-use Rattle.std.specs.Slice.Iter.{iter_rest}
-use Rattle.std.proofs.lemmas.List.{nil_from_length, length-append}
+use Rattle.txn_books.proofs.Common.{◌≡◌, ◌+◌, ◌∷◌, ◌++◌, length, List, [], All, refl, sym, ap, subst, ◌∙◌, arith, iter_rest, nil_from_length, operations_of}
+use Rattle.txn_books.proofs.Common.{run_parts, All-front, All-back, begins_trans, IsOperationIn}
+use Rattle.std.proofs.lemmas.List.{length-append}
 use Rattle.books_model.specs.declared.script.Part.{Part}
-use Rattle.books_model.specs.declared.script.Part.TheVariants as part
-use Rattle.books_model.specs.Scripts.{operations_of}
-use Rattle.books_model.specs.Interpreter.{run_parts}
-use Rattle.books_model.proofs.Scripts.Branches.{All-front, All-back}
 use Rattle.books_model.proofs.Scripts.Runs.{after_values-none}
-use Rattle.history_model.proofs.Traces.TraceLaws.{begins_trans}
-use Rattle.txn_books.specs.Operating.{IsOperationIn}
 use Rattle.txn_books.proofs.OnBooks.Turning.{Turned}
 use Rattle.txn_books.proofs.OnBooks.Scripted.{SoFar, turned_stands, run_begins, script_ends, one_gives, one_declined, one_full, part_done, part_refused}
-use Rattle.txn_books.proofs.job.run_script.Goals as goal
 use Rattle.txn_books.proofs.job.run_script.Goals.{In-Some}
+use Rattle.books_model.specs.declared.script.Part.TheVariants as part
+use Rattle.txn_books.proofs.job.run_script.Goals as goal
 
 pub loop-part-init : goal.loop-part-init
 loop-part-init g c =
@@ -23,8 +18,7 @@ loop-part-init g c =
       sound = c.requires.ready.sound;
       left = omega (arith, c.requires.range.few, ap (λ (parts : List Part). length (operations_of parts)) all);
       each = subst (λ parts. All (IsOperationIn c.args.shape.now) (operations_of parts)) all c.requires.range.each;
-      run = subst (λ values. Turned g.W.Words g.W.Shape.Shape c.args.shape.now c.args.w.now c.args.w.now
-          (SoFar (run_parts 1 c.args.script.now) values (run_parts 1 (iter_rest c.into_iter-part-iterator.result)))) (sym c.in_ok-values.ensures)
+      run = rw c.in_ok-values.ensures
           (run_begins c.args.w.now _ _ [] (λ books. after_values-none _ ∙ ap (λ parts. run_parts 1 parts books) (sym all)));
     }
 
@@ -39,8 +33,7 @@ from_here g c p is = c.in-Some.ensures.steps ∙ ap (λ q. q ∷ iter_rest c.nex
 whole : (g : _) (c : In-Some g) (p : Part) → c.in-Some.part.now ≡ p
     → Turned g.W.Words g.W.Shape.Shape c.args.shape.now c.args.w.now c.loop-part.w
     (SoFar (run_parts 1 c.args.script.now) c.loop-part.values (run_parts c.loop-part.number (p ∷ iter_rest c.next.new.self)))
-whole g c p is = subst (λ parts. Turned g.W.Words g.W.Shape.Shape c.args.shape.now c.args.w.now c.loop-part.w
-    (SoFar (run_parts 1 c.args.script.now) c.loop-part.values (run_parts c.loop-part.number parts))) (from_here g c p is) c.loop-part.invariant.run
+whole g c p is = rw (from_here g c p is) at c.loop-part.invariant.run
 
 -- the numbers of all operations that are left are in their ranges
 ranges : (g : _) (c : In-Some g) (p : Part) → c.in-Some.part.now ≡ p
@@ -49,15 +42,15 @@ ranges g c p is = subst (λ parts. All (IsOperationIn c.args.shape.now) (operati
 
 pub returns-in-Declines-clause-runs : goal.returns-in-Declines-clause-runs
 returns-in-Declines-clause-runs g c =
-    one_declined _ c.loop-part.values c.loop-part.number c.in_ok-value-in-One.ensures.goes_on c.in_ok-value-in-One.ensures.step
+    one_declined _ c.loop-part.values c.loop-part.number c.in_ok-value-in-One.ensures.goes_on
     (iter_rest c.next.new.self) (whole g (goal.at.returns-in-Declines-clause-runs g c).In-Some (part.One c.in-One.operation) c.in-One.is)
-    c.in-Declines.why c.in-Declines.is
+    (rw c.in-Declines.is at c.in_ok-value-in-One.ensures.step)
 
 pub returns-in-FindsNoBlock-clause-runs : goal.returns-in-FindsNoBlock-clause-runs
 returns-in-FindsNoBlock-clause-runs g c =
-    one_full _ c.loop-part.values c.loop-part.number c.in_ok-value-in-One.ensures.goes_on c.in_ok-value-in-One.ensures.step
+    one_full _ c.loop-part.values c.loop-part.number c.in_ok-value-in-One.ensures.goes_on
     (iter_rest c.next.new.self) (whole g (goal.at.returns-in-FindsNoBlock-clause-runs g c).In-Some (part.One c.in-One.operation) c.in-One.is)
-    c.in-FindsNoBlock.is
+    (rw c.in-FindsNoBlock.is at c.in_ok-value-in-One.ensures.step)
 
 pub loop-part-preserved-in-One : goal.loop-part-preserved-in-One
 loop-part-preserved-in-One g c =
@@ -72,10 +65,9 @@ loop-part-preserved-in-One g c =
       sound = goes.sound;
       left = omega (arith, i.left, ap (λ parts. length (operations_of parts)) (from_here g here (part.One op) c.in-One.is));
       each = All-back (IsOperationIn c.args.shape.now) (op ∷ []) (operations_of rest) (ranges g here (part.One op) c.in-One.is);
-      run = subst (λ values. Turned g.W.Words g.W.Shape.Shape c.args.shape.now c.args.w.now c.run_operation.new.w
-          (SoFar (run_parts 1 c.args.script.now) values (run_parts (c.loop-part.number + 1) rest))) (sym c.in_ok-push-in-Gives.ensures.ok)
-          (one_gives _ c.loop-part.values c.loop-part.number goes c.in_ok-value-in-One.ensures.step rest
-          (whole g here (part.One op) c.in-One.is) c.in-Gives.value c.in-Gives.is);
+      run = rw c.in_ok-push-in-Gives.ensures.ok
+          (one_gives _ c.loop-part.values c.loop-part.number goes rest
+          (whole g here (part.One op) c.in-One.is) (rw c.in-Gives.is at c.in_ok-value-in-One.ensures.step));
     }
 
 pub run_either-requires-clause-stands : goal.run_either-requires-clause-stands
@@ -127,9 +119,7 @@ loop-part-preserved g c =
         ap (λ parts. length (operations_of parts)) (from_here g here p c.in-Either.is),
       );
       each = All-back (IsOperationIn c.args.shape.now) (c.in-Either.first ++ c.in-Either.second) (operations_of rest) (ranges g here p c.in-Either.is);
-      run = subst (λ values. Turned g.W.Words g.W.Shape.Shape c.args.shape.now c.args.w.now c.run_either.new.w
-          (SoFar (run_parts 1 c.args.script.now) values (run_parts (c.loop-part.number + (c.len-in-Either.result + c.len-in-Either-2.result)) rest)))
-          (sym c.in_ok-append-in-Done.ensures.ok)
+      run = rw c.in_ok-append-in-Done.ensures.ok
           (subst (λ n. Turned g.W.Words g.W.Shape.Shape c.args.shape.now c.args.w.now c.run_either.new.w
           (SoFar (run_parts 1 c.args.script.now) (c.loop-part.values ++ c.in-Done.more) (run_parts (c.loop-part.number + n) rest)))
           (omega (arith, more, c.len-in-Either.ensures, c.len-in-Either-2.ensures))
@@ -140,9 +130,7 @@ loop-part-preserved g c =
 pub returns-clause-runs : goal.returns-clause-runs
 returns-clause-runs g c =
     script_ends c.loop-part.values c.loop-part.number
-    (subst (λ parts. Turned g.W.Words g.W.Shape.Shape c.args.shape.now c.args.w.now c.loop-part.w
-    (SoFar (run_parts 1 c.args.script.now) c.loop-part.values
-    (run_parts c.loop-part.number parts))) (nil_from_length _ c.in-None.ensures.steps.0) c.loop-part.invariant.run)
+    (rw (nil_from_length _ c.in-None.ensures.steps.0) at c.loop-part.invariant.run)
 
 pub returns-clause-stands : goal.returns-clause-stands
 returns-clause-stands g c = turned_stands c.loop-part.invariant.run c.requires.stands

@@ -1,9 +1,5 @@
-use Rattle.std.proofs.Common.{◌≡◌, ◌≤◌, ◌+◌, length, All, None}
-use Rattle.std.specs.Slice.Iter.{iter_rest}
+use Rattle.txn_books.proofs.Common.{◌≡◌, ◌≤◌, ◌+◌, length, All, None, iter_rest, operations_of, run_parts, IsOperationIn}
 use Rattle.books_model.specs.declared.limits.TheConstants.{MOST_OPERATIONS}
-use Rattle.books_model.specs.Scripts.{operations_of}
-use Rattle.books_model.specs.Interpreter.{run_parts}
-use Rattle.txn_books.specs.Operating.{IsOperationIn}
 use Rattle.txn_books.proofs.OnBooks.Turning.{Turned}
 use Rattle.txn_books.proofs.OnBooks.Scripted.{SoFar}
 use Rattle.txn_books.proofs.job.run_script.Given as goal

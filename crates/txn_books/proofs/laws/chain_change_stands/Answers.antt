@@ -1,5 +1,4 @@
-use Rattle.std.proofs.Common.{refl}
-use Rattle.txn_books.specs.Layout.{chained}
+use Rattle.txn_books.proofs.Common.{refl, chained}
 use Rattle.txn_books.proofs.OneState.Changes.{chain_change}
 use Rattle.txn_books.proofs.laws.chain_change_stands.Goals as goal
 

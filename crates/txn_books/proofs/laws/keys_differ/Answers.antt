@@ -1,4 +1,4 @@
-use Rattle.std.proofs.Common.{arith}
+use Rattle.txn_books.proofs.Common.{arith}
 use Rattle.txn_books.proofs.OneState.Chained.{price_differs, key_differs}
 use Rattle.txn_books.proofs.laws.keys_differ.Goals as goal
 

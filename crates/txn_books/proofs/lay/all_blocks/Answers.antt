@@ -1,4 +1,4 @@
-use Rattle.std.proofs.Common.{◌≡◌, ℕ, ◌-◌, Ok, refl, arith}
+use Rattle.txn_books.proofs.Common.{◌≡◌, ℕ, ◌-◌, Ok, refl, arith}
 use Rattle.std.proofs.lemmas.Iterator.{items_from_collect, YieldsList-from_range}
 use Rattle.txn_books.proofs.lay.all_blocks.Goals as goal
 

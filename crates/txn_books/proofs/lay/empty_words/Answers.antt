@@ -1,16 +1,8 @@
-use Rattle.std.proofs.Common.{◌≡◌, ℕ, ◌+◌, ◌++◌, length, take, drop, replicate, sym, ap, ◌∙◌, subst, arith}
-use Rattle.std.proofs.Math.Seq.{take-append_seam}
-use Rattle.std.proofs.lemmas.List.{length-replicate}
-use Rattle.std.specs.FinSet as set
-use Rattle.books_model.specs.Books.{empty_books}
-use Rattle.txn_words.specs.Frames.{KeepsOthers}
-use Rattle.txn_alloc.specs.FreeLists.{HasList, FreeListsHold}
-use Rattle.txn_books.specs.Layout.{words_of, arena_of}
-use Rattle.txn_books.specs.Standing.{Stands}
-use Rattle.txn_alloc.specs.Laying.{IsWrittenByLaying, of_list}
-use Rattle.txn_books.proofs.LaidOut.Emptied.{all_blocks, empty_stands, all_below, all_once}
-use Rattle.txn_books.proofs.lay.empty_words.Goals as goal
+use Rattle.txn_books.proofs.Common.{◌≡◌, ℕ, ◌++◌, length, take, drop, replicate, ap, ◌∙◌, arith, length-replicate, words_of}
+use Rattle.txn_books.proofs.OnBooks.Built.{all_written}
+use Rattle.txn_books.proofs.LaidOut.Emptied.{empty_stands, all_below, all_once}
 use Rattle.txn_books.proofs.lay.empty_words.Goals.{After-lay_free}
+use Rattle.txn_books.proofs.lay.empty_words.Goals as goal
 
 pub lay_free-requires-clause-below : goal.lay_free-requires-clause-below
 lay_free-requires-clause-below c = rw (c.deref.ensures.value, c.in_ok-order.ensures, c.arena.ensures) (all_below c.args.shape.now.blocks)
@@ -21,15 +13,11 @@ lay_free-requires-clause-once c = rw (c.deref.ensures.value, c.in_ok-order.ensur
 -- the words that were laid, and what they were
 kept : (c : After-lay_free) → take c.in_ok-words.words.len (c.lay_free.new.words ++ drop (length c.lay_free.new.words)
     c.in_ok-words.words.items) ≡ c.lay_free.new.words
-kept c =
-    let long : c.in_ok-words.words.len ≡ length c.lay_free.new.words = omega (arith, c.deref_mut.ensures.len, c.lay_free.ensures.others.count) in
-    ap (λ n. take n (c.lay_free.new.words ++ drop (length c.lay_free.new.words) c.in_ok-words.words.items)) long ∙ take-append_seam c.lay_free.new.words _
+kept c = all_written c.in_ok-words.words.len c.lay_free.new.words c.in_ok-words.words.items
+    (omega (arith, c.deref_mut.ensures.len, c.lay_free.ensures.others.count))
 
 zeros : (c : After-lay_free) → c.deref_mut.result.now ≡ replicate (words_of c.args.shape.now) 0
 zeros c = c.deref_mut.ensures.value ∙ c.in_ok-words.ensures.items_if_clones_equal (λ y e. e) ∙ ap (λ n. replicate n 0) c.word_count.ensures
-
-order : (c : After-lay_free) → c.deref.result.now ≡ all_blocks c.args.shape.now
-order c = c.deref.ensures.value ∙ c.in_ok-order.ensures
 
 pub returns-clause-count : goal.returns-clause-count
 returns-clause-count c =
@@ -41,18 +29,12 @@ pub returns-clause-stands : goal.returns-clause-stands
 returns-clause-stands c =
     let d = (goal.at.returns-clause-stands c).After-lay_free in
     let shape = c.args.shape.now in
-    let others = subst (λ a. KeepsOthers (IsWrittenByLaying a c.deref.result.now) c.deref_mut.result.now
-    c.lay_free.new.words) c.arena.ensures c.lay_free.ensures.others in
-    let free = subst (λ a. FreeListsHold a c.lay_free.new.words (set.from_list c.deref.result.now)) c.arena.ensures c.lay_free.ensures.free in
-    subst (λ ws. Stands shape ws (empty_books shape.blocks shape.instruments shape.ring)) (sym (kept d))
-    (empty_stands shape c.requires.blocks c.requires.instruments c.requires.ring c.deref_mut.result.now c.lay_free.new.words (zeros d)
-    (subst (λ bs. KeepsOthers (IsWrittenByLaying (arena_of shape) bs) c.deref_mut.result.now c.lay_free.new.words) (order d) others)
-    (subst (λ bs. FreeListsHold (arena_of shape) c.lay_free.new.words (set.from_list bs)) (order d) free))
+    let others = rw (c.arena.ensures, c.deref.ensures.value, c.in_ok-order.ensures) at c.lay_free.ensures.others in
+    let free = rw (c.arena.ensures, c.deref.ensures.value, c.in_ok-order.ensures) at c.lay_free.ensures.free in
+    rw (kept d) (empty_stands shape c.requires.blocks c.requires.instruments c.requires.ring c.deref_mut.result.now c.lay_free.new.words (zeros d) others free)
 
 pub returns-clause-rising : goal.returns-clause-rising
 returns-clause-rising c h lt =
     let d = (goal.at.returns-clause-rising c).After-lay_free in
-    let shape = c.args.shape.now in
-    let list = subst (λ a. HasList a c.lay_free.new.words (a.heads + h) (of_list h c.deref.result.now)) c.arena.ensures (c.lay_free.ensures.lists h lt) in
-    subst (λ ws. HasList (arena_of shape) ws ((arena_of shape).heads + h) (of_list h (all_blocks shape))) (sym (kept d))
-    (subst (λ bs. HasList (arena_of shape) c.lay_free.new.words ((arena_of shape).heads + h) (of_list h bs)) (order d) list)
+    let list = rw (c.arena.ensures, c.deref.ensures.value, c.in_ok-order.ensures) at (c.lay_free.ensures.lists h lt) in
+    rw (kept d) list

@@ -1,5 +1,4 @@
-use Rattle.std.proofs.Common.{◌+◌, ◌-◌, ◌≤◌, length, sym, arith}
-use Rattle.txn_alloc.specs.FreeLists.{block_at}
+use Rattle.txn_books.proofs.Common.{◌+◌, ◌-◌, ◌≤◌, length, sym, arith, block_at}
 use Rattle.txn_books.proofs.ReadOff.Walked.{four_words}
 use Rattle.txn_books.proofs.listing.block_of.Goals as goal
 

@@ -1,4 +1,4 @@
-use Rattle.std.proofs.Common.{ℕ, ◌+◌, sym, subst, arith}
+use Rattle.txn_books.proofs.Common.{ℕ, ◌+◌, sym, subst, arith}
 use Rattle.txn_books.proofs.ReadOff.Walked.{Gathers, gathers_none, gathers_more, gathers_all, bucket_chain}
 use Rattle.txn_books.proofs.listing.chain_entries.Goals as goal
 
@@ -10,14 +10,14 @@ loop-bucket-preserved c entries used held =
     let n : ℕ = c.loop-bucket.bucket in
     let listed = c.in_ok-list_chain.ensures (held.cells n) (held.chain n c.loop-bucket-test.true) in
     subst (λ xs. Gathers (n + 1) entries xs) (sym listed)
-    (gathers_more c.args.chains.now c.args.words.now entries used held n c.loop-bucket.listed.items
+    (gathers_more held n c.loop-bucket.listed.items
     c.loop-bucket-test.true (c.loop-bucket.invariant entries used held))
 
 pub list_chain-requires-clause-chain : goal.list_chain-requires-clause-chain
 list_chain-requires-clause-chain c = let held = c.requires.held in
-    bucket_chain c.args.chains.now c.args.words.now held.entries held.used held.holds c.loop-bucket.bucket c.loop-bucket-test.true
+    bucket_chain held.holds c.loop-bucket.bucket c.loop-bucket-test.true
 
 pub returns : goal.returns
 returns c entries used held =
-    gathers_all c.args.chains.now c.args.words.now entries used held c.loop-bucket.bucket c.loop-bucket.listed.items
+    gathers_all held c.loop-bucket.bucket c.loop-bucket.listed.items
     (omega arith) (c.loop-bucket.invariant entries used held)

@@ -1,5 +1,4 @@
-use Rattle.txn_alloc.specs.EntryMaps.{Entries, Blocks}
-use Rattle.txn_hash_map.specs.Chains.{ChainsHold}
+use Rattle.txn_books.proofs.Common.{Entries, Blocks, ChainsHold}
 use Rattle.txn_books.proofs.ReadOff.Walked.{Gathers}
 use Rattle.txn_books.proofs.listing.chain_entries.Given as goal
 

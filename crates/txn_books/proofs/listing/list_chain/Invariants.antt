@@ -1,7 +1,4 @@
-use Rattle.std.proofs.Common.{◌+◌, ◌-◌, ◌++◌, List, length}
-use Rattle.txn_alloc.specs.EntryMaps.{Cell}
-use Rattle.txn_hash_map.specs.Chains.{HasChain}
-use Rattle.txn_books.specs.Inner.Reading.{entries_in}
+use Rattle.txn_books.proofs.Common.{◌+◌, ◌-◌, ◌++◌, List, length, Cell, HasChain, entries_in}
 use Rattle.txn_books.proofs.ReadOff.Walked.{Follows}
 use Rattle.txn_books.proofs.listing.list_chain.Given as goal
 

@@ -1,6 +1,5 @@
-use Rattle.std.proofs.Common.{◌+◌, ◌-◌, ◌*◌, length, []}
-use Rattle.txn_tree_map.specs.Trees.{Tree, HasTree}
-use Rattle.txn_books.specs.Inner.Reading.{entries_in}
+use Rattle.txn_books.proofs.Common.{◌+◌, ◌-◌, ◌*◌, length, [], Tree, entries_in}
+use Rattle.txn_tree_map.specs.Trees.{HasTree}
 use Rattle.txn_books.proofs.ReadOff.Visited.{Visits, down}
 use Rattle.txn_books.proofs.listing.tree_entries.Given as goal
 

@@ -1,11 +1,5 @@
-use Rattle.std.proofs.Common.{List, ℕ, length, ap, ◌∙◌, sym, subst}
-use Rattle.history_model.specs.Fitting.{IsGood}
-use Rattle.history_model.specs.Traces.{after}
-use Rattle.history_model.proofs.Traces.TraceLaws.{length-after}
-use Rattle.txn_words.specs.Verdicts.{is_kept, answer_of}
-use Rattle.txn_books.specs.Layout.{words_of}
-use Rattle.txn_books.specs.Standing.{IsGoodFor}
-use Rattle.txn_books.specs.Meaning.{ScriptOn, ScriptMeans}
+use Rattle.txn_books.proofs.Common.{List, ℕ, length, ap, ◌∙◌, sym, subst, IsGood, after, length-after, is_kept, answer_of, words_of, IsGoodFor, ScriptOn}
+use Rattle.txn_books.proofs.Common.{ScriptMeans}
 use Rattle.txn_books.proofs.OnBooks.Scripted.{refused_stands}
 use Rattle.txn_books.proofs.on_plain.run_on_plain.Goals as goal
 

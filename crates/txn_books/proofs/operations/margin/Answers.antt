@@ -1,22 +1,13 @@
-use Rattle.std.proofs.Common.{sym, ap, ◌∙◌, rules}
-use Rattle.std.proofs.lemmas.Result.{IfOk-from_err}
-use Rattle.txn_words.specs.Calls.{GoesOn}
-use Rattle.txn_words.proofs.CallLaws.{goes_then, goes_as}
-use Rattle.books_model.specs.Books.{put_call}
-use Rattle.books_model.specs.declared.reply.Value.TheVariants as value
-use Rattle.books_model.specs.Interpreter.{Gives}
+use Rattle.txn_books.proofs.Common.{sym, ap, ◌∙◌, rules, arith, goes_then, goes_as, put_call, Gives, nat_tests}
 use Rattle.txn_books.proofs.OnBooks.Turning.{looked, look_then, answers, look_turn, of_room, comes}
-use Rattle.txn_books.proofs.OnBooks.Operating.{margin_absent, margin_none, margin_queue, margin_done, left_with}
+use Rattle.txn_books.proofs.OnBooks.Operating.{margin_none, margin_queue, margin_done, left_with}
+use Rattle.books_model.specs.declared.reply.Value.TheVariants as value
 use Rattle.txn_books.proofs.operations.margin.Goals as goal
 
-pub returns-in_default : goal.returns-in_default
-returns-in_default g c = record {
-  step =
-      answers (looked c.in_ok-held.ensures.goes_on (rw c.in_default.is at c.in_ok-held.ensures.told))
-      (λ books sized none. margin_absent books c.args.account c.args.rate none);
-  stands = c.in_ok-held.ensures.stands;
-  goes_on = goes_as c.in_ok-held.ensures.goes_on (search rules);
-}
+pub returns-in_default-clause-step : goal.returns-in_default-clause-step
+returns-in_default-clause-step g c =
+    answers (looked c.in_ok-held.ensures.goes_on (rw c.in_default.is at c.in_ok-held.ensures.told))
+    (λ books sized none. grind (arith, nat_tests, none))
 
 pub returns-then-shortfall-eq0 : goal.returns-then-shortfall-eq0
 returns-then-shortfall-eq0 g c = record {
@@ -59,22 +50,9 @@ returns g c = record {
   goes_on = goes_as (goes_then (goes_then c.in_ok-held.ensures.goes_on c.in_ok-worth.ensures.goes_on) c.in_ok-queue_call.ensures.goes_on) (search rules);
 }
 
-pub returns-in_err-held : goal.returns-in_err-held
-returns-in_err-held g c =
-    let failed = c.from_residual.ensures.0 in
-    let on : GoesOn g.W.Words c.args.w.now c.cash.new.w c.from_residual.result = goes_as c.in_err-held.ensures.goes_on (search rules) in
-    search IfOk-from_err
+pub returns-in_err-worth-clause-goes_on : goal.returns-in_err-worth-clause-goes_on
+returns-in_err-worth-clause-goes_on g c = goes_as (goes_then c.in_ok-held.ensures.goes_on c.in_err-worth.ensures.goes_on) (search rules)
 
-pub returns-in_err-worth : goal.returns-in_err-worth
-returns-in_err-worth g c =
-    let failed = c.from_residual-in_err-worth.ensures.0 in
-    let on : GoesOn g.W.Words c.args.w.now c.worth.new.w c.from_residual-in_err-worth.result =
-    goes_as (goes_then c.in_ok-held.ensures.goes_on c.in_err-worth.ensures.goes_on) (search rules) in
-    search IfOk-from_err
-
-pub returns-in_err-queue_call : goal.returns-in_err-queue_call
-returns-in_err-queue_call g c =
-    let failed = c.from_residual-in_err-queue_call.ensures.0 in
-    let on : GoesOn g.W.Words c.args.w.now c.queue_call.new.w c.from_residual-in_err-queue_call.result =
-    goes_as (goes_then (goes_then c.in_ok-held.ensures.goes_on c.in_ok-worth.ensures.goes_on) c.in_err-queue_call.ensures.goes_on) (search rules) in
-    search IfOk-from_err
+pub returns-in_err-queue_call-clause-goes_on : goal.returns-in_err-queue_call-clause-goes_on
+returns-in_err-queue_call-clause-goes_on g c =
+    goes_as (goes_then (goes_then c.in_ok-held.ensures.goes_on c.in_ok-worth.ensures.goes_on) c.in_err-queue_call.ensures.goes_on) (search rules)

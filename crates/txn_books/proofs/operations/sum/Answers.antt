@@ -1,7 +1,6 @@
-use Rattle.std.proofs.Common.{sym, ap}
-use Rattle.books_model.specs.declared.reply.Value.TheVariants as value
-use Rattle.books_model.specs.Interpreter.{Gives}
+use Rattle.txn_books.proofs.Common.{sym, ap, Gives}
 use Rattle.txn_books.proofs.OnBooks.Turning.{looked, answers}
+use Rattle.books_model.specs.declared.reply.Value.TheVariants as value
 use Rattle.txn_books.proofs.operations.sum.Goals as goal
 
 pub returns-clause-step : goal.returns-clause-step

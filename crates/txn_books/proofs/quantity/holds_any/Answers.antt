@@ -1,29 +1,23 @@
-use Rattle.std.proofs.Common.{◌≡◌, true, false, None, sym, ap, subst, ◌∙◌, inl, inr, arith}
-use Rattle.std.specs.FinMap as map
+use Rattle.txn_books.proofs.Common.{◌≡◌, None, sym, ap, subst, ◌∙◌, inl, inr, arith, begins_trans}
 use Rattle.std.proofs.lemmas.Bool.{cases_lt}
-use Rattle.history_model.proofs.Traces.TraceLaws.{begins_trans}
-use Rattle.books_model.specs.Interpreter.{holds_any}
 use Rattle.books_model.proofs.Maps.Comparing.{none_of}
 use Rattle.books_model.proofs.Sums.{holds_nothing, holds_one}
 use Rattle.txn_books.proofs.OnBooks.Looking.{saw_told, told_saw, saw_then, saw_stands}
+use Rattle.std.specs.FinMap as map
 use Rattle.txn_books.proofs.quantity.holds_any.Goals as goal
 
 pub quantity-requires-clause-stands : goal.quantity-requires-clause-stands
 quantity-requires-clause-stands g c =
     let i = c.loop-instrument.invariant in
-    saw_stands g.W.Words g.W.Shape.Shape c.args.shape.now _ _ _ i.shape i.begins c.requires.stands i.none
+    saw_stands i.shape i.begins c.requires.stands i.none
 
 pub returns-then-is_some-clause-told : goal.returns-then-is_some-clause-told
 returns-then-is_some-clause-told g c =
     let shape = c.args.shape.now in
     let i = c.loop-instrument.invariant in
-    let here = saw_told g.W.Words g.W.Shape.Shape shape _ _ (λ books. map.get books.positions (
-      c.args.account,
-      c.loop-instrument.instrument,
-    )) c.in_ok-quantity.field-0 c.in_ok-quantity.ensures.told in
-    told_saw g.W.Words g.W.Shape.Shape shape _ _ (λ books. holds_any books c.args.account) true (λ books. true
-    ≡ holds_any books c.args.account) (λ books sized k. k)
-    (saw_then g.W.Words g.W.Shape.Shape shape _ _ _ _ _ _ i.shape c.in_ok-quantity.ensures.goes_on.begins
+    let here = saw_told c.in_ok-quantity.ensures.told in
+    told_saw (λ books sized k. k)
+    (saw_then i.shape c.in_ok-quantity.ensures.goes_on.begins
     (λ books sized none found. holds_one books c.args.account c.loop-instrument.instrument c.in_ok-quantity.field-0
     found (sym c.is_some.ensures ∙ c.if-is_some.true)) i.none here)
 
@@ -32,10 +26,7 @@ loop-instrument-preserved g c =
     let shape = c.args.shape.now in
     let i = c.loop-instrument.invariant in
     let goes = c.in_ok-quantity.ensures.goes_on in
-    let here = saw_told g.W.Words g.W.Shape.Shape shape _ _ (λ books. map.get books.positions (
-      c.args.account,
-      c.loop-instrument.instrument,
-    )) c.in_ok-quantity.field-0 c.in_ok-quantity.ensures.told in
+    let here = saw_told c.in_ok-quantity.ensures.told in
     record {
       shape = goes.shape ∙ i.shape;
       origin = goes.origin ∙ i.origin;
@@ -43,7 +34,7 @@ loop-instrument-preserved g c =
       stop = goes.stops;
       sound = goes.sound;
       from = omega arith;
-      none = saw_then g.W.Words g.W.Shape.Shape shape _ _ _ _ _ _ i.shape goes.begins
+      none = saw_then i.shape goes.begins
           (λ books sized none found j from below. elim (cases_lt j c.loop-instrument.instrument) [
             | inl before ↦ none j from before
             | inr past ↦
@@ -57,7 +48,7 @@ loop-instrument-preserved g c =
 pub returns-clause-told : goal.returns-clause-told
 returns-clause-told g c =
     let i = c.loop-instrument.invariant in
-    told_saw g.W.Words g.W.Shape.Shape c.args.shape.now _ _ (λ books. holds_any books c.args.account) false _
+    told_saw
     (λ books sized none. sym (holds_nothing books c.args.account sized.1
     (λ j from below. none j from (omega (
       arith,
@@ -70,4 +61,4 @@ returns-clause-told g c =
 pub returns-clause-stands : goal.returns-clause-stands
 returns-clause-stands g c =
     let i = c.loop-instrument.invariant in
-    saw_stands g.W.Words g.W.Shape.Shape c.args.shape.now _ _ _ i.shape i.begins c.requires.stands i.none
+    saw_stands i.shape i.begins c.requires.stands i.none

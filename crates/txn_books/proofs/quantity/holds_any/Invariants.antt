@@ -1,8 +1,6 @@
-use Rattle.std.proofs.Common.{◌≡◌, ℕ, ◌<◌, ◌≤◌, None}
-use Rattle.std.specs.FinMap as map
-use Rattle.history_model.specs.Traces.{Begins}
-use Rattle.txn_words.specs.Calls.{LeadsTo}
+use Rattle.txn_books.proofs.Common.{◌≡◌, ℕ, ◌<◌, ◌≤◌, None, Begins, LeadsTo}
 use Rattle.txn_books.proofs.OnBooks.Looking.{Saw}
+use Rattle.std.specs.FinMap as map
 use Rattle.txn_books.proofs.quantity.holds_any.Given as goal
 
 -- the account has no position in the instruments so far

@@ -1,13 +1,7 @@
-use Rattle.std.proofs.Common.{arith}
-use Rattle.std.proofs.lemmas.Result.{IfOk-weaker}
-use Rattle.std.specs.FinMap as map
-use Rattle.txn_alloc.specs.EntryMaps.{Finds}
-use Rattle.txn_hash_map.specs.Chains.{chain_part}
-use Rattle.txn_books.specs.Layout.{chains_of, position_key_of}
-use Rattle.txn_books.specs.Standing.{IsGoodFor, Stands}
-use Rattle.txn_words.specs.Access.{Tells}
-use Rattle.txn_books.proofs.OnBooks.Calls.{leads_less, in_some, each_told, looked_stands}
-use Rattle.txn_books.proofs.OnBooks.Holdings.{chains_there, instruments_most, tells_quantity, quantity_most}
+use Rattle.txn_books.proofs.Common.{IfSome, refl, arith, GREATEST_QUANTITY, IsWithin, IfOk-weaker}
+use Rattle.books_model.proofs.Drafts.{quantity-in_range}
+use Rattle.txn_books.proofs.OnBooks.Calls.{in_some, leads_less, told_stand, told_fits}
+use Rattle.txn_books.proofs.OnBooks.Holdings.{chains_there, instruments_most, tells_quantity}
 use Rattle.txn_books.proofs.quantity.quantity.Goals as goal
 
 pub get-requires-clause-order : goal.get-requires-clause-order
@@ -17,29 +11,20 @@ pub returns-clause-told : goal.returns-clause-told
 returns-clause-told g c =
     let shape = c.args.shape.now in
     IfOk-weaker c.get.result _ _
-    (λ answer. leads_less g.W.Words g.W.Shape.Shape _ _
-    (Finds (chain_part (chains_of shape)) (position_key_of c.args.account c.args.instrument) answer)
-    (Tells (Stands shape) (λ books. map.get books.positions (c.args.account, c.args.instrument)) answer)
+    (λ answer. leads_less
     (tells_quantity shape c.args.account c.args.instrument c.requires.account c.requires.instrument answer))
     (rw c.position_key.ensures at rw c.chains.ensures at c.get.ensures.found)
 
 pub returns-clause-range : goal.returns-clause-range
 returns-clause-range g c =
-    let goes = c.get.ensures.goes_on in
-    IfOk-weaker c.get.result _ _ (λ answer told.
-    let each = each_told g.W.Words g.W.Shape.Shape c.args.shape.now _ _ goes.shape goes.begins c.requires.stands _ answer told in
-    let some = in_some g.W.Words g.W.Shape.Shape _ _ (g.met.W.Words.fits c.get.new.w goes.sound) each in
-    quantity_most some.1.0 some.1.1.range c.args.account c.args.instrument answer some.1.2)
-    (returns-clause-told g c)
+    told_fits c.get.ensures.goes_on c.requires.stands _ (λ answer. answer) (returns-clause-told g c) (λ found. IfSome found (IsWithin 1 GREATEST_QUANTITY))
+    (g.met.W.Words.fits c.get.new.w c.get.ensures.goes_on.sound) (λ books range. quantity-in_range books c.args.account c.args.instrument range _ refl)
 
 pub returns-clause-stands : goal.returns-clause-stands
-returns-clause-stands g c =
-    let goes = c.get.ensures.goes_on in
-    IfOk-weaker c.get.result _ _ (λ answer. looked_stands g.W.Words g.W.Shape.Shape c.args.shape.now _ _ goes.shape
-    goes.begins c.requires.stands _ answer) (returns-clause-told g c)
+returns-clause-stands g c = told_stand c.get.ensures.goes_on c.requires.stands _ (λ answer. answer) (returns-clause-told g c)
 
 pub position_key-requires : goal.position_key-requires
 position_key-requires g c =
-    let some = in_some g.W.Words g.W.Shape.Shape c.args.w.now (IsGoodFor c.args.shape.now)
+    let some = in_some
     (g.met.W.Words.fits c.args.w.now c.requires.ready.sound) c.requires.stands in
     record { instrument = (c.requires.instrument.0, omega (arith, c.requires.instrument.1, instruments_most c.args.shape.now some.0 some.1)) }

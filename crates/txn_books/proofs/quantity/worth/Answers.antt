@@ -1,8 +1,5 @@
-use Rattle.std.proofs.Common.{◌≡◌, ◌+◌, ◌*◌, refl, sym, ap, ◌∙◌, arith}
-use Rattle.history_model.proofs.Traces.TraceLaws.{begins_refl, begins_trans}
-use Rattle.books_model.specs.Books.{position_of, price_of}
-use Rattle.books_model.specs.Interpreter.{worth_of}
-use Rattle.books_model.proofs.Sums.{worth_below, worth_first, worth_next, worth_last}
+use Rattle.txn_books.proofs.Common.{◌≡◌, ◌+◌, refl, sym, ap, ◌∙◌, arith, begins_refl, begins_trans, worth_below}
+use Rattle.books_model.proofs.Sums.{worth_first, worth_next, worth_last}
 use Rattle.txn_books.proofs.OnBooks.Looking.{saw_told, told_saw, saw_first, saw_then, saw_stands}
 use Rattle.txn_books.proofs.quantity.worth.Goals as goal
 
@@ -14,23 +11,21 @@ loop-instrument-init g c = record {
   stop = c.requires.ready.going;
   sound = c.requires.ready.sound;
   from = omega arith;
-  worth = saw_first g.W.Words g.W.Shape.Shape c.args.shape.now _ _ (λ books sized. sym (worth_first books c.args.account sized.1));
+  worth = saw_first (λ books sized. sym (worth_first books c.args.account sized.1));
   most = omega arith;
 }
 
 pub worth_in-requires-clause-stands : goal.worth_in-requires-clause-stands
 worth_in-requires-clause-stands g c =
     let i = c.loop-instrument.invariant in
-    saw_stands g.W.Words g.W.Shape.Shape c.args.shape.now _ _ _ i.shape i.begins c.requires.stands i.worth
+    saw_stands i.shape i.begins c.requires.stands i.worth
 
 pub loop-instrument-preserved : goal.loop-instrument-preserved
 loop-instrument-preserved g c =
     let shape = c.args.shape.now in
     let i = c.loop-instrument.invariant in
     let goes = c.in_ok-total.ensures.goes_on in
-    let here = saw_told g.W.Words g.W.Shape.Shape shape _ _
-    (λ books. position_of books c.args.account c.loop-instrument.instrument * price_of books
-    c.loop-instrument.instrument) c.in_ok-total.field-0 c.in_ok-total.ensures.told in
+    let here = saw_told c.in_ok-total.ensures.told in
     record {
       shape = goes.shape ∙ i.shape;
       origin = goes.origin ∙ i.origin;
@@ -38,7 +33,7 @@ loop-instrument-preserved g c =
       stop = goes.stops;
       sound = goes.sound;
       from = omega arith;
-      worth = saw_then g.W.Words g.W.Shape.Shape shape _ _ _ _ _ _ i.shape goes.begins
+      worth = saw_then i.shape goes.begins
           (λ books sized before one. omega (arith, before, one, worth_next books c.args.account c.loop-instrument.instrument)) i.worth here;
       most = omega (arith, i.most, c.in_ok-total.ensures.range);
     }
@@ -46,7 +41,7 @@ loop-instrument-preserved g c =
 pub returns-clause-told : goal.returns-clause-told
 returns-clause-told g c =
     let i = c.loop-instrument.invariant in
-    told_saw g.W.Words g.W.Shape.Shape c.args.shape.now _ _ (λ books. worth_of books c.args.account) c.loop-instrument.total _
+    told_saw
     (λ books sized so_far.
     let last : c.loop-instrument.instrument ≡ books.instruments + 1 =
     omega (arith, c.loop-instrument-test.false, c.loop-instrument.auto.instrument-end, ap (λ z. z.instruments) sized.0) in
@@ -55,4 +50,4 @@ returns-clause-told g c =
 pub returns-clause-stands : goal.returns-clause-stands
 returns-clause-stands g c =
     let i = c.loop-instrument.invariant in
-    saw_stands g.W.Words g.W.Shape.Shape c.args.shape.now _ _ _ i.shape i.begins c.requires.stands i.worth
+    saw_stands i.shape i.begins c.requires.stands i.worth

@@ -1,8 +1,4 @@
-use Rattle.std.proofs.Common.{◌≡◌, ◌+◌, ◌*◌, ◌≤◌, None}
-use Rattle.history_model.specs.Traces.{Begins}
-use Rattle.books_model.specs.declared.limits.TheConstants.{GREATEST_QUANTITY, GREATEST_PRICE}
-use Rattle.books_model.proofs.Sums.{worth_below}
-use Rattle.txn_words.specs.Calls.{LeadsTo}
+use Rattle.txn_books.proofs.Common.{◌≡◌, ◌+◌, ◌*◌, ◌≤◌, None, Begins, GREATEST_QUANTITY, GREATEST_PRICE, worth_below, LeadsTo}
 use Rattle.txn_books.proofs.OnBooks.Looking.{Saw}
 use Rattle.txn_books.proofs.quantity.worth.Given as goal
 

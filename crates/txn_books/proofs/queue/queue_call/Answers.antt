@@ -1,6 +1,5 @@
-use Rattle.std.proofs.lemmas.Result.{IfOk-weaker}
-use Rattle.txn_books.specs.Layout.{queue_of}
-use Rattle.txn_books.proofs.OnBooks.Calls.{IsPushed, ok_both, leads_less, leads_pushed, room_stands}
+use Rattle.txn_books.proofs.Common.{IfOk-weaker}
+use Rattle.txn_books.proofs.OnBooks.Calls.{ok_both, leads_less, leads_pushed, room_stands}
 use Rattle.txn_books.proofs.OnBooks.MarginCalls.{queue_there, call_queued}
 use Rattle.txn_books.proofs.queue.queue_call.Goals as goal
 
@@ -14,15 +13,9 @@ returns-clause-queued g c =
     let full = rw c.queue.ensures at c.push.ensures.full in
     let others = rw c.queue.ensures at c.push.ensures.others in
     IfOk-weaker c.push.result _ _
-    (λ answer did. leads_less g.W.Words g.W.Shape.Shape _ _ (IsPushed (queue_of shape) (
-      c.args.account,
-      c.args.shortfall,
-    ) answer) _ (call_queued shape c.args.account c.args.shortfall c.requires.call answer)
-    (leads_pushed g.W.Words g.W.Shape.Shape _ _ (queue_of shape) (c.args.account, c.args.shortfall) answer did.0 did.1.0 did.1.1))
+    (λ answer did. leads_less (call_queued shape c.args.account c.args.shortfall c.requires.call answer)
+    (leads_pushed did.0 did.1.0 did.1.1))
     (ok_both _ _ c.push.result pushed (ok_both _ _ c.push.result full others))
 
 pub returns-clause-stands : goal.returns-clause-stands
-returns-clause-stands g c =
-    let goes = c.push.ensures.goes_on in
-    IfOk-weaker c.push.result _ _ (λ answer. room_stands g.W.Words g.W.Shape.Shape c.args.shape.now _ _ goes.shape
-    goes.begins c.requires.stands _ _ answer) (returns-clause-queued g c)
+returns-clause-stands g c = IfOk-weaker c.push.result _ _ (λ answer. room_stands c.push.ensures.goes_on c.requires.stands) (returns-clause-queued g c)

@@ -1,6 +1,4 @@
-use Rattle.std.proofs.Common.{◌≡◌, take}
-use Rattle.books_model.specs.Books.{ClearingBooks}
-use Rattle.txn_books.specs.Inner.Reading.{AddsCalls}
+use Rattle.txn_books.proofs.Common.{◌≡◌, take, ClearingBooks, AddsCalls}
 use Rattle.txn_books.proofs.read.add_calls.Given as goal
 
 -- as many calls are added as were gone over

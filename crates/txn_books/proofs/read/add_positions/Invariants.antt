@@ -1,6 +1,4 @@
-use Rattle.std.proofs.Common.{drop}
-use Rattle.books_model.specs.Books.{ClearingBooks}
-use Rattle.txn_books.specs.Inner.Reading.{AddsPositions}
+use Rattle.txn_books.proofs.Common.{drop, ClearingBooks, AddsPositions}
 use Rattle.txn_books.proofs.read.add_positions.Given as goal
 
 -- the entries that are left make the same books

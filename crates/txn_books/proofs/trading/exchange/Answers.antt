@@ -1,14 +1,8 @@
-use Rattle.std.proofs.Common.{if◌then◌else◌, IsSome, sym, ap, subst, ◌∙◌, rules}
-use Rattle.std.specs.FinMap as map
-use Rattle.std.proofs.lemmas.Result.{IfOk-from_err}
-use Rattle.txn_words.specs.Calls.{GoesOn}
-use Rattle.txn_words.proofs.CallLaws.{goes_then, goes_as}
-use Rattle.books_model.specs.Books.{put_cash}
-use Rattle.books_model.specs.Interpreter.{put_position}
-use Rattle.txn_books.specs.Inner.Trading.{sold}
+use Rattle.txn_books.proofs.Common.{if◌then◌else◌, IsSome, sym, ap, subst, ◌∙◌, rules, goes_then, goes_as, put_cash, put_position, sold}
 use Rattle.txn_books.proofs.OnBooks.Accounts.{held_kept}
 use Rattle.txn_books.proofs.OnBooks.Turning.{turn_then, turned_less, of_change, each_turned}
 use Rattle.txn_books.proofs.OnBooks.TradeSides.{has_sold, has_bought, bought, exchanges}
+use Rattle.std.specs.FinMap as map
 use Rattle.txn_books.proofs.trading.exchange.Goals as goal
 
 pub set_quantity-requires-clause-account : goal.set_quantity-requires-clause-account
@@ -47,8 +41,8 @@ set_balance-requires-clause-held g c =
     let first = c.in_ok-set_quantity.ensures in
     let second = c.in_ok-set_quantity-2.ensures in
     let shape = c.args.shape.now in
-    held_kept g.W.Words g.W.Shape.Shape shape _ _ c.args.buys.side.account c.args.buys.block second.goes_on.shape second.goes_on.begins
-    (held_kept g.W.Words g.W.Shape.Shape shape _ _ c.args.buys.side.account c.args.buys.block first.goes_on.shape first.goes_on.begins
+    held_kept second.goes_on shape c.args.buys.side.account c.args.buys.block
+    (held_kept first.goes_on shape c.args.buys.side.account c.args.buys.block
     c.requires.buyer_held first.blocks) second.blocks
 
 pub set_balance-requires-2-clause-held : goal.set_balance-requires-2-clause-held
@@ -57,9 +51,9 @@ set_balance-requires-2-clause-held g c =
     let second = c.in_ok-set_quantity-2.ensures in
     let third = c.in_ok-set_balance.ensures in
     let shape = c.args.shape.now in
-    held_kept g.W.Words g.W.Shape.Shape shape _ _ c.args.sells.side.account c.args.sells.block third.goes_on.shape third.goes_on.begins
-    (held_kept g.W.Words g.W.Shape.Shape shape _ _ c.args.sells.side.account c.args.sells.block second.goes_on.shape second.goes_on.begins
-    (held_kept g.W.Words g.W.Shape.Shape shape _ _ c.args.sells.side.account c.args.sells.block first.goes_on.shape first.goes_on.begins
+    held_kept third.goes_on shape c.args.sells.side.account c.args.sells.block
+    (held_kept second.goes_on shape c.args.sells.side.account c.args.sells.block
+    (held_kept first.goes_on shape c.args.sells.side.account c.args.sells.block
     c.requires.seller_held first.blocks) second.blocks) third.blocks
 
 pub returns : goal.returns
@@ -82,31 +76,16 @@ returns g c = record {
       c.in_ok-set_balance.ensures.goes_on) c.in_ok-set_balance-2.ensures.goes_on) (search rules);
 }
 
-pub returns-in_err-set_quantity : goal.returns-in_err-set_quantity
-returns-in_err-set_quantity g c =
-    let failed = c.from_residual.ensures.0 in
-    let on : GoesOn g.W.Words c.args.w.now c.set_quantity.new.w c.from_residual.result = goes_as c.in_err-set_quantity.ensures.goes_on (search rules) in
-    search IfOk-from_err
+pub returns-in_err-set_quantity-2-clause-goes_on : goal.returns-in_err-set_quantity-2-clause-goes_on
+returns-in_err-set_quantity-2-clause-goes_on g c =
+    goes_as (goes_then c.in_ok-set_quantity.ensures.goes_on c.in_err-set_quantity-2.ensures.goes_on) (search rules)
 
-pub returns-in_err-set_quantity-2 : goal.returns-in_err-set_quantity-2
-returns-in_err-set_quantity-2 g c =
-    let failed = c.from_residual-in_err-set_quantity-2.ensures.0 in
-    let on : GoesOn g.W.Words c.args.w.now c.set_quantity-2.new.w c.from_residual-in_err-set_quantity-2.result =
-    goes_as (goes_then c.in_ok-set_quantity.ensures.goes_on c.in_err-set_quantity-2.ensures.goes_on) (search rules) in
-    search IfOk-from_err
-
-pub returns-in_err-set_balance : goal.returns-in_err-set_balance
-returns-in_err-set_balance g c =
-    let failed = c.from_residual-in_err-set_balance.ensures.0 in
-    let on : GoesOn g.W.Words c.args.w.now c.set_balance.new.w c.from_residual-in_err-set_balance.result =
+pub returns-in_err-set_balance-clause-goes_on : goal.returns-in_err-set_balance-clause-goes_on
+returns-in_err-set_balance-clause-goes_on g c =
     goes_as (goes_then (goes_then c.in_ok-set_quantity.ensures.goes_on c.in_ok-set_quantity-2.ensures.goes_on)
-    c.in_err-set_balance.ensures.goes_on) (search rules) in
-    search IfOk-from_err
+    c.in_err-set_balance.ensures.goes_on) (search rules)
 
-pub returns-in_err-set_balance-2 : goal.returns-in_err-set_balance-2
-returns-in_err-set_balance-2 g c =
-    let failed = c.from_residual-in_err-set_balance-2.ensures.0 in
-    let on : GoesOn g.W.Words c.args.w.now c.set_balance-2.new.w c.from_residual-in_err-set_balance-2.result =
+pub returns-in_err-set_balance-2-clause-goes_on : goal.returns-in_err-set_balance-2-clause-goes_on
+returns-in_err-set_balance-2-clause-goes_on g c =
     goes_as (goes_then (goes_then (goes_then c.in_ok-set_quantity.ensures.goes_on
-    c.in_ok-set_quantity-2.ensures.goes_on) c.in_ok-set_balance.ensures.goes_on) c.in_err-set_balance-2.ensures.goes_on) (search rules) in
-    search IfOk-from_err
+    c.in_ok-set_quantity-2.ensures.goes_on) c.in_ok-set_balance.ensures.goes_on) c.in_err-set_balance-2.ensures.goes_on) (search rules)

@@ -1,6 +1,5 @@
-use Rattle.std.proofs.Common.{◌+◌, ◌%◌, ◌^◌, refl}
+use Rattle.txn_cells.proofs.Common.{◌+◌, ◌%◌, ◌^◌, refl, map_ok}
 use Rattle.txn_words.proofs.CallLaws.{goes_then}
-use Rattle.txn_words.proofs.Listed.{map_ok}
 use Rattle.txn_cells.specs.contracts.numbers.U128Coded.TheImpl.{ghosts as numbers}
 use Rattle.txn_cells.proofs.Additions.{got_and_set}
 use Rattle.txn_cells.proofs.adding.add_to.Goals as goal

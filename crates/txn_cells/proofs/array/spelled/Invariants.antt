@@ -1,4 +1,4 @@
-use Rattle.std.proofs.Common.{◌≡◌, length, take}
+use Rattle.txn_cells.proofs.Common.{◌≡◌, length, take}
 use Rattle.txn_cells.proofs.array.spelled.Given as goal
 
 abbrev pub invariant-loop-k : goal.invariant-loop-k

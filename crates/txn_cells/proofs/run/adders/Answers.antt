@@ -1,4 +1,5 @@
-use Rattle.std.proofs.Common.{◌≡◌, ◌∷◌, [], length, length-append, refl, ap, arith}
+use Rattle.txn_cells.proofs.Common.{◌≡◌, ◌∷◌, [], length, refl, ap, arith}
+use Rattle.std.proofs.Common.{length-append}
 use Rattle.std.proofs.lemmas.List.Elements.{All-push, All-same}
 use Rattle.txn_cells.specs.declared.rounds.Adder.{Adder}
 use Rattle.txn_cells.proofs.run.adders.Goals as goal

@@ -1,4 +1,5 @@
-use Rattle.std.proofs.Common.{◌≡◌, All, length}
+use Rattle.txn_cells.proofs.Common.{◌≡◌, length}
+use Rattle.std.proofs.Common.{All}
 use Rattle.txn_cells.proofs.run.adders.Given as goal
 
 -- so many workers are ready

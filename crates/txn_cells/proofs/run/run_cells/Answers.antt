@@ -1,9 +1,5 @@
-use Rattle.std.proofs.Common.{◌≡◌, ◌*◌, length, replicate, refl, sym, ap, ◌∙◌, subst, arith}
-use Rattle.history_model.specs.Fitting.{IsGood}
-use Rattle.word_table.specs.Closing.{IsCoherent, IsLegalInEachOrder}
+use Rattle.txn_cells.proofs.Common.{◌≡◌, ◌*◌, length, replicate, refl, sym, ap, ◌∙◌, subst, arith, IsGood, IsCoherent, IsLegalInEachOrder, CELLS, AreAllCells}
 use Rattle.txn_cells.specs.contracts.numbers.U128Coded.TheImpl.{ghosts as numbers}
-use Rattle.txn_cells.specs.declared.limits.TheConstants.{CELLS}
-use Rattle.txn_cells.specs.Adding.{AreAllCells}
 use Rattle.txn_cells.proofs.Beginning.{zero_cells, zeros}
 use Rattle.txn_cells.proofs.Finishing.{HasClosed, counted, have_rounds, summed_up}
 use Rattle.txn_cells.proofs.Gathering.{have_made, of_cells, of_words}

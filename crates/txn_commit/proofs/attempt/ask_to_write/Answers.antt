@@ -1,7 +1,6 @@
-use Rattle.std.proofs.Common.{ℕ, subst}
-use Rattle.history_model.specs.Views.{HasWriteGrant}
-use Rattle.lock_or_yield.specs.declared.turn.Intent.TheVariants as intent
+use Rattle.txn_commit.proofs.Common.{ℕ, subst, HasWriteGrant}
 use Rattle.txn_commit.proofs.Asking.{asked_granted, asked_held, asked_yields}
+use Rattle.lock_or_yield.specs.declared.turn.Intent.TheVariants as intent
 use Rattle.txn_commit.proofs.attempt.ask_to_write.Goals as goal
 
 pub returns-then-has_write-clause-asked : goal.returns-then-has_write-clause-asked

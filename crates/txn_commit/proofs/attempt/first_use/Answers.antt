@@ -1,17 +1,11 @@
-use Rattle.std.proofs.Common.{◌<◌, ℕ, length, refl, sym, ap, ◌∙◌, subst}
-use Rattle.history_model.specs.declared.view.View.{View}
-use Rattle.history_model.specs.Locks.{lock_of_word}
-use Rattle.history_model.specs.Sets.{has}
-use Rattle.history_model.specs.Views.{IsGranted}
-use Rattle.word_table.specs.Desks.{RuleHolds}
-use Rattle.word_table.specs.Versions.{locks_found}
-use Rattle.lock_or_yield.specs.declared.turn.Intent.TheVariants as intent
-use Rattle.lock_or_yield.specs.Intents.{MeetsFirst}
+use Rattle.txn_commit.proofs.Common.{◌<◌, ℕ, length, refl, sym, ap, ◌∙◌, subst, View, lock_of_word, has, IsGranted, RuleHolds, locks_found}
+use Rattle.lock_or_yield.proofs.Common.{MeetsFirst}
 use Rattle.lock_or_yield.proofs.Turning.{share_clear, share_meets}
 use Rattle.lock_or_yield.proofs.Wanting.{since_clear}
-use Rattle.txn_commit.specs.declared.attempt.Asked.TheVariants as asked
 use Rattle.txn_commit.proofs.Asking.{asked_granted, asked_held, goes_on_used}
 use Rattle.txn_commit.proofs.Attempts.{granted_not_yield, held_not_yield}
+use Rattle.lock_or_yield.specs.declared.turn.Intent.TheVariants as intent
+use Rattle.txn_commit.specs.declared.attempt.Asked.TheVariants as asked
 use Rattle.txn_commit.proofs.attempt.first_use.Goals as goal
 
 pub find_new-requires-clause-granted : goal.find_new-requires-clause-granted

@@ -1,14 +1,9 @@
-use Rattle.std.proofs.Common.{refl, sym, ap, ◌∙◌}
-use Rattle.history_model.specs.declared.view.View.{View}
-use Rattle.history_model.specs.Locks.{lock_of_word}
-use Rattle.history_model.specs.Sets.{has}
-use Rattle.word_table.specs.Desks.{RuleHolds}
-use Rattle.word_table.specs.Versions.{locks_found}
-use Rattle.lock_or_yield.specs.declared.turn.Intent.TheVariants as intent
+use Rattle.txn_commit.proofs.Common.{refl, sym, ap, ◌∙◌, View, lock_of_word, has, RuleHolds, locks_found}
 use Rattle.lock_or_yield.proofs.Turning.{met_alone, met_seat}
-use Rattle.txn_commit.specs.declared.attempt.Asked.TheVariants as asked
 use Rattle.txn_commit.proofs.Asking.{asked_granted, asked_yields, goes_on_used, yields_unused}
 use Rattle.txn_commit.proofs.Attempts.{granted_not_yield}
+use Rattle.lock_or_yield.specs.declared.turn.Intent.TheVariants as intent
+use Rattle.txn_commit.specs.declared.attempt.Asked.TheVariants as asked
 use Rattle.txn_commit.proofs.attempt.first_use_met.Goals as goal
 
 pub go_on-requires-clause-other : goal.go_on-requires-clause-other

@@ -1,7 +1,7 @@
-use Rattle.std.proofs.Common.{◌≡◌, ℕ, ◌+◌, ◌-◌, ◌<◌, ◌≤◌, length, None, arith, refl, sym, ◌∙◌, subst}
-use Rattle.history_model.specs.Marks.{count_writes}
-use Rattle.history_model.proofs.Traces.TraceLaws.{begins_trans}
-use Rattle.txn_words.proofs.GoingBack.{GoneBack, all_back, mark_stays, none_back, one_more_back}
+use Rattle.txn_commit.proofs.Common.{◌≡◌, ℕ, ◌+◌, ◌<◌, ◌≤◌, length, None, arith, refl, sym, ◌∙◌, subst, count_writes, GoneBack}
+use Rattle.txn_words.proofs.Common.{begins_trans}
+use Rattle.std.proofs.Common.{◌-◌}
+use Rattle.txn_words.proofs.GoingBack.{all_back, mark_stays, none_back, one_more_back}
 use Rattle.txn_commit.proofs.Attempts.{did_more, noted_count, of_made, of_refused}
 use Rattle.txn_commit.proofs.attempt.go_back.Goals as goal
 

@@ -1,7 +1,4 @@
-use Rattle.std.proofs.Common.{◌≤◌, ◌+◌, None}
-use Rattle.history_model.specs.Marks.{count_writes}
-use Rattle.txn_words.proofs.GoingBack.{GoneBack}
-use Rattle.txn_commit.specs.Attempts.{DidEvents, IsSoundAttempt}
+use Rattle.txn_commit.proofs.Common.{◌≤◌, ◌+◌, None, count_writes, GoneBack, DidEvents, IsSoundAttempt}
 use Rattle.txn_commit.proofs.attempt.go_back.Given as goal
 
 -- the writes from this place on are taken back

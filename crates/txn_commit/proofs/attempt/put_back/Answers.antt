@@ -1,13 +1,5 @@
-use Rattle.std.proofs.Common.{◌≡◌, ℕ, ◌<◌, ◌≤◌, [], ◌∷◌, ◌++◌, length, None, inr, refl, sym, ap, ◌∙◌, subst, arith, append_assoc}
-use Rattle.history_model.specs.declared.event.Event.TheVariants.{Read, Write}
-use Rattle.history_model.specs.declared.view.View.{View}
-use Rattle.history_model.specs.Locks.{lock_of_word}
-use Rattle.history_model.specs.Marks.{count_writes}
-use Rattle.history_model.specs.Traces.{Trace}
-use Rattle.history_model.specs.Views.{number, HasWriteGrant}
-use Rattle.undo_log.specs.Room.{Room}
-use Rattle.txn_commit.specs.declared.attempt.TheConstants.{UNDO_ROOM}
-use Rattle.txn_commit.specs.Attempts.{IsSoundAttempt}
+use Rattle.txn_commit.proofs.Common.{◌≡◌, ℕ, ◌<◌, ◌≤◌, [], ◌∷◌, ◌++◌, length, None, inr, refl, sym, ap, ◌∙◌, subst, arith, append_assoc, Read, Write, View}
+use Rattle.txn_commit.proofs.Common.{lock_of_word, count_writes, Trace, number, HasWriteGrant, Room, UNDO_ROOM, IsSoundAttempt}
 use Rattle.txn_commit.proofs.Attempts.{asks_none, did_load, did_store, held_sound, loaded_last, noted_count, noted_granted, noted_there, noted_within, of_made}
 use Rattle.txn_commit.proofs.Attempts.{of_refused, refused_when_full, store_sound}
 use Rattle.txn_commit.proofs.attempt.put_back.Goals as goal

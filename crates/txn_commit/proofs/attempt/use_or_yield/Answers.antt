@@ -1,6 +1,4 @@
-use Rattle.std.proofs.Common.{ℕ, sym, subst}
-use Rattle.history_model.specs.Views.{IsGranted}
-use Rattle.word_table.specs.Versions.{HasUseOf}
+use Rattle.txn_commit.proofs.Common.{ℕ, sym, subst, IsGranted, HasUseOf}
 use Rattle.txn_commit.proofs.Asking.{used_before}
 use Rattle.txn_commit.proofs.attempt.use_or_yield.Goals as goal
 

@@ -1,5 +1,4 @@
-use Rattle.std.proofs.Common.{◌≡◌, ◌+◌, take}
-use Rattle.txn_commit.specs.Jobs.{count_jobs}
+use Rattle.txn_commit.proofs.Common.{◌≡◌, ◌+◌, take, count_jobs}
 use Rattle.txn_commit.proofs.jobs.have_at_most.Given as goal
 
 -- what is left beside the lists so far

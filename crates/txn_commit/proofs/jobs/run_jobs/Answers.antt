@@ -1,4 +1,4 @@
-use Rattle.std.proofs.Common.{arith}
+use Rattle.txn_commit.proofs.Common.{arith}
 use Rattle.txn_commit.proofs.JobCounts.{jobs_of_all}
 use Rattle.txn_commit.proofs.jobs.run_jobs.Goals as goal
 

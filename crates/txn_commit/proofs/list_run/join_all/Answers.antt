@@ -1,7 +1,5 @@
-use Rattle.std.proofs.Common.{◌≡◌, ◌++◌, [], flat_map, length, sym, ap, ◌∙◌, append_assoc, arith}
-use Rattle.std.proofs.lemmas.List.{append-nil, nil_from_length}
-use Rattle.std.proofs.lemmas.List.Concat.{flat_map-cons}
-use Rattle.std.specs.Vec.Iter.{into_iter_items}
+use Rattle.txn_commit.proofs.Common.{◌≡◌, ◌++◌, [], flat_map, length, sym, ap, ◌∙◌, append_assoc, arith, append-nil, flat_map-cons, into_iter_items}
+use Rattle.std.proofs.lemmas.List.{nil_from_length}
 use Rattle.txn_commit.proofs.list_run.join_all.Goals as goal
 
 pub loop-worker-preserved : goal.loop-worker-preserved

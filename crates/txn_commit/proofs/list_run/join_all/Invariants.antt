@@ -1,5 +1,4 @@
-use Rattle.std.proofs.Common.{◌≡◌, ◌++◌, flat_map, length}
-use Rattle.std.specs.Vec.Iter.{into_iter_items, into_iter_len}
+use Rattle.txn_commit.proofs.Common.{◌≡◌, ◌++◌, flat_map, length, into_iter_items, into_iter_len}
 use Rattle.txn_commit.proofs.list_run.join_all.Given as goal
 
 -- what the workers so far ran is there, and what the others ran comes behind

@@ -1,8 +1,5 @@
-use Rattle.std.proofs.Common.{◌≤◌, subst, sym, ap, ◌∙◌, arith}
-use Rattle.history_model.specs.Fitting.{IsGood}
-use Rattle.word_table.specs.Closing.{IsCoherent, IsLegalInEachOrder}
+use Rattle.txn_commit.proofs.Common.{◌≤◌, subst, sym, ap, ◌∙◌, arith, IsGood, IsCoherent, IsLegalInEachOrder, jobs_of_first}
 use Rattle.word_table.specs.declared.limits.TheConstants.{LAST_CALL}
-use Rattle.txn_commit.specs.Lists.{jobs_of_first}
 use Rattle.txn_commit.proofs.AllLists.{all_whole}
 use Rattle.txn_commit.proofs.list_run.run_lists.Goals as goal
 

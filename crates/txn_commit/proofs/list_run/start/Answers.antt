@@ -1,5 +1,5 @@
-use Rattle.std.proofs.Common.{◌≡◌, ◌∷◌, [], length, length-append, refl, ap, arith}
-use Rattle.std.proofs.lemmas.List.Elements.{All-push, All-same}
+use Rattle.txn_commit.proofs.Common.{◌≡◌, ◌∷◌, [], length, length-append, refl, ap, arith, All-push}
+use Rattle.std.proofs.lemmas.List.Elements.{All-same}
 use Rattle.txn_commit.specs.declared.list_worker.ListWorker.{ListWorker}
 use Rattle.txn_commit.proofs.list_run.start.Goals as goal
 

@@ -1,4 +1,4 @@
-use Rattle.std.proofs.Common.{◌≡◌, [], All, length}
+use Rattle.txn_commit.proofs.Common.{◌≡◌, [], All, length}
 use Rattle.txn_commit.proofs.list_run.start.Given as goal
 
 -- there are so many workers, who have run nothing

@@ -1,9 +1,4 @@
-use Rattle.std.proofs.Common.{◌≡◌, ℕ, List, slice_index, refl, ap, ◌∙◌, subst, arith}
-use Rattle.std.proofs.lemmas.Result.{IfOk-from_err}
-use Rattle.history_model.specs.Views.{number}
-use Rattle.txn_threads.specs.Passes.{IsNext}
-use Rattle.word_table.specs.Desks.{AreGoodWords}
-use Rattle.txn_commit.specs.Inner.ListWork.{RanList}
+use Rattle.txn_commit.proofs.Common.{◌≡◌, ℕ, List, slice_index, refl, ap, ◌∙◌, subst, arith, IfOk-from_err, number, IsNext, AreGoodWords, RanList}
 use Rattle.txn_commit.proofs.ListWork.{list_count, list_more, list_none, run_more}
 use Rattle.txn_commit.proofs.list_worker.run_list.Goals as goal
 

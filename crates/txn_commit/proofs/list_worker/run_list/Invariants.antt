@@ -1,8 +1,4 @@
-use Rattle.std.proofs.Common.{◌≡◌}
-use Rattle.history_model.specs.declared.view.Phase.TheVariants.{Idle}
-use Rattle.history_model.specs.Views.{number}
-use Rattle.word_table.specs.Desks.{AreGoodWords}
-use Rattle.txn_commit.specs.Inner.ListWork.{HasRun, RanList}
+use Rattle.txn_commit.proofs.Common.{◌≡◌, Idle, number, AreGoodWords, HasRun, RanList}
 use Rattle.txn_commit.proofs.list_worker.run_list.Given as goal
 
 -- the caller's jobs before this index were run

@@ -1,5 +1,4 @@
-use Rattle.std.proofs.Common.{◌≡◌, ℕ, List, slice_index, sym, ap, ◌∙◌}
-use Rattle.history_model.specs.Views.{number}
+use Rattle.txn_commit.proofs.Common.{◌≡◌, ℕ, List, slice_index, sym, ap, ◌∙◌, number}
 use Rattle.txn_commit.proofs.list_worker.run_listed.Goals as goal
 
 pub returns-clause-made : goal.returns-clause-made

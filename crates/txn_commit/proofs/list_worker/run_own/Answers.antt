@@ -1,13 +1,9 @@
-use Rattle.std.proofs.Common.{◌≡◌, ◌+◌, ℕ, List, length, slice_index, refl, sym, ap, ◌∙◌, subst, subst₂, arith}
-use Rattle.std.proofs.lemmas.Result.{IfOk-from_err}
-use Rattle.history_model.specs.Views.{number}
-use Rattle.txn_threads.specs.Passes.{IsNext}
-use Rattle.word_table.specs.Desks.{AreGoodWords}
-use Rattle.txn_commit.specs.Inner.ListWork.{HasRun, RanFirst}
+use Rattle.txn_commit.proofs.Common.{◌≡◌, ◌+◌, ℕ, List, length, slice_index, refl, sym, ap, ◌∙◌, subst, subst₂, arith, IfOk-from_err, number, IsNext}
+use Rattle.txn_commit.proofs.Common.{AreGoodWords, HasRun, RanFirst}
 use Rattle.txn_commit.proofs.UnderWay.{IsUnderWay}
 use Rattle.txn_commit.proofs.ListWork.{first_none, first_passes, first_runs, jobs_more, jobs_within, list_count, run_none}
-use Rattle.txn_commit.proofs.list_worker.run_own.Goals as goal
 use Rattle.txn_commit.proofs.list_worker.run_own.Goals.{then-caller-workers+in_ok-run_list, else-caller-workers}
+use Rattle.txn_commit.proofs.list_worker.run_own.Goals as goal
 
 pub loop-caller-init : goal.loop-caller-init
 loop-caller-init g c =

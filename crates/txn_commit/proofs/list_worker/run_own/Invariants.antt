@@ -1,4 +1,4 @@
-use Rattle.word_table.specs.Desks.{AreGoodWords}
+use Rattle.txn_commit.proofs.Common.{AreGoodWords}
 use Rattle.txn_commit.proofs.UnderWay.{IsUnderWay}
 use Rattle.txn_commit.proofs.list_worker.run_own.Given as goal
 

@@ -1,5 +1,4 @@
-use Rattle.std.proofs.Common.{◌<◌, arith}
-use Rattle.std.proofs.lemmas.Option.{slice_get_within}
+use Rattle.txn_commit.proofs.Common.{◌<◌, arith, slice_get_within}
 use Rattle.txn_commit.proofs.ordered.are_in_turn.Goals as goal
 
 pub returns-clause-each : goal.returns-clause-each

@@ -1,4 +1,4 @@
-use Rattle.std.proofs.Common.{◌≡◌, ◌≤◌, ◌<◌, ℕ, slice_get, Some}
+use Rattle.txn_commit.proofs.Common.{◌≡◌, ◌≤◌, ◌<◌, ℕ, slice_get, Some}
 use Rattle.txn_commit.proofs.ordered.are_in_turn.Given as goal
 
 -- the places so far are in turn

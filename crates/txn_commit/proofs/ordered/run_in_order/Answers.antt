@@ -1,5 +1,4 @@
-use Rattle.std.proofs.Common.{◌≡◌, ◌<◌, ◌%◌, ◌∙◌, ℕ, List, ap, subst, sym, slice_get}
-use Rattle.txn_commit.specs.Ordered.{AreAt}
+use Rattle.txn_commit.proofs.Common.{◌≡◌, ◌<◌, ◌%◌, ◌∙◌, ℕ, List, ap, subst, sym, slice_get, AreAt}
 use Rattle.txn_commit.proofs.Orders.FromRun.{all_run, once_in_order, order_run, places_run, recorded_in_order, run_in_order}
 use Rattle.txn_commit.proofs.Orders.Serial.{is_serial}
 use Rattle.txn_commit.proofs.ordered.run_in_order.Goals as goal

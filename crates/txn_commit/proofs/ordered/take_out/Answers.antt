@@ -1,5 +1,5 @@
-use Rattle.std.proofs.Common.{◌≡◌, ◌+◌, ◌<◌, set, length, Some, refl, sym, ◌∙◌, subst, arith, get_or}
-use Rattle.std.proofs.lemmas.Option.{get_or_from_slice_get}
+use Rattle.txn_commit.proofs.Common.{◌≡◌, ◌+◌, ◌<◌, length, Some, refl, sym, ◌∙◌, subst, arith, get_or, get_or_from_slice_get}
+use Rattle.std.proofs.Common.{set}
 use Rattle.txn_commit.proofs.Orders.Arranged.{arranged_all, at_hand, one_arranged, IsArranging}
 use Rattle.txn_commit.proofs.ordered.take_out.Goals as goal
 

@@ -1,5 +1,4 @@
-use Rattle.std.proofs.Common.{◌≡◌, ◌≤◌, ◌++◌, length, map, Some}
-use Rattle.std.specs.Vec.Iter.{into_iter_items, into_iter_len}
+use Rattle.txn_commit.proofs.Common.{◌≡◌, ◌≤◌, ◌++◌, length, map, Some, into_iter_items, into_iter_len}
 use Rattle.txn_commit.proofs.Orders.Arranged.{IsArranging}
 use Rattle.txn_commit.proofs.ordered.take_out.Given as goal
 

@@ -1,6 +1,4 @@
-use Rattle.std.proofs.Common.{subst}
-use Rattle.history_model.specs.declared.view.View.{View}
-use Rattle.history_model.specs.Views.{HasClaim}
+use Rattle.txn_commit.proofs.Common.{subst, View, HasClaim}
 use Rattle.txn_commit.proofs.Releasing.{bits_given_up, releases_more, still_begun, still_undone}
 use Rattle.txn_commit.proofs.release.release_all.Goals as goal
 

@@ -1,5 +1,4 @@
-use Rattle.std.proofs.Common.{◌∙◌}
-use Rattle.history_model.specs.Views.{number, HasClaim}
+use Rattle.txn_commit.proofs.Common.{◌∙◌, number, HasClaim}
 use Rattle.txn_commit.proofs.Releasing.{at_next, near_next, fewer_left, least_from_word, least_below, releases_more, claim_given_up, claims_without}
 use Rattle.txn_commit.proofs.Releasing.{still_undone, still_begun}
 use Rattle.txn_commit.proofs.release.release_claims.Goals as goal

@@ -1,10 +1,5 @@
-use Rattle.std.proofs.Common.{◌≡◌, ◌≢◌, ◌⊎◌, ◌<◌, [], IfSome}
-use Rattle.history_model.specs.declared.TheConstants.{LOCKS}
-use Rattle.history_model.specs.declared.view.Phase.TheVariants.{Idle, Releasing}
-use Rattle.history_model.specs.Views.{HasClaim}
-use Rattle.word_table.specs.Least.{IsLeast}
+use Rattle.txn_commit.proofs.Common.{◌≡◌, ◌≢◌, ◌⊎◌, ◌<◌, [], IfSome, LOCKS, Idle, Releasing, HasClaim, IsLeast, Releases}
 use Rattle.txn_commit.proofs.Releasing.{turns_left}
-use Rattle.txn_commit.specs.Inner.Releasing.{Releases}
 use Rattle.txn_commit.proofs.release.release_claims.Given as goal
 
 -- the least claim is the next to go

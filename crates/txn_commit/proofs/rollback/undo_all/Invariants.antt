@@ -1,6 +1,5 @@
-use Rattle.std.proofs.Common.{◌≡◌, ◌<◌, ◌≤◌, ◌+◌, true, length, All}
-use Rattle.history_model.specs.Counts.{is_open}
-use Rattle.txn_commit.specs.Inner.Releasing.{UndoesSome}
+use Rattle.txn_commit.proofs.Common.{◌≡◌, ◌<◌, ◌≤◌, ◌+◌, true, length, All, UndoesSome}
+use Rattle.word_table.proofs.Common.{is_open}
 use Rattle.txn_commit.proofs.rollback.undo_all.Given as goal
 
 -- the log has the notes of what is left to undo

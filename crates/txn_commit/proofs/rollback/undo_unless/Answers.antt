@@ -1,5 +1,4 @@
-use Rattle.std.proofs.Common.{refl}
-use Rattle.history_model.proofs.SetLemmas.{differ}
+use Rattle.txn_commit.proofs.Common.{refl, differ}
 use Rattle.txn_commit.proofs.rollback.undo_unless.Goals as goal
 
 pub returns-then-kept-clause-undone : goal.returns-then-kept-clause-undone

@@ -1,8 +1,5 @@
-use Rattle.std.proofs.Common.{sym, ap, ◌∙◌, subst}
-use Rattle.history_model.specs.declared.view.View.{View}
-use Rattle.history_model.specs.Fitting.{IsGood}
-use Rattle.history_model.specs.Traces.{Trace, IsLegalTrace, after}
-use Rattle.history_model.proofs.Traces.TraceLaws.{length-after}
+use Rattle.txn_commit.proofs.Common.{sym, ap, ◌∙◌, subst, View, IsGood, Trace, IsLegalTrace, after}
+use Rattle.txn_words.proofs.Common.{length-after}
 use Rattle.txn_commit.proofs.Settling.{knew_since, lists_since}
 use Rattle.txn_commit.proofs.transaction.commit_or_undo.Goals as goal
 

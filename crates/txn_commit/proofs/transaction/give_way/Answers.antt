@@ -1,15 +1,8 @@
-use Rattle.std.proofs.Common.{◌≡◌, ℕ, [], Option, Some, refl, ap, ◌∙◌, rules}
-use Rattle.history_model.specs.declared.view.View.{View}
-use Rattle.history_model.specs.declared.event.Cause.{Cause}
-use Rattle.history_model.specs.declared.view.Phase.TheVariants.{Running}
-use Rattle.txn_commit.specs.declared.attempt.Halt.{Halt}
-use Rattle.txn_commit.specs.declared.attempt.Halt.TheVariants as halt
-use Rattle.txn_commit.specs.Attempts.{StandsAs}
-use Rattle.txn_commit.specs.Inner.Releasing.{Releases, Undoes}
-use Rattle.txn_commit.specs.Transactions.{LeavesFootprint}
+use Rattle.txn_commit.proofs.Common.{◌≡◌, ℕ, [], Option, Some, refl, ap, ◌∙◌, rules, View, Cause, Running, Halt, StandsAs, Releases, Undoes, LeavesFootprint}
 use Rattle.txn_commit.proofs.Attempts.{some_fits}
 use Rattle.txn_commit.proofs.Ending.{gave_way, none_granted, none_noted}
 use Rattle.txn_commit.proofs.Footprints.{footprint_restarts}
+use Rattle.txn_commit.specs.declared.attempt.Halt.TheVariants as halt
 use Rattle.txn_commit.proofs.transaction.give_way.Goals as goal
 
 -- what the call asked for stays its footprint

@@ -1,23 +1,13 @@
-use Rattle.std.proofs.Common.{◌≡◌, ℕ, ◌<◌, Bool, Option, None, Some, Result, Ok, Err, List, length, refl, sym, ap, ◌∙◌, subst, rules}
-use Rattle.history_model.specs.declared.entry.Abandoned.{Abandoned}
-use Rattle.history_model.specs.declared.view.Phase.TheVariants.{Running}
-use Rattle.history_model.specs.declared.view.View.{View}
-use Rattle.history_model.specs.Fitting.{IsGood}
+use Rattle.txn_commit.proofs.Common.{◌≡◌, ℕ, ◌<◌, Bool, Option, None, Some, Result, Ok, Err, List, length, refl, sym, ap, ◌∙◌, subst, rules, Abandoned, Running}
+use Rattle.txn_commit.proofs.Common.{View, IsGood, after_commit, ReadsArranged, PassView, DeskView, Halt, StandsAs, start_of, stop_of, Undoes, LeavesFootprint}
 use Rattle.txn_words.specs.declared.words.Stop.{Stop}
-use Rattle.txn_words.specs.declared.words.Stop.TheVariants as stop
 use Rattle.txn_words.specs.Verdicts.{is_kept, answer_of}
-use Rattle.values_rule.specs.Steps.{after_commit}
-use Rattle.word_table.specs.Calls.{ReadsArranged}
-use Rattle.word_table.specs.Copies.{PassView}
-use Rattle.word_table.specs.Desks.{DeskView}
-use Rattle.txn_commit.specs.declared.attempt.Halt.{Halt}
-use Rattle.txn_commit.specs.declared.attempt.Halt.TheVariants as halt
-use Rattle.txn_commit.specs.Attempts.{StandsAs, start_of, stop_of}
-use Rattle.txn_commit.specs.Inner.Releasing.{Undoes}
-use Rattle.txn_commit.specs.Transactions.{LeavesFootprint, SameSeat}
+use Rattle.txn_commit.specs.Transactions.{SameSeat}
 use Rattle.txn_commit.proofs.Footprints.{commits_footprint, footprint_same}
 use Rattle.txn_commit.proofs.Attempts.{not_halted, same_call}
 use Rattle.txn_commit.proofs.Ending.{same_desk, same_pass, still_reads, gets_entry, is_meant, meant, undone_seen, one_more, ran_on, still_runs, gave_way}
+use Rattle.txn_words.specs.declared.words.Stop.TheVariants as stop
+use Rattle.txn_commit.specs.declared.attempt.Halt.TheVariants as halt
 use Rattle.txn_commit.proofs.transaction.run_attempts.Goals as goal
 
 -- what began from the same has the same name, and its table is the same

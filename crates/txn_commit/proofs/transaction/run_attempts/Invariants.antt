@@ -1,5 +1,4 @@
-use Rattle.std.proofs.Common.{◌≡◌, ◌<◌, [], None, length}
-use Rattle.txn_commit.specs.Attempts.{IsSoundAttempt, StaysInCall}
+use Rattle.txn_commit.proofs.Common.{◌≡◌, ◌<◌, [], None, length, IsSoundAttempt, StaysInCall}
 use Rattle.txn_commit.proofs.transaction.run_attempts.Given as goal
 
 -- so many attempts of the call gave way so far, fewer than there are seats, and the next begins

@@ -1,10 +1,5 @@
-use Rattle.std.proofs.Common.{◌∙◌, inr, subst, sym}
+use Rattle.txn_commit.proofs.Common.{◌∙◌, inr, subst, sym, IsGood, number, begin_call_action, PassView, AsksItsFootprint, EndsWithoutEntry}
 use Rattle.std.proofs.lemmas.Result.{on_err_weaker, on_ok_weaker}
-use Rattle.history_model.specs.Fitting.{IsGood}
-use Rattle.history_model.specs.Views.{number}
-use Rattle.values_rule.specs.Steps.{begin_call_action}
-use Rattle.word_table.specs.Copies.{PassView}
-use Rattle.txn_commit.specs.Transactions.{AsksItsFootprint, EndsWithoutEntry}
 use Rattle.txn_commit.proofs.Ending.{begins_sound, both_on_err, ends_with_footprint, ends_without, some_seats, words_counted}
 use Rattle.txn_commit.proofs.transaction.transact.Goals as goal
 

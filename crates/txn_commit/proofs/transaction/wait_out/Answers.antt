@@ -1,12 +1,6 @@
-use Rattle.std.proofs.Common.{◌≡◌, ℕ, ◌+◌, ◌<◌, ◌≤◌, [], Some, sym, ap, ◌∙◌, subst, arith}
-use mathlib.Core.Logic.{dite}
-use native.Mathlib.Decide.{ℕ_discrete}
-use Rattle.history_model.specs.declared.view.Phase.TheVariants.{Running, Yielding}
-use Rattle.history_model.specs.declared.view.View.{View}
-use Rattle.history_model.specs.Views.{HasBit, HasClaim}
-use Rattle.stamps_rule.specs.Causes.{newest, past_causes}
-use Rattle.word_table.specs.Desks.{RuleHolds}
-use Rattle.word_table.specs.Waits.{WaitedForCause}
+use Rattle.txn_commit.proofs.Common.{◌≡◌, ℕ, ◌+◌, ◌<◌, ◌≤◌, [], Some, sym, ap, ◌∙◌, subst, arith, dite, ℕ_discrete, Running, Yielding, View, HasClaim}
+use Rattle.txn_commit.proofs.Common.{RuleHolds, WaitedForCause}
+use Rattle.word_table.proofs.Common.{HasBit, newest, past_causes}
 use Rattle.txn_commit.proofs.transaction.wait_out.Goals as goal
 
 -- one more look at the cause, which is there or is gone

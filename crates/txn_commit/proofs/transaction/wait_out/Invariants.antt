@@ -1,6 +1,4 @@
-use Rattle.std.proofs.Common.{◌≡◌, ℕ, ◌≤◌, ◌<◌}
-use Rattle.word_table.specs.Desks.{RuleHolds}
-use Rattle.word_table.specs.Waits.{WaitedForCause}
+use Rattle.txn_commit.proofs.Common.{◌≡◌, ℕ, ◌≤◌, ◌<◌, RuleHolds, WaitedForCause}
 use Rattle.txn_commit.proofs.transaction.wait_out.Given as goal
 
 -- nothing but the number of looks at the cause changes, and at each look the cause was there

@@ -1,4 +1,4 @@
-use Rattle.std.proofs.Common.{ap, ◌/◌, ◌^◌}
+use Rattle.txn_hash_map.proofs.Common.{ap, ◌/◌, ◌^◌}
 use Rattle.txn_hash_map.specs.Chains.{bucket_of}
 use Rattle.txn_hash_map.proofs.find.bucket.Goals as goal
 

@@ -1,12 +1,10 @@
-use Rattle.std.proofs.Common.{◌≡◌, ◌+◌, ◌*◌, ◌-◌, ◌<◌, Some, refl, ap, ◌∙◌, subst, rules, arith}
-use Rattle.std.proofs.lemmas.Result.{IfOk-from_err}
-use Rattle.txn_words.specs.Calls.{GoesOn}
+use Rattle.txn_hash_map.proofs.Common.{◌≡◌, ◌+◌, ◌*◌, ◌<◌, Some, refl, ap, ◌∙◌, subst, rules, arith, IsFoundAt, IsMissing, IsLink, looks_map, goes_call}
+use Rattle.txn_hash_map.proofs.Common.{goes_then, goes_as, laid_block, some_since}
+use Rattle.std.proofs.Common.{◌-◌}
 use Rattle.txn_hash_map.proofs.Passed.{IsPassed}
-use Rattle.txn_hash_map.specs.Searches.{IsFoundAt, IsMissing, IsLink}
 use Rattle.txn_hash_map.proofs.Steps.{bucket_fits, passed_none, passed_end, passed_more, passed_found, passed_all}
-use Rattle.txn_words.proofs.Looks.{looks_none, looks_map, some_from}
-use Rattle.txn_words.proofs.CallLaws.{goes, goes_call, goes_then, goes_as}
-use Rattle.txn_alloc.proofs.FreeLists.Traces.{laid_block}
+use Rattle.txn_words.proofs.Looks.{looks_none}
+use Rattle.txn_words.proofs.CallLaws.{goes}
 use Rattle.txn_hash_map.proofs.Looks.{looks_within, looks_names, looks_name, looks_key}
 use Rattle.txn_hash_map.proofs.find.find.Goals as goal
 
@@ -14,7 +12,7 @@ pub overflow_add-place : goal.overflow_add-place
 overflow_add-place g c =
     let some = g.met.W.Words.fits c.args.w.now c.requires.ready.sound in
     let low = bucket_fits c.args.map.now c.args.key _ (c.requires.order.at some.0 some.1).holds.laid in
-    omega (arith, low, c.bucket.ensures)
+    omega (arith, c.bucket.ensures)
 
 pub loop-init : goal.loop-init
 loop-init g c =
@@ -26,35 +24,35 @@ loop-init g c =
       sound = c.requires.ready.sound;
       looks = looks_none _ _ _ (IsLink m c.args.key) _ (record {
         at = λ s fit. let o = c.requires.order.at s fit in
-            passed_none m c.args.key _ o.entries o.used (m.buckets + c.bucket.result) (ap (λ b. m.buckets + b) c.bucket.ensures) o.holds;
+            passed_none m c.args.key _ (m.buckets + c.bucket.result) (ap (λ b. m.buckets + b) c.bucket.ensures) o.holds;
       });
     }
 
 pub read-requires-clause-within : goal.read-requires-clause-within
 read-requires-clause-within g c =
     let i = c.loop.invariant in
-    let some = some_from g.W.Words g.W.Shape.Shape c.args.w.now c.loop.w i.shape (g.met.W.Words.fits c.loop.w i.sound) in
+    let some = some_since g.W.Words g.W.Shape.Shape i.shape (g.met.W.Words.fits c.loop.w i.sound) in
     let within : c.loop.place < g.W.Shape.Shape.word_count (g.W.Words.shape c.args.w.now) =
-    looks_within _ _ _ (IsLink c.args.map.now c.args.key) c.args.map.now c.args.key _ c.loop.place c.loop.counter i.looks some in
-    omega (arith, within, ap g.W.Shape.Shape.word_count i.shape)
+    looks_within c.args.map.now c.args.key i.looks some in
+    omega (arith, ap g.W.Shape.Shape.word_count i.shape)
 
 pub prove-unreachable-requires : goal.prove-unreachable-requires
 prove-unreachable-requires g c =
     let m = c.args.map.now in
     let i = c.loop.invariant in
-    let some = some_from g.W.Words g.W.Shape.Shape c.args.w.now c.read.new.self (c.in_ok-name.ensures.shape ∙ i.shape)
+    let some = some_since g.W.Words g.W.Shape.Shape (c.in_ok-name.ensures.shape ∙ i.shape)
     (g.met.W.Words.fits c.read.new.self c.in_ok-name.ensures.sound) in
     let one_more : c.in_ok-name.name ≡ (c.in_ok-name.name - 1) + 1 = omega (arith, c.if-name-eq0.false) in
     let lt : c.in_ok-name.name - 1 < m.arena.blocks =
-    looks_names _ _ _ (IsLink m c.args.key) m c.args.key _ c.loop.place c.loop.counter c.in_ok-name.name (c.in_ok-name.name - 1)
-    (looks_name m c.args.key _ _ _ _ _ c.loop.place c.loop.counter c.in_ok-name.name i.looks c.in_ok-name.ensures.value) one_more some in
-    omega (arith, lt)
+    looks_names m c.args.key c.loop.place c.loop.counter c.in_ok-name.name (c.in_ok-name.name - 1)
+    (looks_name _ c.in_ok-name.name i.looks c.in_ok-name.ensures.value) one_more some in
+    omega arith
 
 pub read-requires-in-loop-clause-within : goal.read-requires-in-loop-clause-within
 read-requires-in-loop-clause-within g c =
     let m = c.args.map.now in
     let i = c.loop.invariant in
-    let some = some_from g.W.Words g.W.Shape.Shape c.args.w.now c.loop.w i.shape (g.met.W.Words.fits c.loop.w i.sound) in
+    let some = some_since g.W.Words g.W.Shape.Shape i.shape (g.met.W.Words.fits c.loop.w i.sound) in
     let b = c.in_ok-name.name - 1 in
     let lt : b < m.arena.blocks = omega arith in
     let in_list = laid_block m.arena _ _ _ some b (record { at = λ s fit. (i.looks.holds s fit).laid.arena }) lt in
@@ -68,8 +66,8 @@ returns-then-name-eq0 g c =
       found = tt;
       missing =
           looks_map _ _ _ (IsLink m c.args.key) _ _ (IsMissing m c.args.key)
-          (λ s h. passed_end m c.args.key s c.loop.place c.loop.counter h.0 (h.1 ∙ ap (λ k. Some k) c.if-name-eq0.true))
-          (looks_name m c.args.key _ _ _ _ _ c.loop.place c.loop.counter c.in_ok-name.name i.looks c.in_ok-name.ensures.value);
+          (λ s h. passed_end m c.args.key s h.0 (h.1 ∙ ap Some c.if-name-eq0.true))
+          (looks_name _ c.in_ok-name.name i.looks c.in_ok-name.ensures.value);
       block = tt;
       goes_on = goes_as (goes_then (goes i.shape i.origin i.looks.begins i.stop i.sound) (goes_call c.in_ok-name.ensures)) (search rules);
     }
@@ -85,8 +83,8 @@ returns-then-there-key g c =
     record {
       found =
           looks_map _ _ _ (IsLink m c.args.key) _ _ (IsFoundAt m c.args.key c.loop.place b)
-          (λ s h. passed_found m c.args.key s c.loop.place c.loop.counter b h.0 h.1 (h.2 ∙ ap (λ k. Some k) c.if-there-key.true))
-          (looks_key m c.args.key _ _ _ _ _ _ c.loop.place c.loop.counter c.in_ok-name.name b _ c.in_ok-there.there
+          (λ s h. passed_found m c.args.key s b h.0 h.1 (h.2 ∙ ap Some c.if-there-key.true))
+          (looks_key _ _ c.in_ok-name.name b _ c.in_ok-there.there
           i.looks c.in_ok-name.ensures.value c.in_ok-there.ensures.value
           one_more is_block);
       missing = tt;
@@ -111,8 +109,8 @@ loop-preserved g c =
       sound = c.in_ok-there.ensures.sound;
       looks = looks_map _ _ _ (IsLink m c.args.key) _ _ _
           (λ s h. subst (λ q. IsPassed m c.args.key q (c.loop.counter + 1) s) is_next
-          (passed_more m c.args.key s c.loop.place c.loop.counter b c.in_ok-there.there h.0 h.1 h.2 c.if-there-key.false))
-          (looks_key m c.args.key _ _ _ _ _ _ c.loop.place c.loop.counter c.in_ok-name.name b _ c.in_ok-there.there
+          (passed_more m c.args.key s b c.in_ok-there.there h.0 h.1 h.2 c.if-there-key.false))
+          (looks_key _ _ c.in_ok-name.name b _ c.in_ok-there.there
           i.looks c.in_ok-name.ensures.value c.in_ok-there.ensures.value
           one_more is_block);
     }
@@ -125,24 +123,18 @@ returns g c =
       found = tt;
       missing =
           looks_map _ _ _ (IsLink m c.args.key) _ _ (IsMissing m c.args.key)
-          (λ s h. passed_all m c.args.key s c.loop.place c.loop.counter (omega (arith, c.loop-test.false)) h) i.looks;
+          (λ s h. passed_all m c.args.key s (omega (arith, c.loop-test.false)) h) i.looks;
       block = tt;
       goes_on = goes_as (goes i.shape i.origin i.looks.begins i.stop i.sound) i.stop;
     }
 
-pub returns-in_err-name : goal.returns-in_err-name
-returns-in_err-name g c =
+pub returns-in_err-name-clause-goes_on : goal.returns-in_err-name-clause-goes_on
+returns-in_err-name-clause-goes_on g c =
     let i = c.loop.invariant in
-    let failed = c.from_residual.ensures.0 in
-    let on : GoesOn g.W.Words c.args.w.now c.read.new.self c.from_residual.result =
-    goes_as (goes_then (goes i.shape i.origin i.looks.begins i.stop i.sound) (goes_call c.in_err-name.ensures)) (search rules) in
-    search IfOk-from_err
+    goes_as (goes_then (goes i.shape i.origin i.looks.begins i.stop i.sound) (goes_call c.in_err-name.ensures)) (search rules)
 
-pub returns-in_err-there : goal.returns-in_err-there
-returns-in_err-there g c =
+pub returns-in_err-there-clause-goes_on : goal.returns-in_err-there-clause-goes_on
+returns-in_err-there-clause-goes_on g c =
     let i = c.loop.invariant in
-    let failed = c.from_residual-in_err-there.ensures.0 in
-    let on : GoesOn g.W.Words c.args.w.now c.read-in-loop.new.self c.from_residual-in_err-there.result =
     goes_as (goes_then (goes_then (goes i.shape i.origin i.looks.begins i.stop i.sound)
-    (goes_call c.in_ok-name.ensures)) (goes_call c.in_err-there.ensures)) (search rules) in
-    search IfOk-from_err
+    (goes_call c.in_ok-name.ensures)) (goes_call c.in_err-there.ensures)) (search rules)

@@ -1,7 +1,5 @@
-use Rattle.std.proofs.Common.{◌≡◌, None}
-use Rattle.txn_words.specs.Looks.{Looks}
+use Rattle.txn_hash_map.proofs.Common.{◌≡◌, None, Looks, IsLink}
 use Rattle.txn_hash_map.proofs.Passed.{IsPassed}
-use Rattle.txn_hash_map.specs.Searches.{IsLink}
 use Rattle.txn_hash_map.proofs.find.find.Given as goal
 
 abbrev pub invariant-loop : goal.invariant-loop

@@ -1,44 +1,40 @@
-use Rattle.std.proofs.Common.{◌≡◌, ◌+◌, ◌*◌, arith, ap, ◌∙◌, rules}
-use Rattle.std.proofs.lemmas.Result.{IfOk-from_err}
-use Rattle.txn_words.proofs.CallLaws.{each_plain, goes_call, goes_then, goes_as}
-use Rattle.txn_words.specs.Calls.{GoesOn}
-use Rattle.txn_hash_map.specs.Chains.{bucket_of}
+use Rattle.txn_hash_map.proofs.Common.{◌≡◌, ◌+◌, ◌*◌, arith, ap, ◌∙◌, rules, goes_call, goes_then, goes_as, bucket_of, each_now}
 use Rattle.txn_hash_map.proofs.Fronts.{room, puts_front, front_only, front_reads}
 use Rattle.txn_hash_map.proofs.front.put_in_front.Goals as goal
 
 pub overflow_add-place : goal.overflow_add-place
 overflow_add-place g c =
-    let r = room c.args.map.now c.args.key c.args.block _ _ _ (each_plain g.W.Words g.W.Shape.Shape _ _ c.requires.laid)
+    let r = room c.args.key c.args.block (each_now c.requires.laid)
     (g.met.W.Words.fits c.args.w.now c.requires.ready.sound) c.requires.block in
     omega (arith, r.bucket, r.small, c.bucket.ensures)
 
 pub read-requires-clause-within : goal.read-requires-clause-within
 read-requires-clause-within g c =
-    let r = room c.args.map.now c.args.key c.args.block _ _ _ (each_plain g.W.Words g.W.Shape.Shape _ _ c.requires.laid)
+    let r = room c.args.key c.args.block (each_now c.requires.laid)
     (g.met.W.Words.fits c.args.w.now c.requires.ready.sound) c.requires.block in
     omega (arith, r.bucket, c.bucket.ensures)
 
 pub write-requires-clause-within : goal.write-requires-clause-within
 write-requires-clause-within g c =
-    let r = room c.args.map.now c.args.key c.args.block _ _ _ (each_plain g.W.Words g.W.Shape.Shape _ _ c.requires.laid)
+    let r = room c.args.key c.args.block (each_now c.requires.laid)
     (g.met.W.Words.fits c.args.w.now c.requires.ready.sound) c.requires.block in
     omega (arith, r.block, ap g.W.Shape.Shape.word_count c.in_ok-next.ensures.shape)
 
 pub write-requires-2-clause-within : goal.write-requires-2-clause-within
 write-requires-2-clause-within g c =
-    let r = room c.args.map.now c.args.key c.args.block _ _ _ (each_plain g.W.Words g.W.Shape.Shape _ _ c.requires.laid)
+    let r = room c.args.key c.args.block (each_now c.requires.laid)
     (g.met.W.Words.fits c.args.w.now c.requires.ready.sound) c.requires.block in
     omega (arith, r.block, ap g.W.Shape.Shape.word_count (c.in_ok-write.ensures.shape ∙ c.in_ok-next.ensures.shape))
 
 pub write-requires-3-clause-within : goal.write-requires-3-clause-within
 write-requires-3-clause-within g c =
-    let r = room c.args.map.now c.args.key c.args.block _ _ _ (each_plain g.W.Words g.W.Shape.Shape _ _ c.requires.laid)
+    let r = room c.args.key c.args.block (each_now c.requires.laid)
     (g.met.W.Words.fits c.args.w.now c.requires.ready.sound) c.requires.block in
     omega (arith, r.block, ap g.W.Shape.Shape.word_count (c.in_ok-write-2.ensures.shape ∙ c.in_ok-write.ensures.shape ∙ c.in_ok-next.ensures.shape))
 
 pub write-requires-4-clause-within : goal.write-requires-4-clause-within
 write-requires-4-clause-within g c =
-    let r = room c.args.map.now c.args.key c.args.block _ _ _ (each_plain g.W.Words g.W.Shape.Shape _ _ c.requires.laid)
+    let r = room c.args.key c.args.block (each_now c.requires.laid)
     (g.met.W.Words.fits c.args.w.now c.requires.ready.sound) c.requires.block in
     omega (
       arith,
@@ -57,7 +53,7 @@ returns-clause-put g c =
     record {
       at = (puts_front m c.args.key c.args.value c.args.block _ _ _ _ _ _ _ _ _ _ c.in_ok-next.next _ is_bucket is_block is_name
           c.in_ok-next.ensures.value c.in_ok-write.ensures.value c.in_ok-write-2.ensures.value c.in_ok-write-3.ensures.value c.in_ok-write-4.ensures.value
-          (each_plain g.W.Words g.W.Shape.Shape _ _ c.requires.laid) c.requires.block).at;
+          (each_now c.requires.laid) c.requires.block).at;
     }
 
 pub returns-clause-frame : goal.returns-clause-frame
@@ -80,40 +76,22 @@ returns-clause-reads g c =
     front_reads m c.args.key c.args.value c.args.block 0 (λ s. ⊥) _ _ _ _ _ _ _ _ c.in_ok-next.next _ is_bucket is_block is_name
     c.in_ok-next.ensures.value c.in_ok-write.ensures.value c.in_ok-write-2.ensures.value c.in_ok-write-3.ensures.value c.in_ok-write-4.ensures.value
 
-pub returns-in_err-next : goal.returns-in_err-next
-returns-in_err-next g c =
-    let failed = c.from_residual.ensures.0 in
-    let on : GoesOn g.W.Words c.args.w.now c.read.new.self c.from_residual.result = goes_as (goes_call c.in_err-next.ensures) (search rules) in
-    search IfOk-from_err
+pub returns-in_err-next-clause-goes_on : goal.returns-in_err-next-clause-goes_on
+returns-in_err-next-clause-goes_on g c = goes_as (goes_call c.in_err-next.ensures) (search rules)
 
-pub returns-in_err-write : goal.returns-in_err-write
-returns-in_err-write g c =
-    let failed = c.from_residual-in_err-write.ensures.0 in
-    let on : GoesOn g.W.Words c.args.w.now c.write.new.self c.from_residual-in_err-write.result =
-    goes_as (goes_then (goes_call c.in_ok-next.ensures) (goes_call c.in_err-write.ensures)) (search rules) in
-    search IfOk-from_err
+pub returns-in_err-write-clause-goes_on : goal.returns-in_err-write-clause-goes_on
+returns-in_err-write-clause-goes_on g c = goes_as (goes_then (goes_call c.in_ok-next.ensures) (goes_call c.in_err-write.ensures)) (search rules)
 
-pub returns-in_err-write-2 : goal.returns-in_err-write-2
-returns-in_err-write-2 g c =
-    let failed = c.from_residual-in_err-write-2.ensures.0 in
-    let on : GoesOn g.W.Words c.args.w.now c.write-2.new.self c.from_residual-in_err-write-2.result =
-    goes_as (goes_then (goes_then (goes_call c.in_ok-next.ensures) (goes_call c.in_ok-write.ensures))
-    (goes_call c.in_err-write-2.ensures)) (search rules) in
-    search IfOk-from_err
+pub returns-in_err-write-2-clause-goes_on : goal.returns-in_err-write-2-clause-goes_on
+returns-in_err-write-2-clause-goes_on g c = goes_as (goes_then (goes_then (goes_call c.in_ok-next.ensures) (goes_call c.in_ok-write.ensures))
+    (goes_call c.in_err-write-2.ensures)) (search rules)
 
-pub returns-in_err-write-3 : goal.returns-in_err-write-3
-returns-in_err-write-3 g c =
-    let failed = c.from_residual-in_err-write-3.ensures.0 in
-    let on : GoesOn g.W.Words c.args.w.now c.write-3.new.self c.from_residual-in_err-write-3.result =
+pub returns-in_err-write-3-clause-goes_on : goal.returns-in_err-write-3-clause-goes_on
+returns-in_err-write-3-clause-goes_on g c =
     goes_as (goes_then (goes_then (goes_then (goes_call c.in_ok-next.ensures) (goes_call c.in_ok-write.ensures))
-    (goes_call c.in_ok-write-2.ensures)) (goes_call c.in_err-write-3.ensures)) (search rules) in
-    search IfOk-from_err
+    (goes_call c.in_ok-write-2.ensures)) (goes_call c.in_err-write-3.ensures)) (search rules)
 
-pub returns-in_err-write-4 : goal.returns-in_err-write-4
-returns-in_err-write-4 g c =
-    let failed = c.from_residual-in_err-write-4.ensures.0 in
-    let on : GoesOn g.W.Words c.args.w.now c.write-4.new.self c.from_residual-in_err-write-4.result =
-    goes_as (goes_then (goes_then (goes_then
+pub returns-in_err-write-4-clause-goes_on : goal.returns-in_err-write-4-clause-goes_on
+returns-in_err-write-4-clause-goes_on g c = goes_as (goes_then (goes_then (goes_then
     (goes_then (goes_call c.in_ok-next.ensures) (goes_call c.in_ok-write.ensures))
-    (goes_call c.in_ok-write-2.ensures)) (goes_call c.in_ok-write-3.ensures)) (goes_call c.in_err-write-4.ensures)) (search rules) in
-    search IfOk-from_err
+    (goes_call c.in_ok-write-2.ensures)) (goes_call c.in_ok-write-3.ensures)) (goes_call c.in_err-write-4.ensures)) (search rules)

@@ -1,6 +1,4 @@
-use Rattle.std.proofs.Common.{ℕ, ◌+◌, ◌-◌, refl, ◌∙◌, arith}
-use Rattle.record_text.specs.Output.{printed_of}
-use Rattle.txn_stores.proofs.Turning.{unlooked, look_then, looked_less, looked_stands, tells}
+use Rattle.txn_records.proofs.Common.{ℕ, ◌+◌, ◌-◌, refl, ◌∙◌, arith, printed_of, unlooked, look_then, looked_less, looked_stands, tells}
 use Rattle.txn_records.proofs.Keys.{entries_rise, entries_fit}
 use Rattle.txn_records.proofs.Listed.{records_course, records_first, lists_none, lists_all, lists_one, lists_last}
 use Rattle.txn_records.proofs.closing.all_records.Goals as goal

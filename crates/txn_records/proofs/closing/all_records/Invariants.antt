@@ -1,7 +1,4 @@
-use Rattle.std.proofs.Common.{◌≡◌, ◌-◌, None}
-use Rattle.record_text.specs.Output.{printed_of}
-use Rattle.txn_stores.proofs.Turning.{Leads, Saw}
-use Rattle.txn_records.specs.Standing.{Stands}
+use Rattle.txn_records.proofs.Common.{◌≡◌, ◌-◌, None, printed_of, Leads, Saw, Stands}
 use Rattle.txn_records.proofs.Listed.{IsListed, records_course}
 use Rattle.txn_records.proofs.closing.all_records.Given as goal
 

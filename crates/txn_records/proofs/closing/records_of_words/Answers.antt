@@ -1,9 +1,7 @@
-use Rattle.std.proofs.Common.{ap, ◌∙◌}
+use Rattle.txn_records.proofs.Common.{ap, ◌∙◌, RecordShape, Stands}
 use Rattle.txn_words.specs.Plainly.{PlainView}
 use Rattle.txn_stores.proofs.Scripted.{fresh_stands}
 use Rattle.txn_stores.proofs.Turning.{leads_from_words}
-use Rattle.txn_records.specs.declared.shape.RecordShape.{RecordShape}
-use Rattle.txn_records.specs.Standing.{Stands}
 use Rattle.txn_records.proofs.closing.records_of_words.Goals as goal
 
 pub all_records-requires-clause-stands : goal.all_records-requires-clause-stands

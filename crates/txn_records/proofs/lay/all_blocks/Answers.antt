@@ -1,4 +1,5 @@
-use Rattle.std.proofs.Common.{◌≡◌, ℕ, ◌-◌, Ok, refl, arith}
+use Rattle.txn_records.proofs.Common.{◌≡◌, ℕ, ◌-◌, refl, arith}
+use Rattle.std.proofs.Common.{Ok}
 use Rattle.std.proofs.lemmas.Iterator.{items_from_collect, YieldsList-from_range}
 use Rattle.txn_records.proofs.lay.all_blocks.Goals as goal
 

@@ -1,12 +1,10 @@
-use Rattle.std.proofs.Common.{◌≡◌, replicate, ap, ◌∙◌}
-use Rattle.std.specs.FinMap as finite
+use Rattle.txn_records.proofs.Common.{◌≡◌, replicate, ap, ◌∙◌, words_of, Stands}
 use Rattle.txn_stores.proofs.Emptied.{whole_count, whole_stands}
 use Rattle.txn_stores.proofs.Ranges.{all_below, all_once}
-use Rattle.txn_records.specs.Layout.{words_of}
-use Rattle.txn_records.specs.Standing.{Stands}
 use Rattle.txn_records.proofs.Emptied.{empty_stands}
-use Rattle.txn_records.proofs.lay.empty_words.Goals as goal
 use Rattle.txn_records.proofs.lay.empty_words.Goals.{After-lay_free}
+use Rattle.std.specs.FinMap as finite
+use Rattle.txn_records.proofs.lay.empty_words.Goals as goal
 
 pub lay_free-requires-clause-below : goal.lay_free-requires-clause-below
 lay_free-requires-clause-below c = rw (c.deref.ensures.value, c.in_ok-order.ensures, c.arena.ensures) (all_below c.args.shape.now.blocks)

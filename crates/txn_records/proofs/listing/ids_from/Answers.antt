@@ -1,6 +1,4 @@
-use Rattle.std.proofs.Common.{◌+◌, ◌-◌, refl, ◌∙◌, arith}
-use Rattle.record_text.specs.Records.{ids_from}
-use Rattle.txn_stores.proofs.Turning.{unlooked, look_then, looked_less, looked_stands, tells}
+use Rattle.txn_records.proofs.Common.{◌+◌, ◌-◌, refl, ◌∙◌, arith, ids_from, unlooked, look_then, looked_less, looked_stands, tells}
 use Rattle.txn_records.proofs.Keys.{keys_rise, keys_fit}
 use Rattle.txn_records.proofs.Listed.{ids_course, ids_first, lists_none, lists_all, lists_one, lists_last}
 use Rattle.txn_records.proofs.listing.ids_from.Goals as goal

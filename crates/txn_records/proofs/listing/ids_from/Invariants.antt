@@ -1,7 +1,4 @@
-use Rattle.std.proofs.Common.{◌≡◌, ◌-◌, None}
-use Rattle.record_text.specs.Records.{ids_from}
-use Rattle.txn_stores.proofs.Turning.{Leads, Saw}
-use Rattle.txn_records.specs.Standing.{Stands}
+use Rattle.txn_records.proofs.Common.{◌≡◌, ◌-◌, None, ids_from, Leads, Saw, Stands}
 use Rattle.txn_records.proofs.Listed.{IsListed, ids_course}
 use Rattle.txn_records.proofs.listing.ids_from.Given as goal
 

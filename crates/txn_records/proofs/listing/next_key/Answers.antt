@@ -1,5 +1,4 @@
-use Rattle.std.proofs.lemmas.Result.{IfOk-weaker}
-use Rattle.txn_stores.proofs.Turning.{leads_less, looked, looked_stands}
+use Rattle.txn_records.proofs.Common.{IfOk-weaker, leads_less, looked, looked_stands}
 use Rattle.txn_records.proofs.Calls.{good_trees, tells_key}
 use Rattle.txn_records.proofs.listing.next_key.Goals as goal
 

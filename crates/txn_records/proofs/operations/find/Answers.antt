@@ -1,4 +1,4 @@
-use Rattle.txn_stores.proofs.Turning.{leads_less}
+use Rattle.txn_records.proofs.Common.{leads_less}
 use Rattle.txn_records.proofs.Scripted.{found_steps, lacks_steps}
 use Rattle.txn_records.proofs.operations.find.Goals as goal
 

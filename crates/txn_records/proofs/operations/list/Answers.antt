@@ -1,4 +1,4 @@
-use Rattle.txn_stores.proofs.Turning.{leads_less}
+use Rattle.txn_records.proofs.Common.{leads_less}
 use Rattle.txn_records.proofs.Scripted.{list_steps}
 use Rattle.txn_records.proofs.operations.list.Goals as goal
 

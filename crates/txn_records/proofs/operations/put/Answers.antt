@@ -1,4 +1,4 @@
-use Rattle.txn_stores.proofs.Turning.{leads_less}
+use Rattle.txn_records.proofs.Common.{leads_less}
 use Rattle.txn_records.proofs.Scripted.{new_steps, old_steps}
 use Rattle.txn_records.proofs.operations.put.Goals as goal
 

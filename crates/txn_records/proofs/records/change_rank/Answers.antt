@@ -1,5 +1,4 @@
-use Rattle.txn_words.proofs.CallLaws.{goes_then}
-use Rattle.txn_stores.proofs.Turning.{leads_when, turned, turn_then}
+use Rattle.txn_records.proofs.Common.{goes_then, leads_when, turned, turn_then}
 use Rattle.txn_records.proofs.Calls.{good_trees, put_stands}
 use Rattle.txn_records.proofs.Puts.{moved}
 use Rattle.txn_records.proofs.records.change_rank.Goals as goal

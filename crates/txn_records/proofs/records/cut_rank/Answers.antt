@@ -1,5 +1,4 @@
-use Rattle.std.proofs.lemmas.Result.{IfOk-weaker}
-use Rattle.txn_stores.proofs.Turning.{leads_some}
+use Rattle.txn_records.proofs.Common.{IfOk-weaker, leads_some}
 use Rattle.txn_records.proofs.Calls.{good_trees, cut_range}
 use Rattle.txn_records.proofs.records.cut_rank.Goals as goal
 

@@ -1,6 +1,4 @@
-use Rattle.std.proofs.Common.{arith}
-use Rattle.std.proofs.lemmas.Result.{IfOk-weaker}
-use Rattle.txn_stores.proofs.Turning.{leads_less, looked, looked_stands}
+use Rattle.txn_records.proofs.Common.{arith, IfOk-weaker, leads_less, looked, looked_stands}
 use Rattle.txn_records.proofs.Calls.{good_trees, tells_data}
 use Rattle.txn_records.proofs.records.data_at.Goals as goal
 

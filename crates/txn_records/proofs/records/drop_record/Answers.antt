@@ -1,8 +1,4 @@
-use Rattle.std.proofs.Common.{arith, rules}
-use Rattle.std.proofs.lemmas.Result.{IfOk-from_err}
-use Rattle.txn_words.specs.Calls.{GoesOn}
-use Rattle.txn_words.proofs.CallLaws.{goes_then, goes_as}
-use Rattle.txn_stores.proofs.Turning.{leads_less, turned, turn_then, turned_stands}
+use Rattle.txn_records.proofs.Common.{arith, rules, goes_then, goes_as, leads_less, turned, turn_then, turned_stands}
 use Rattle.txn_records.proofs.Calls.{not_dropped, is_dropped}
 use Rattle.txn_records.proofs.records.drop_record.Goals as goal
 
@@ -32,15 +28,8 @@ returns g c =
       goes_on = goes_as both (search rules);
     }
 
-pub returns-in_err-rank : goal.returns-in_err-rank
-returns-in_err-rank g c =
-    let failed = c.from_residual.ensures.0 in
-    let on : GoesOn g.W.Words c.args.w.now c.cut_rank.new.w c.from_residual.result = goes_as c.in_err-rank.ensures.goes_on (search rules) in
-    search IfOk-from_err
+pub returns-in_err-rank-clause-goes_on : goal.returns-in_err-rank-clause-goes_on
+returns-in_err-rank-clause-goes_on g c = goes_as c.in_err-rank.ensures.goes_on (search rules)
 
-pub returns-in_err-cut_in : goal.returns-in_err-cut_in
-returns-in_err-cut_in g c =
-    let failed = c.from_residual-in_err-cut_in.ensures.0 in
-    let on : GoesOn g.W.Words c.args.w.now c.cut_in.new.w c.from_residual-in_err-cut_in.result =
-    goes_as (goes_then c.in_ok-rank.ensures.goes_on c.in_err-cut_in.ensures.goes_on) (search rules) in
-    search IfOk-from_err
+pub returns-in_err-cut_in-clause-goes_on : goal.returns-in_err-cut_in-clause-goes_on
+returns-in_err-cut_in-clause-goes_on g c = goes_as (goes_then c.in_ok-rank.ensures.goes_on c.in_err-cut_in.ensures.goes_on) (search rules)

@@ -1,6 +1,4 @@
-use Rattle.std.proofs.lemmas.Result.{IfOk-weaker}
-use Rattle.txn_words.proofs.CallLaws.{goes_then}
-use Rattle.txn_stores.proofs.Turning.{leads_when, turned, turn_then}
+use Rattle.txn_records.proofs.Common.{IfOk-weaker, goes_then, leads_when, turned, turn_then}
 use Rattle.txn_records.proofs.Calls.{good_trees, new_stands}
 use Rattle.txn_records.proofs.Puts.{full_at_once, new_put}
 use Rattle.txn_records.proofs.records.put_new.Goals as goal

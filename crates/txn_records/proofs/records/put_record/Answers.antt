@@ -1,5 +1,5 @@
-use Rattle.std.proofs.lemmas.Result.{IfOk-weaker}
-use Rattle.txn_stores.proofs.Turning.{after_look, looked}
+use Rattle.txn_records.proofs.Common.{IfOk-weaker, looked}
+use Rattle.txn_stores.proofs.Turning.{after_look}
 use Rattle.txn_records.proofs.records.put_record.Goals as goal
 
 pub returns-in_default-clause-put : goal.returns-in_default-clause-put

@@ -1,8 +1,4 @@
-use Rattle.std.proofs.Common.{ℕ, Option, Some, sym, ap, ◌∙◌, rules}
-use Rattle.std.proofs.lemmas.Result.{IfOk-from_err}
-use Rattle.txn_words.specs.Calls.{GoesOn}
-use Rattle.txn_words.proofs.CallLaws.{goes_then, goes_as}
-use Rattle.txn_stores.proofs.Turning.{looked, look_then, tells}
+use Rattle.txn_records.proofs.Common.{ℕ, Option, Some, sym, ap, ◌∙◌, rules, goes_then, goes_as, looked, look_then, tells}
 use Rattle.txn_records.proofs.Held.{no_record, record_is}
 use Rattle.txn_records.proofs.records.record_of.Goals as goal
 
@@ -31,15 +27,8 @@ returns-in_default g c =
       goes_on = goes_as first (search rules);
     }
 
-pub returns-in_err-rank : goal.returns-in_err-rank
-returns-in_err-rank g c =
-    let failed = c.from_residual.ensures.0 in
-    let on : GoesOn g.W.Words c.args.w.now c.rank_at.new.w c.from_residual.result = goes_as c.in_err-rank.ensures.goes_on (search rules) in
-    search IfOk-from_err
+pub returns-in_err-rank-clause-goes_on : goal.returns-in_err-rank-clause-goes_on
+returns-in_err-rank-clause-goes_on g c = goes_as c.in_err-rank.ensures.goes_on (search rules)
 
-pub returns-in_err-data_at : goal.returns-in_err-data_at
-returns-in_err-data_at g c =
-    let failed = c.from_residual-in_err-data_at.ensures.0 in
-    let on : GoesOn g.W.Words c.args.w.now c.data_at.new.w c.from_residual-in_err-data_at.result =
-    goes_as (goes_then c.in_ok-rank.ensures.goes_on c.in_err-data_at.ensures.goes_on) (search rules) in
-    search IfOk-from_err
+pub returns-in_err-data_at-clause-goes_on : goal.returns-in_err-data_at-clause-goes_on
+returns-in_err-data_at-clause-goes_on g c = goes_as (goes_then c.in_ok-rank.ensures.goes_on c.in_err-data_at.ensures.goes_on) (search rules)

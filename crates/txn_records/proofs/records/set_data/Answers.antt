@@ -1,4 +1,4 @@
-use Rattle.txn_stores.proofs.Turning.{leads_when}
+use Rattle.txn_records.proofs.Common.{leads_when}
 use Rattle.txn_records.proofs.Calls.{good_trees, put_stands}
 use Rattle.txn_records.proofs.Puts.{data_set}
 use Rattle.txn_records.proofs.records.set_data.Goals as goal

@@ -1,7 +1,5 @@
-use Rattle.std.proofs.lemmas.Result.{IfOk-weaker}
-use Rattle.txn_tree_map.specs.Trees.{tree_part}
-use Rattle.txn_stores.proofs.Turning.{ok_both, leads_less, leads_cut, turned, turned_stands}
-use Rattle.txn_records.specs.Layout.{tree_of}
+use Rattle.txn_records.proofs.Common.{IfOk-weaker, tree_part, ok_both, leads_less, turned, turned_stands, tree_of}
+use Rattle.txn_stores.proofs.Turning.{leads_cut}
 use Rattle.txn_records.proofs.Sides.{tree_apart, cuts}
 use Rattle.txn_records.proofs.trees.cut_in.Goals as goal
 

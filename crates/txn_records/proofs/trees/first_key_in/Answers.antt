@@ -1,10 +1,4 @@
-use Rattle.std.proofs.lemmas.Result.{IfOk-weaker}
-use Rattle.txn_tree_map.specs.Firsts.{FindsFirstKey}
-use Rattle.txn_words.specs.Access.{Tells}
-use Rattle.txn_stores.proofs.Turning.{leads_less, looked, looked_stands}
-use Rattle.txn_records.specs.Layout.{tree_of}
-use Rattle.txn_records.specs.Standing.{HasTrees, entries_in}
-use Rattle.txn_records.specs.Access.{first_key_in}
+use Rattle.txn_records.proofs.Common.{IfOk-weaker, FindsFirstKey, Tells, leads_less, looked, looked_stands, tree_of, HasTrees, entries_in, first_key_in}
 use Rattle.txn_records.proofs.Sides.{tree_there, tells_first_key}
 use Rattle.txn_records.proofs.trees.first_key_in.Goals as goal
 

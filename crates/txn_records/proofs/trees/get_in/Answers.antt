@@ -1,12 +1,6 @@
-use Rattle.std.proofs.lemmas.Result.{IfOk-weaker}
-use Rattle.std.specs.FinMap as finite
-use Rattle.txn_alloc.specs.EntryMaps.{Finds}
-use Rattle.txn_tree_map.specs.Trees.{tree_part}
-use Rattle.txn_words.specs.Access.{Tells}
-use Rattle.txn_stores.proofs.Turning.{leads_less, looked, looked_stands}
-use Rattle.txn_records.specs.Layout.{tree_of}
-use Rattle.txn_records.specs.Standing.{HasTrees, entries_in}
+use Rattle.txn_records.proofs.Common.{IfOk-weaker, Finds, tree_part, Tells, leads_less, looked, looked_stands, tree_of, HasTrees, entries_in}
 use Rattle.txn_records.proofs.Sides.{tree_there, tells_get}
+use Rattle.std.specs.FinMap as finite
 use Rattle.txn_records.proofs.trees.get_in.Goals as goal
 
 pub get-requires-clause-order : goal.get-requires-clause-order

@@ -1,5 +1,4 @@
-use Rattle.std.proofs.Common.{◌+◌, ◌∷◌, length, List, All, refl, sym, ap, subst, ◌∙◌, arith}
-use Rattle.std.specs.Slice.Iter.{iter_rest}
+use Rattle.txn_stores.proofs.Common.{◌+◌, ◌∷◌, length, List, All, refl, sym, ap, subst, ◌∙◌, arith, iter_rest}
 use Rattle.std.proofs.lemmas.List.{nil_from_length}
 use Rattle.std.proofs.lemmas.List.Elements.{All-drop}
 use Rattle.txn_stores.proofs.Turning.{Leads, Turns, turned_stands}

@@ -1,5 +1,4 @@
-use Rattle.std.proofs.Common.{◌≡◌, ◌+◌, length, All, None}
-use Rattle.std.specs.Slice.Iter.{iter_rest}
+use Rattle.txn_stores.proofs.Common.{◌≡◌, ◌+◌, length, All, None, iter_rest}
 use Rattle.txn_stores.proofs.Scripted.{SoFar}
 use Rattle.txn_stores.proofs.Turning.{Leads, Turns}
 use Rattle.txn_stores.proofs.job.run_script.Given as goal

@@ -1,13 +1,9 @@
-use Rattle.std.proofs.Common.{◌≡◌, List, ℕ, length, ap, ◌∙◌, sym, subst}
-use Rattle.history_model.specs.Fitting.{IsGood}
-use Rattle.history_model.specs.Traces.{after}
-use Rattle.history_model.proofs.Traces.TraceLaws.{length-after}
-use Rattle.books_report.specs.Stores.Interpreter.{outcome_of}
-use Rattle.txn_words.specs.Verdicts.{is_kept, answer_of}
-use Rattle.txn_stores.specs.Standing.{ScriptOn, ScriptMeans}
+use Rattle.txn_stores.proofs.Common.{◌≡◌, List, ℕ, length, ap, ◌∙◌, sym, subst, after, outcome_of, is_kept, answer_of, ScriptOn, ScriptMeans}
+use Rattle.word_table.proofs.Common.{IsGood}
+use Rattle.txn_words.proofs.Common.{length-after}
 use Rattle.txn_stores.proofs.Scripted.{refused_stands}
-use Rattle.txn_stores.proofs.on_plain.run_on_plain.Goals as goal
 use Rattle.txn_stores.proofs.on_plain.run_on_plain.Goals.{In_ok-verdict}
+use Rattle.txn_stores.proofs.on_plain.run_on_plain.Goals as goal
 
 pub run_on_plain-requires-clause-good : goal.run_on_plain-requires-clause-good
 run_on_plain-requires-clause-good g c =

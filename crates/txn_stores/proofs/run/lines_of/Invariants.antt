@@ -1,5 +1,4 @@
-use Rattle.std.proofs.Common.{◌≡◌, map, take}
-use Rattle.txn_stores.specs.Journals.{line_of_done}
+use Rattle.txn_stores.proofs.Common.{◌≡◌, map, take, line_of_done}
 use Rattle.txn_stores.proofs.run.lines_of.Given as goal
 
 -- the items so far have their lines

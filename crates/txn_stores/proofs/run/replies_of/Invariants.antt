@@ -1,5 +1,4 @@
-use Rattle.std.proofs.Common.{◌≡◌, map, take}
-use Rattle.txn_commit.specs.declared.lists.Done.{Done}
+use Rattle.txn_stores.proofs.Common.{◌≡◌, map, take, Done}
 use Rattle.txn_stores.proofs.run.replies_of.Given as goal
 
 -- the replies of the items so far are lent

@@ -1,12 +1,9 @@
-use Rattle.std.proofs.Common.{◌≤◌, ℕ, List, ap, sym, ◌∙◌, subst, arith}
+use Rattle.txn_stores.proofs.Common.{◌≤◌, ℕ, List, ap, sym, ◌∙◌, subst, arith, Done, StoreReply, IsDay}
 use Rattle.word_table.specs.declared.limits.TheConstants.{LAST_CALL}
-use Rattle.txn_commit.specs.declared.lists.Done.{Done}
-use Rattle.books_report.specs.declared.stores.reply.StoreReply.{StoreReply}
-use Rattle.txn_stores.specs.Days.{IsDay}
 use Rattle.txn_stores.proofs.Days.{day_made}
 use Rattle.txn_stores.proofs.Journals.{jobs_counted}
-use Rattle.txn_stores.proofs.run.run_store.Goals as goal
 use Rattle.txn_stores.proofs.run.run_store.Goals.{In_ok-closed}
+use Rattle.txn_stores.proofs.run.run_store.Goals as goal
 
 pub run_in_order-requires-clause-room : goal.run_in_order-requires-clause-room
 run_in_order-requires-clause-room g c κs within =

@@ -1,9 +1,6 @@
-use Rattle.std.proofs.Common.{List, ap, ◌∙◌}
+use Rattle.txn_stores.proofs.Common.{List, ap, ◌∙◌, StoreReply, RanOf, state_left, text_of}
+use Rattle.books_report.proofs.Common.{lent}
 use Rattle.std.proofs.lemmas.Result.{IfOk-weaker}
-use Rattle.books_report.specs.declared.stores.reply.StoreReply.{StoreReply}
-use Rattle.books_report.specs.Lines.{lent}
-use Rattle.books_report.specs.Journals.{RanOf}
-use Rattle.books_report.specs.Stores.Output.{state_left, text_of}
 use Rattle.txn_stores.proofs.Days.{left_printed, output_is, places_fit, scripts_are}
 use Rattle.txn_stores.proofs.run.text_of.Goals as goal
 

@@ -1,7 +1,5 @@
-use Rattle.std.proofs.Common.{◌≡◌, All, length, get_or, sym, ap, subst, arith}
+use Rattle.txn_threads.proofs.Common.{◌≡◌, All, length, get_or, sym, ap, subst, arith, HaveWorkedAt, AreParts, IsReady, HasEnded}
 use Rattle.std.proofs.lemmas.Result.{IfOk-weaker}
-use Rattle.txn_threads.specs.Clients.{HaveWorkedAt}
-use Rattle.txn_threads.specs.Inner.Seats.{AreParts, IsReady, HasEnded}
 use Rattle.txn_threads.proofs.Seating.{all_ready}
 use Rattle.txn_threads.proofs.Ending.{all_worked}
 use Rattle.txn_threads.proofs.Yielded.{written_back}

@@ -1,6 +1,5 @@
-use Rattle.std.proofs.Common.{◌≡◌, false, ap, arith, length}
+use Rattle.txn_threads.proofs.Common.{◌≡◌, false, ap, arith, length, into_iter_items}
 use Rattle.std.proofs.lemmas.List.Elements.{All-push}
-use Rattle.std.specs.Vec.Iter.{into_iter_items}
 use Rattle.txn_threads.proofs.Yielded.{one_given, made_push}
 use Rattle.txn_threads.proofs.run.part_all.Goals as goal
 

@@ -1,5 +1,4 @@
-use Rattle.std.proofs.Common.{◌≡◌, ◌++◌, All, map, length, false}
-use Rattle.std.specs.Vec.Iter.{into_iter_items, into_iter_len}
+use Rattle.txn_threads.proofs.Common.{◌≡◌, ◌++◌, All, map, length, false, into_iter_items, into_iter_len}
 use Rattle.txn_threads.proofs.run.part_all.Given as goal
 
 -- the clients so far found memory, and they and their passes are put together

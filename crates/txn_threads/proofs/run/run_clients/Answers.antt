@@ -1,6 +1,5 @@
-use Rattle.std.proofs.Common.{sym, subst}
-use Rattle.history_model.specs.Fitting.{IsGood}
-use Rattle.word_table.specs.Closing.{IsCoherent, IsLegalInEachOrder}
+use Rattle.txn_threads.proofs.Common.{sym, subst, IsCoherent, IsLegalInEachOrder}
+use Rattle.word_table.proofs.Common.{IsGood}
 use Rattle.txn_threads.proofs.Working.{all_passes, left_good}
 use Rattle.txn_threads.proofs.run.run_clients.Goals as goal
 

@@ -1,5 +1,5 @@
-use Rattle.std.proofs.Common.{◌≡◌, ◌++◌, map, length, reverse}
-use Rattle.std.specs.Vec.Iter.{into_iter_items, into_iter_len}
+use Rattle.txn_threads.proofs.Common.{◌≡◌, ◌++◌, map, length, into_iter_items, into_iter_len}
+use Rattle.std.proofs.Common.{reverse}
 use Rattle.txn_threads.proofs.run.seat_all.Given as goal
 
 -- the clients so far have their passes, and the rest of the passes is turned round

@@ -1,11 +1,7 @@
-use Rattle.std.proofs.Common.{◌≡◌, ◌+◌, nat_lt, refl, ◌∙◌, subst, arith, if◌then◌else◌, rules}
-use Rattle.std.proofs.lemmas.Result.{IfOk-from_err}
-use Rattle.txn_words.specs.Calls.{GoesOn}
-use Rattle.txn_alloc.specs.FreeLists.{block_at}
-use Rattle.txn_words.proofs.Looks.{looks_none, looks_map, looks_grow, looks_each, looks_from}
-use Rattle.txn_words.proofs.CallLaws.{goes, goes_then, goes_as}
+use Rattle.txn_tree_map.proofs.Common.{◌≡◌, ◌+◌, nat_lt, refl, ◌∙◌, subst, arith, if◌then◌else◌, rules, IfOk-from_err, GoesOn, block_at, looks_none, looks_map}
+use Rattle.txn_tree_map.proofs.Common.{looks_grow, looks_each, goes, goes_then, goes_as, HasTop, IsNamed, IsEnd, IsFoundAt, IsMissing, IsLink, IsPlace}
+use Rattle.txn_tree_map.proofs.Common.{IsPlaceOrKey, looks_since}
 use Rattle.txn_tree_map.proofs.Searches.Passed.{IsPassed}
-use Rattle.txn_tree_map.specs.Searches.{HasTop, IsNamed, IsEnd, IsFoundAt, IsMissing, IsLink, IsPlace, IsPlaceOrKey}
 use Rattle.txn_tree_map.proofs.Held.Places.{at_tree}
 use Rattle.txn_tree_map.proofs.Searches.SearchSteps.{passed_tree, passed_top, passed_end, passed_all, passed_found, passed_down}
 use Rattle.txn_tree_map.proofs.Searches.Links.{passed_place, passed_near}
@@ -20,7 +16,7 @@ loop-init g c =
       stop = c.requires.ready.going;
       sound = c.requires.ready.sound;
       looks = looks_none _ _ _ (IsLink m) _ (record {
-        at = λ s fit. let o = c.requires.order.at s fit in passed_tree m c.args.key 0 _ o.holds.tree (at_tree m _ o.entries o.used o.holds) (omega arith);
+        at = λ s fit. let o = c.requires.order.at s fit in passed_tree c.args.key 0 (at_tree m _ o.entries o.used o.holds) (omega arith);
       });
     }
 
@@ -29,7 +25,7 @@ look-requires-clause-top g c =
     let m = c.args.map.now in
     let i = c.loop.invariant in
     looks_each g.W.Words g.W.Shape.Shape _ _ (IsLink m) (HasTop m c.loop.place)
-    (looks_map _ _ _ (IsLink m) _ _ _ (λ s h. passed_top m c.args.key 0 s c.loop.place c.loop.counter h) i.looks) i.shape
+    (looks_map _ _ _ (IsLink m) _ _ _ (λ s h. passed_top c.args.key 0 h) i.looks) i.shape
 
 pub returns-in-None : goal.returns-in-None
 returns-in-None g c =
@@ -40,10 +36,10 @@ returns-in-None g c =
     record {
       found = tt;
       missing =
-          looks_map _ _ _ (IsLink m) _ _ (IsMissing m c.args.key) (λ s h. passed_end m c.args.key 0 s c.loop.place c.loop.counter h.0 h.1)
+          looks_map _ _ _ (IsLink m) _ _ (IsMissing m c.args.key) (λ s h. passed_end c.args.key 0 h.0 h.1)
           (looks_grow _ _ _ (IsLink m) _ _ (IsPlace c.loop.place) _ (IsEnd c.loop.place)
-          (λ s p q. passed_place m c.args.key 0 s c.loop.place c.loop.counter p) i.looks
-          (looks_from g.W.Words g.W.Shape.Shape c.args.w.now c.loop.w _ _ (IsPlace c.loop.place) _ i.shape end));
+          (λ s p q. passed_place p) i.looks
+          (looks_since g.W.Words g.W.Shape.Shape i.shape end));
       block = tt;
       goes_on = goes_as (goes_then (goes i.shape i.origin i.looks.begins i.stop i.sound) on) (search rules);
     }
@@ -58,11 +54,10 @@ returns-then-node-key g c =
     record {
       found =
           looks_map _ _ _ (IsLink m) _ _ (IsFoundAt m c.args.key c.loop.place node.block)
-          (λ s h. passed_found m c.args.key 0 s c.loop.place c.loop.counter node.block node.key h.0 h.1 c.if-node-key.true)
+          (λ s h. passed_found c.args.key 0 node.block node.key h.0 h.1 c.if-node-key.true)
           (looks_grow _ _ _ (IsLink m) _ _ (IsPlaceOrKey m c.loop.place node.block) _
-          (IsNamed m c.loop.place node.block node.key) (λ s p q. passed_near m c.args.key 0 s c.loop.place
-          c.loop.counter p node.block node.key q) i.looks (looks_from g.W.Words g.W.Shape.Shape c.args.w.now
-          c.loop.w _ _ (IsPlaceOrKey m c.loop.place node.block) _ i.shape named));
+          (IsNamed m c.loop.place node.block node.key) (λ s p q. passed_near
+          p node.block node.key q) i.looks (looks_since g.W.Words g.W.Shape.Shape i.shape named));
       missing = tt;
       block = rw c.in-Some.is at c.in_ok-look.ensures.block;
       goes_on = goes_as (goes_then (goes i.shape i.origin i.looks.begins i.stop i.sound) on) (search rules);
@@ -85,11 +80,10 @@ loop-preserved g c =
       sound = goes.sound;
       looks = looks_map _ _ _ (IsLink m) _ _ _
           (λ s h. subst (λ a. IsPassed m c.args.key 0 a (c.loop.counter + 1) s) next
-          (passed_down m c.args.key 0 s c.loop.place c.loop.counter node.block node.key h.0 h.1 c.if-node-key.false (omega arith)))
+          (passed_down c.args.key 0 node.block node.key h.0 h.1 c.if-node-key.false (omega arith)))
           (looks_grow _ _ _ (IsLink m) _ _ (IsPlaceOrKey m c.loop.place node.block) _
-          (IsNamed m c.loop.place node.block node.key) (λ s p q. passed_near m c.args.key 0 s c.loop.place
-          c.loop.counter p node.block node.key q) i.looks (looks_from g.W.Words g.W.Shape.Shape c.args.w.now
-          c.loop.w _ _ (IsPlaceOrKey m c.loop.place node.block) _ i.shape named));
+          (IsNamed m c.loop.place node.block node.key) (λ s p q. passed_near
+          p node.block node.key q) i.looks (looks_since g.W.Words g.W.Shape.Shape i.shape named));
     }
 
 pub returns : goal.returns
@@ -99,7 +93,7 @@ returns g c =
     record {
       found = tt;
       missing = looks_map _ _ _ (IsLink m) _ _ (IsMissing m c.args.key)
-          (λ s h. passed_all m c.args.key 0 s c.loop.place c.loop.counter (omega (arith, c.loop-test.false)) h) i.looks;
+          (λ s h. passed_all c.args.key 0 (omega (arith, c.loop-test.false)) h) i.looks;
       block = tt;
       goes_on = goes_as (goes i.shape i.origin i.looks.begins i.stop i.sound) i.stop;
     }

@@ -1,25 +1,20 @@
-use Rattle.std.proofs.Common.{◌≡◌, ◌+◌, ◌-◌, ◌<◌, Some, inl, inr, sym, ap, ◌∙◌, arith, slice_get, rules}
-use Rattle.std.proofs.lemmas.Result.{IfOk-from_err}
-use Rattle.txn_words.proofs.CallLaws.{each_plain, goes_call, goes_then, goes_as}
-use Rattle.txn_words.specs.Calls.{GoesOn}
-use Rattle.txn_alloc.specs.FreeLists.{block_at}
-use Rattle.txn_words.proofs.Looks.{looks_at, looks_map, looks_read, looks_still, looks_wider, some_from}
-use Rattle.txn_tree_map.specs.Searches.{HasTop, IsPlace, IsPlaceOrKey, IsNamed, IsEnd}
-use Rattle.txn_alloc.proofs.FreeLists.Traces.{laid_block}
+use Rattle.txn_tree_map.proofs.Common.{◌≡◌, ◌+◌, ◌-◌, ◌<◌, Some, inl, inr, sym, ap, ◌∙◌, arith, slice_get, rules, goes_call, goes_then, goes_as, block_at}
+use Rattle.txn_tree_map.proofs.Common.{looks_at, looks_map, looks_read, looks_wider, HasTop, IsPlace, IsPlaceOrKey, IsNamed, IsEnd, laid_block, each_now}
+use Rattle.txn_tree_map.proofs.Common.{some_since}
+use Rattle.txn_words.proofs.Looks.{looks_still}
 use Rattle.txn_tree_map.proofs.Searches.SearchCalls.{top_within, top_below}
 use Rattle.txn_tree_map.proofs.find.look.Goals as goal
 
 pub read-requires-clause-within : goal.read-requires-clause-within
 read-requires-clause-within g c =
-    top_within c.args.map.now _ _ _ (g.met.W.Words.fits c.args.w.now c.requires.ready.sound) c.args.place
-    (each_plain g.W.Words g.W.Shape.Shape _ _ c.requires.top)
+    top_within c.args.map.now (g.met.W.Words.fits c.args.w.now c.requires.ready.sound)
+    (each_now c.requires.top)
 
 pub returns-then-name-eq0 : goal.returns-then-name-eq0
 returns-then-name-eq0 g c = record {
   named = search rules;
   end =
-      let m = c.args.map.now in
-      looks_map _ _ _ (IsPlace c.args.place) _ _ (IsEnd c.args.place) (λ s h. h ∙ ap (λ k. Some k) c.if-name-eq0.true)
+      looks_map _ _ _ (IsPlace c.args.place) _ _ (IsEnd c.args.place) (λ s h. h ∙ ap Some c.if-name-eq0.true)
       (looks_at _ _ _ _ c.args.place c.in_ok-name.name c.in_ok-name.ensures.value);
   block = search rules;
   goes_on = goes_as (goes_call c.in_ok-name.ensures) (search rules);
@@ -29,15 +24,15 @@ pub prove-unreachable-requires : goal.prove-unreachable-requires
 prove-unreachable-requires g c =
     let m = c.args.map.now in
     let name = c.in_ok-name.name in
-    let some = some_from g.W.Words g.W.Shape.Shape c.args.w.now c.read.new.self c.in_ok-name.ensures.shape
+    let some = some_since g.W.Words g.W.Shape.Shape c.in_ok-name.ensures.shape
     (g.met.W.Words.fits c.read.new.self c.in_ok-name.ensures.sound) in
     let seen = looks_still _ _ _ (IsPlace c.args.place) _ (λ s. slice_get s c.args.place ≡ Some name)
-    (HasTop m c.args.place) (each_plain g.W.Words g.W.Shape.Shape _ _ c.requires.top)
+    (HasTop m c.args.place) (each_now c.requires.top)
     (looks_at _ _ _ _ c.args.place name c.in_ok-name.ensures.value) in
     let one_more : name ≡ (name - 1) + 1 = omega (arith, c.if-name-eq0.false) in
     let lt : name - 1 < m.arena.blocks =
-    top_below m _ _ _ some c.args.place (name - 1) (record { at = λ s fit. ((seen.holds s fit).0, (seen.holds s fit).1 ∙ ap (λ k. Some k) one_more) }) in
-    omega (arith, lt)
+    top_below m some c.args.place (name - 1) (record { at = λ s fit. ((seen.holds s fit).0, (seen.holds s fit).1 ∙ ap Some one_more) }) in
+    omega arith
 
 pub read-requires-2-clause-within : goal.read-requires-2-clause-within
 read-requires-2-clause-within g c =
@@ -56,7 +51,7 @@ returns g c = record {
       let lt : b < m.arena.blocks = omega arith in
       let is_block : c.place_of.result ≡ block_at m.arena b = c.place_of.ensures in
       looks_map _ _ _ (IsPlaceOrKey m c.args.place b) _ _ (IsNamed m c.args.place b c.in_ok-key.key)
-      (λ s h. (h.0 ∙ ap (λ k. Some k) one_more, ap (λ a. slice_get s a) (sym is_block) ∙ h.1))
+      (λ s h. (h.0 ∙ ap Some one_more, ap (slice_get s) (sym is_block) ∙ h.1))
       (looks_read _ _ _ (IsPlaceOrKey m c.args.place b) _ _ _ c.in_ok-key.key _
       (looks_wider _ _ _ _ (IsPlace c.args.place) (IsPlaceOrKey m c.args.place b) _ (λ s p a k. inl k)
       (looks_at _ _ _ _ c.args.place c.in_ok-name.name c.in_ok-name.ensures.value)) c.in_ok-key.ensures.value (λ s p. inr is_block));
@@ -65,15 +60,8 @@ returns g c = record {
   goes_on = goes_as (goes_then (goes_call c.in_ok-name.ensures) (goes_call c.in_ok-key.ensures)) (search rules);
 }
 
-pub returns-in_err-name : goal.returns-in_err-name
-returns-in_err-name g c =
-    let failed = c.from_residual.ensures.0 in
-    let on : GoesOn g.W.Words c.args.w.now c.read.new.self c.from_residual.result = goes_as (goes_call c.in_err-name.ensures) (search rules) in
-    search IfOk-from_err
+pub returns-in_err-name-clause-goes_on : goal.returns-in_err-name-clause-goes_on
+returns-in_err-name-clause-goes_on g c = goes_as (goes_call c.in_err-name.ensures) (search rules)
 
-pub returns-in_err-key : goal.returns-in_err-key
-returns-in_err-key g c =
-    let failed = c.from_residual-in_err-key.ensures.0 in
-    let on : GoesOn g.W.Words c.args.w.now c.read-2.new.self c.from_residual-in_err-key.result =
-    goes_as (goes_then (goes_call c.in_ok-name.ensures) (goes_call c.in_err-key.ensures)) (search rules) in
-    search IfOk-from_err
+pub returns-in_err-key-clause-goes_on : goal.returns-in_err-key-clause-goes_on
+returns-in_err-key-clause-goes_on g c = goes_as (goes_then (goes_call c.in_ok-name.ensures) (goes_call c.in_err-key.ensures)) (search rules)

@@ -1,12 +1,7 @@
-use Rattle.std.proofs.Common.{◌≡◌, ◌+◌, nat_le, refl, sym, ◌∙◌, subst, arith, if◌then◌else◌, rules}
-use Rattle.std.proofs.lemmas.Result.{IfOk-from_err}
-use Rattle.txn_words.specs.Calls.{GoesOn}
-use Rattle.txn_alloc.specs.FreeLists.{block_at}
-use Rattle.txn_words.proofs.Looks.{looks_none, looks_map, looks_grow, looks_each, looks_from}
-use Rattle.txn_words.proofs.CallLaws.{goes, goes_then, goes_as}
-use Rattle.txn_tree_map.specs.Searches.{HasTop, IsNamed, IsEnd, IsLink, IsPlace, IsPlaceOrKey}
+use Rattle.txn_tree_map.proofs.Common.{◌≡◌, ◌+◌, nat_le, refl, sym, ◌∙◌, subst, arith, if◌then◌else◌, rules, IfOk-from_err, GoesOn, block_at, looks_none}
+use Rattle.txn_tree_map.proofs.Common.{looks_map, looks_grow, looks_each, goes, goes_then, goes_as, HasTop, IsNamed, IsEnd, IsLink, IsPlace, IsPlaceOrKey}
+use Rattle.txn_tree_map.proofs.Common.{IsFirstFrom, looks_since}
 use Rattle.txn_tree_map.proofs.Summed.{IsNear}
-use Rattle.txn_tree_map.specs.Sums.{IsFirstFrom}
 use Rattle.txn_tree_map.proofs.Held.Places.{at_tree}
 use Rattle.txn_tree_map.proofs.Searches.FirstSteps.{near_none, near_top, near_end, near_all, near_down}
 use Rattle.txn_tree_map.proofs.Searches.Links.{near_place, near_near}
@@ -22,7 +17,7 @@ loop-init g c =
       sound = c.requires.ready.sound;
       looks = looks_none _ _ _ (IsLink m) _ (record {
         at = λ s fit. let o = c.requires.order.at s fit in
-            near_none m c.args.least _ o.holds.tree (at_tree m _ o.entries o.used o.holds);
+            near_none c.args.least (at_tree m _ o.entries o.used o.holds);
       });
     }
 
@@ -31,7 +26,7 @@ look-requires-clause-top g c =
     let m = c.args.map.now in
     let i = c.loop.invariant in
     looks_each g.W.Words g.W.Shape.Shape _ _ (IsLink m) (HasTop m c.loop.place)
-    (looks_map _ _ _ (IsLink m) _ _ _ (λ s h. near_top m c.args.least s c.loop.best c.loop.place c.loop.counter h) i.looks) i.shape
+    (looks_map _ _ _ (IsLink m) _ _ _ (λ s h. near_top c.args.least h) i.looks) i.shape
 
 pub returns-in-None : goal.returns-in-None
 returns-in-None g c =
@@ -42,10 +37,10 @@ returns-in-None g c =
     record {
       nearest =
           looks_map _ _ _ (IsLink m) _ _ (IsFirstFrom m c.args.least c.loop.best)
-          (λ s h. near_end m c.args.least s c.loop.best c.loop.place c.loop.counter h.0 h.1)
+          (λ s h. near_end c.args.least h.0 h.1)
           (looks_grow _ _ _ (IsLink m) _ _ (IsPlace c.loop.place) _ (IsEnd c.loop.place)
-          (λ s p q. near_place m c.args.least s c.loop.best c.loop.place c.loop.counter p) i.looks
-          (looks_from g.W.Words g.W.Shape.Shape c.args.w.now c.loop.w _ _ (IsPlace c.loop.place) _ i.shape end));
+          (λ s p q. near_place p) i.looks
+          (looks_since g.W.Words g.W.Shape.Shape i.shape end));
       goes_on = goes_as (goes_then (goes i.shape i.origin i.looks.begins i.stop i.sound) on) (search rules);
     }
 
@@ -69,11 +64,10 @@ loop-preserved g c =
           (λ s h. subst (λ a. IsNear m least c.better-best.result a (c.loop.counter + 1) s) next
           (subst (λ o. IsNear m least o (block_at m.arena node.block + (if nat_le least node.key then 2 else 3))
           (c.loop.counter + 1) s) (sym c.better-best.ensures)
-          (near_down m least s c.loop.best c.loop.place c.loop.counter node.block node.key h.0 h.1)))
+          (near_down least node.block node.key h.0 h.1)))
           (looks_grow _ _ _ (IsLink m) _ _ (IsPlaceOrKey m c.loop.place node.block) _
-          (IsNamed m c.loop.place node.block node.key) (λ s p q. near_near m least s c.loop.best c.loop.place
-          c.loop.counter p node.block node.key q) i.looks (looks_from g.W.Words g.W.Shape.Shape c.args.w.now
-          c.loop.w _ _ (IsPlaceOrKey m c.loop.place node.block) _ i.shape named));
+          (IsNamed m c.loop.place node.block node.key) (λ s p q. near_near
+          p node.block node.key q) i.looks (looks_since g.W.Words g.W.Shape.Shape i.shape named));
     }
 
 pub returns : goal.returns
@@ -82,7 +76,7 @@ returns g c =
     let i = c.loop.invariant in
     record {
       nearest = looks_map _ _ _ (IsLink m) _ _ (IsFirstFrom m c.args.least c.loop.best)
-          (λ s h. near_all m c.args.least s c.loop.best c.loop.place c.loop.counter (omega (arith, c.loop-test.false)) h) c.loop.invariant.looks;
+          (λ s h. near_all c.args.least (omega (arith, c.loop-test.false)) h) c.loop.invariant.looks;
       goes_on = goes_as (goes i.shape i.origin i.looks.begins i.stop i.sound) i.stop;
     }
 

@@ -1,6 +1,4 @@
-use Rattle.std.proofs.Common.{◌≡◌, None}
-use Rattle.txn_words.specs.Looks.{Looks}
-use Rattle.txn_tree_map.specs.Searches.{IsLink}
+use Rattle.txn_tree_map.proofs.Common.{◌≡◌, None, Looks, IsLink}
 use Rattle.txn_tree_map.proofs.Summed.{IsNear}
 use Rattle.txn_tree_map.proofs.first.first_at.Given as goal
 

@@ -1,21 +1,17 @@
-use Rattle.std.proofs.Common.{◌≡◌, ℕ, ◌⊎◌, inl, inr, refl, ap, arith, rules}
-use Rattle.std.proofs.lemmas.Result.{IfOk-from_err}
-use Rattle.txn_words.specs.Calls.{GoesOn}
-use Rattle.txn_words.proofs.CallLaws.{each_plain, goes_call, goes_then, goes_as}
-use Rattle.txn_words.proofs.FrameLaws.{only_read, only_write, only_then}
-use Rattle.txn_words.proofs.ReadLaws.{sees_read, sees_write, sees_then}
+use Rattle.txn_tree_map.proofs.Common.{◌≡◌, ℕ, ◌⊎◌, inl, inr, refl, ap, arith, rules, goes_call, goes_then, goes_as, only_read, only_write, only_then}
+use Rattle.txn_tree_map.proofs.Common.{sees_read, sees_write, sees_then, each_now}
 use Rattle.txn_tree_map.proofs.Inserts.SplitCalls.{are_within, hangs_leads}
 use Rattle.txn_tree_map.proofs.hang.hang.Goals as goal
 
 pub read-requires-clause-within : goal.read-requires-clause-within
 read-requires-clause-within g c =
-    (are_within _ _ _ c.args.hole c.args.inner (g.met.W.Words.fits c.args.w.now c.requires.ready.sound)
-    (each_plain g.W.Words g.W.Shape.Shape _ _ c.requires.within)).1
+    (are_within _ _ _ (g.met.W.Words.fits c.args.w.now c.requires.ready.sound)
+    (each_now c.requires.within)).1
 
 pub write-requires-clause-within : goal.write-requires-clause-within
 write-requires-clause-within g c =
-    let within = are_within _ _ _ c.args.hole c.args.inner (g.met.W.Words.fits c.args.w.now c.requires.ready.sound)
-    (each_plain g.W.Words g.W.Shape.Shape _ _ c.requires.within) in
+    let within = are_within _ _ _ (g.met.W.Words.fits c.args.w.now c.requires.ready.sound)
+    (each_now c.requires.within) in
     omega (arith, within.0, ap g.W.Shape.Shape.word_count c.in_ok-rest.ensures.shape)
 
 pub returns-clause-hung : goal.returns-clause-hung
@@ -34,15 +30,8 @@ returns-clause-reads g c =
     let seen : ℕ → Type 0 = λ a. (a ≡ c.args.hole) ⊎ (a ≡ c.args.inner) in
     sees_then seen _ _ _ (sees_read seen _ _ _ _ c.in_ok-rest.ensures.value (inr refl)) (sees_write seen _ _ _ _ c.in_ok-write.ensures.value (inl refl))
 
-pub returns-in_err-rest : goal.returns-in_err-rest
-returns-in_err-rest g c =
-    let failed = c.from_residual.ensures.0 in
-    let on : GoesOn g.W.Words c.args.w.now c.read.new.self c.from_residual.result = goes_as (goes_call c.in_err-rest.ensures) (search rules) in
-    search IfOk-from_err
+pub returns-in_err-rest-clause-goes_on : goal.returns-in_err-rest-clause-goes_on
+returns-in_err-rest-clause-goes_on g c = goes_as (goes_call c.in_err-rest.ensures) (search rules)
 
-pub returns-in_err-write : goal.returns-in_err-write
-returns-in_err-write g c =
-    let failed = c.from_residual-in_err-write.ensures.0 in
-    let on : GoesOn g.W.Words c.args.w.now c.write.new.self c.from_residual-in_err-write.result =
-    goes_as (goes_then (goes_call c.in_ok-rest.ensures) (goes_call c.in_err-write.ensures)) (search rules) in
-    search IfOk-from_err
+pub returns-in_err-write-clause-goes_on : goal.returns-in_err-write-clause-goes_on
+returns-in_err-write-clause-goes_on g c = goes_as (goes_then (goes_call c.in_ok-rest.ensures) (goes_call c.in_err-write.ensures)) (search rules)

@@ -1,11 +1,6 @@
-use Rattle.std.proofs.Common.{◌≡◌, ◌+◌, ◌<◌, ap, ◌∙◌, arith, rules}
-use Rattle.std.proofs.lemmas.Result.{IfOk-from_err}
-use Rattle.txn_words.specs.Calls.{GoesOn}
-use Rattle.txn_words.proofs.CallLaws.{each_plain, goes_call, goes_then, goes_as}
-use Rattle.txn_alloc.specs.FreeLists.{block_at}
-use Rattle.txn_words.proofs.Looks.{each_from, leads_from, within_from, reads_from, some_from}
-use Rattle.txn_alloc.proofs.FreeLists.Traces.{laid_block}
-use Rattle.txn_tree_map.proofs.Inserts.PutCalls.{seat_within, can_split, put_leads, put_own, put_seen}
+use Rattle.txn_tree_map.proofs.Common.{◌≡◌, ◌+◌, ◌<◌, ap, ◌∙◌, arith, rules, goes_call, goes_then, goes_as, block_at, laid_block, each_now, each_since}
+use Rattle.txn_tree_map.proofs.Common.{leads_since, some_since, within_since, reads_since}
+use Rattle.txn_tree_map.proofs.Inserts.PutCalls.{seat_within, can_split, put_all}
 use Rattle.txn_tree_map.proofs.insert.put_in.Goals as goal
 
 pub find_seat-requires-clause-missing : goal.find_seat-requires-clause-missing
@@ -30,112 +25,60 @@ write-requires-2-clause-within g c =
 pub split-requires-clause-whole : goal.split-requires-clause-whole
 split-requires-clause-whole g c =
     let m = c.args.map.now in
-    let seat = c.in_ok-seat.seat in
     let is_block : c.place_of-at.result ≡ block_at m.arena c.args.block = omega (arith, c.place_of-at.ensures) in
-    each_from g.W.Words g.W.Shape.Shape c.args.w.now c.write-2.new.self _ (c.in_ok-write-2.ensures.shape
+    each_since c.args.w.now (c.in_ok-write-2.ensures.shape
     ∙ c.in_ok-write.ensures.shape ∙ c.in_ok-seat.ensures.goes_on.shape)
-    (can_split m c.args.key c.args.value c.args.block seat.place seat.name _ _ _ _ c.in_ok-seat.ensures.seat
-    (each_plain g.W.Words g.W.Shape.Shape _ _ c.requires.missing)
+    (can_split c.args.value c.in_ok-seat.ensures.seat
+    (each_now c.requires.missing)
     (c.place_of-at.result) 0 _ _ is_block c.in_ok-write.ensures.value c.in_ok-write-2.ensures.value)
 
 pub write-requires-3-clause-within : goal.write-requires-3-clause-within
 write-requires-3-clause-within g c =
-    let m = c.args.map.now in
-    let seat = c.in_ok-seat.seat in
     let goes = c.in_ok-seat.ensures.goes_on in
-    let some = some_from g.W.Words g.W.Shape.Shape c.args.w.now c.find_seat.new.w goes.shape (g.met.W.Words.fits c.find_seat.new.w goes.sound) in
-    let within = seat_within m c.args.key c.args.value c.args.block seat.place seat.name _ _ _ _
-    c.in_ok-seat.ensures.seat (each_plain g.W.Words g.W.Shape.Shape _ _ c.requires.missing) some in
+    let some = some_since g.W.Words g.W.Shape.Shape goes.shape (g.met.W.Words.fits c.find_seat.new.w goes.sound) in
+    let within = seat_within c.args.value
+    c.in_ok-seat.ensures.seat (each_now c.requires.missing) some in
     omega (
       arith,
-      within,
       ap g.W.Shape.Shape.word_count (c.in_ok-split.ensures.goes_on.shape
           ∙ c.in_ok-write-2.ensures.shape ∙ c.in_ok-write.ensures.shape ∙ goes.shape),
     )
 
-pub returns-clause-put : goal.returns-clause-put
-returns-clause-put g c =
-    let m = c.args.map.now in
-    let seat = c.in_ok-seat.seat in
-    let is_block : c.place_of-at.result ≡ block_at m.arena c.args.block = omega (arith, c.place_of-at.ensures) in
+pub returns : goal.returns
+returns g c =
+    let first = c.in_ok-seat.ensures in
+    let one = c.in_ok-write.ensures in
+    let two = c.in_ok-write-2.ensures in
+    let split = c.in_ok-split.ensures in
+    let three = c.in_ok-write-3.ensures in
+    let is_block : c.place_of-at.result ≡ block_at c.args.map.now.arena c.args.block = omega (arith, c.place_of-at.ensures) in
     let is_name : c.from.result + 1 ≡ c.args.block + 1 = omega (arith, c.from.ensures) in
+    let same = two.shape ∙ one.shape ∙ first.goes_on.shape in
+    let puts = put_all c.args.value first.seat (each_now c.requires.missing) c.place_of-at.result (c.from.result + 1) _ _ is_block one.value two.value _
+    split.goes_on.begins (leads_since same split.split) is_name three.value in
     record {
-      at = (put_leads m c.args.key c.args.value c.args.block seat.place seat.name _ _ _ _ c.in_ok-seat.ensures.seat
-          (each_plain g.W.Words g.W.Shape.Shape _ _ c.requires.missing)
-          (c.place_of-at.result) (c.from.result + 1) _ _ is_block c.in_ok-write.ensures.value
-          c.in_ok-write-2.ensures.value _ _ c.in_ok-split.ensures.goes_on.begins
-          (leads_from g.W.Words g.W.Shape.Shape c.args.w.now c.write-2.new.self c.split.new.w _
-          (c.in_ok-write-2.ensures.shape ∙ c.in_ok-write.ensures.shape ∙ c.in_ok-seat.ensures.goes_on.shape) c.in_ok-split.ensures.split)
-          is_name c.in_ok-write-3.ensures.value).at;
+      put = record { at = puts.0.at };
+      frame = record { at = puts.1 (within_since same split.frame) };
+      reads = record { at = puts.2 (reads_since same split.reads) };
+      goes_on = goes_as (goes_then (goes_then (goes_then (goes_then first.goes_on (goes_call one)) (goes_call two)) split.goes_on) (goes_call three))
+          (search rules);
     }
 
-pub returns-clause-frame : goal.returns-clause-frame
-returns-clause-frame g c =
-    let m = c.args.map.now in
-    let seat = c.in_ok-seat.seat in
-    let is_block : c.place_of-at.result ≡ block_at m.arena c.args.block = omega (arith, c.place_of-at.ensures) in
-    let is_name : c.from.result + 1 ≡ c.args.block + 1 = omega (arith, c.from.ensures) in
-    let same = c.in_ok-write-2.ensures.shape ∙ c.in_ok-write.ensures.shape ∙ c.in_ok-seat.ensures.goes_on.shape in
-    record {
-      at = put_own m c.args.key c.args.value c.args.block seat.place seat.name _ _ _ _ c.in_ok-seat.ensures.seat
-          (each_plain g.W.Words g.W.Shape.Shape _ _ c.requires.missing)
-          (c.place_of-at.result) (c.from.result + 1) _ _ is_block c.in_ok-write.ensures.value
-          c.in_ok-write-2.ensures.value _ _ c.in_ok-split.ensures.goes_on.begins
-          (leads_from g.W.Words g.W.Shape.Shape c.args.w.now c.write-2.new.self c.split.new.w _ same
-          c.in_ok-split.ensures.split) is_name c.in_ok-write-3.ensures.value
-          (within_from g.W.Words g.W.Shape.Shape c.args.w.now c.write-2.new.self c.split.new.w _ same c.in_ok-split.ensures.frame);
-    }
+pub returns-in_err-seat-clause-goes_on : goal.returns-in_err-seat-clause-goes_on
+returns-in_err-seat-clause-goes_on g c = goes_as c.in_err-seat.ensures.goes_on (search rules)
 
-pub returns-clause-reads : goal.returns-clause-reads
-returns-clause-reads g c =
-    let m = c.args.map.now in
-    let seat = c.in_ok-seat.seat in
-    let is_block : c.place_of-at.result ≡ block_at m.arena c.args.block = omega (arith, c.place_of-at.ensures) in
-    let is_name : c.from.result + 1 ≡ c.args.block + 1 = omega (arith, c.from.ensures) in
-    let same = c.in_ok-write-2.ensures.shape ∙ c.in_ok-write.ensures.shape ∙ c.in_ok-seat.ensures.goes_on.shape in
-    record {
-      at = put_seen m c.args.key c.args.value c.args.block seat.place seat.name _ _ _ _ c.in_ok-seat.ensures.seat
-          (each_plain g.W.Words g.W.Shape.Shape _ _ c.requires.missing)
-          (c.place_of-at.result) (c.from.result + 1) _ _ is_block c.in_ok-write.ensures.value
-          c.in_ok-write-2.ensures.value _ _ c.in_ok-split.ensures.goes_on.begins
-          (leads_from g.W.Words g.W.Shape.Shape c.args.w.now c.write-2.new.self c.split.new.w _ same
-          c.in_ok-split.ensures.split) is_name c.in_ok-write-3.ensures.value
-          (reads_from g.W.Words g.W.Shape.Shape c.args.w.now c.write-2.new.self c.split.new.w _ same c.in_ok-split.ensures.reads);
-    }
+pub returns-in_err-write-clause-goes_on : goal.returns-in_err-write-clause-goes_on
+returns-in_err-write-clause-goes_on g c = goes_as (goes_then c.in_ok-seat.ensures.goes_on (goes_call c.in_err-write.ensures)) (search rules)
 
-pub returns-in_err-seat : goal.returns-in_err-seat
-returns-in_err-seat g c =
-    let failed = c.from_residual.ensures.0 in
-    let on : GoesOn g.W.Words c.args.w.now c.find_seat.new.w c.from_residual.result = goes_as c.in_err-seat.ensures.goes_on (search rules) in
-    search IfOk-from_err
+pub returns-in_err-write-2-clause-goes_on : goal.returns-in_err-write-2-clause-goes_on
+returns-in_err-write-2-clause-goes_on g c =
+    goes_as (goes_then (goes_then c.in_ok-seat.ensures.goes_on (goes_call c.in_ok-write.ensures)) (goes_call c.in_err-write-2.ensures)) (search rules)
 
-pub returns-in_err-write : goal.returns-in_err-write
-returns-in_err-write g c =
-    let failed = c.from_residual-in_err-write.ensures.0 in
-    let on : GoesOn g.W.Words c.args.w.now c.write.new.self c.from_residual-in_err-write.result =
-    goes_as (goes_then c.in_ok-seat.ensures.goes_on (goes_call c.in_err-write.ensures)) (search rules) in
-    search IfOk-from_err
+pub returns-in_err-split-clause-goes_on : goal.returns-in_err-split-clause-goes_on
+returns-in_err-split-clause-goes_on g c = goes_as (goes_then (goes_then (goes_then c.in_ok-seat.ensures.goes_on (goes_call c.in_ok-write.ensures))
+    (goes_call c.in_ok-write-2.ensures)) c.in_err-split.ensures.goes_on) (search rules)
 
-pub returns-in_err-write-2 : goal.returns-in_err-write-2
-returns-in_err-write-2 g c =
-    let failed = c.from_residual-in_err-write-2.ensures.0 in
-    let on : GoesOn g.W.Words c.args.w.now c.write-2.new.self c.from_residual-in_err-write-2.result =
-    goes_as (goes_then (goes_then c.in_ok-seat.ensures.goes_on (goes_call c.in_ok-write.ensures)) (goes_call c.in_err-write-2.ensures)) (search rules) in
-    search IfOk-from_err
-
-pub returns-in_err-split : goal.returns-in_err-split
-returns-in_err-split g c =
-    let failed = c.from_residual-in_err-split.ensures.0 in
-    let on : GoesOn g.W.Words c.args.w.now c.split.new.w c.from_residual-in_err-split.result =
-    goes_as (goes_then (goes_then (goes_then c.in_ok-seat.ensures.goes_on (goes_call c.in_ok-write.ensures))
-    (goes_call c.in_ok-write-2.ensures)) c.in_err-split.ensures.goes_on) (search rules) in
-    search IfOk-from_err
-
-pub returns-in_err-write-3 : goal.returns-in_err-write-3
-returns-in_err-write-3 g c =
-    let failed = c.from_residual-in_err-write-3.ensures.0 in
-    let on : GoesOn g.W.Words c.args.w.now c.write-3.new.self c.from_residual-in_err-write-3.result =
-    goes_as (goes_then (goes_then (goes_then
+pub returns-in_err-write-3-clause-goes_on : goal.returns-in_err-write-3-clause-goes_on
+returns-in_err-write-3-clause-goes_on g c = goes_as (goes_then (goes_then (goes_then
     (goes_then c.in_ok-seat.ensures.goes_on (goes_call c.in_ok-write.ensures)) (goes_call c.in_ok-write-2.ensures))
-    c.in_ok-split.ensures.goes_on) (goes_call c.in_err-write-3.ensures)) (search rules) in
-    search IfOk-from_err
+    c.in_ok-split.ensures.goes_on) (goes_call c.in_err-write-3.ensures)) (search rules)

@@ -1,11 +1,6 @@
-use Rattle.std.proofs.Common.{◌≡◌, ap, ◌∙◌, arith, rules}
-use Rattle.std.proofs.lemmas.Result.{IfOk-from_err}
-use Rattle.txn_words.specs.Calls.{GoesOn}
-use Rattle.txn_words.proofs.CallLaws.{each_plain, goes_call, goes_then, goes_as}
-use Rattle.txn_alloc.specs.FreeLists.{block_at}
-use Rattle.txn_words.proofs.Looks.{each_from, leads_from, within_from, reads_from}
-use Rattle.txn_alloc.proofs.FreeLists.Traces.{laid_block}
-use Rattle.txn_tree_map.proofs.Removals.RemoveCalls.{can_join, cuts_leads, cuts_own, cuts_seen}
+use Rattle.txn_tree_map.proofs.Common.{◌≡◌, ap, ◌∙◌, arith, rules, goes_call, goes_then, goes_as, block_at, laid_block, each_now, each_since, leads_since}
+use Rattle.txn_tree_map.proofs.Common.{within_since, reads_since}
+use Rattle.txn_tree_map.proofs.Removals.RemoveCalls.{can_join, cuts_all}
 use Rattle.txn_tree_map.proofs.remove.cut.Goals as goal
 
 pub read-requires-clause-within : goal.read-requires-clause-within
@@ -32,74 +27,41 @@ join-requires-clause-pair g c =
     let f = c.args.found in
     let a = c.place_of-at.result in
     let is_block : a ≡ block_at m.arena f.block = omega (arith, c.place_of-at.ensures) in
-    each_from g.W.Words g.W.Shape.Shape c.args.w.now c.read-3.new.self _ (c.in_ok-right.ensures.shape
+    each_since c.args.w.now (c.in_ok-right.ensures.shape
     ∙ c.in_ok-left.ensures.shape ∙ c.in_ok-value.ensures.shape)
     (can_join m f.place f.block a c.in_ok-value.value c.in_ok-left.left c.in_ok-right.right _ _ _ _ _ _ c.requires.block is_block
-    c.in_ok-value.ensures.value c.in_ok-left.ensures.value c.in_ok-right.ensures.value (each_plain g.W.Words g.W.Shape.Shape _ _ c.requires.can))
+    c.in_ok-value.ensures.value c.in_ok-left.ensures.value c.in_ok-right.ensures.value (each_now c.requires.can))
 
-pub returns-clause-cut : goal.returns-clause-cut
-returns-clause-cut g c =
+pub returns : goal.returns
+returns g c =
     let m = c.args.map.now in
     let f = c.args.found in
     let a = c.place_of-at.result in
+    let one = c.in_ok-value.ensures in
+    let two = c.in_ok-left.ensures in
+    let three = c.in_ok-right.ensures in
+    let join = c.in_ok-join.ensures in
     let is_block : a ≡ block_at m.arena f.block = omega (arith, c.place_of-at.ensures) in
-    let same = c.in_ok-right.ensures.shape ∙ c.in_ok-left.ensures.shape ∙ c.in_ok-value.ensures.shape in
+    let same = three.shape ∙ two.shape ∙ one.shape in
+    let cuts = cuts_all m f.place f.block a c.in_ok-value.value c.in_ok-left.left c.in_ok-right.right _ _ _ _ _ _ c.requires.block is_block
+    one.value two.value three.value join.goes_on.begins in
     record {
-      at = (cuts_leads m f.place f.block a c.in_ok-value.value c.in_ok-left.left c.in_ok-right.right _ _ _ _ _ _ c.requires.block is_block
-          c.in_ok-value.ensures.value c.in_ok-left.ensures.value c.in_ok-right.ensures.value _ c.in_ok-join.ensures.goes_on.begins
-          (leads_from g.W.Words g.W.Shape.Shape c.args.w.now c.read-3.new.self c.join.new.w _ same c.in_ok-join.ensures.joined)).at;
+      cut = record { at = (cuts.0 (leads_since same join.joined)).at };
+      frame = record { at = cuts.1 (within_since same join.frame) };
+      reads = record { at = cuts.2 (reads_since same join.reads) };
+      goes_on = goes_as (goes_then (goes_then (goes_then (goes_call one) (goes_call two)) (goes_call three)) join.goes_on) (search rules);
     }
 
-pub returns-clause-frame : goal.returns-clause-frame
-returns-clause-frame g c =
-    let m = c.args.map.now in
-    let f = c.args.found in
-    let a = c.place_of-at.result in
-    let is_block : a ≡ block_at m.arena f.block = omega (arith, c.place_of-at.ensures) in
-    let same = c.in_ok-right.ensures.shape ∙ c.in_ok-left.ensures.shape ∙ c.in_ok-value.ensures.shape in
-    record {
-      at = cuts_own m f.place f.block a c.in_ok-value.value c.in_ok-left.left c.in_ok-right.right _ _ _ _ _ _ c.requires.block is_block
-          c.in_ok-value.ensures.value c.in_ok-left.ensures.value c.in_ok-right.ensures.value _ c.in_ok-join.ensures.goes_on.begins
-          (within_from g.W.Words g.W.Shape.Shape c.args.w.now c.read-3.new.self c.join.new.w _ same c.in_ok-join.ensures.frame);
-    }
+pub returns-in_err-value-clause-goes_on : goal.returns-in_err-value-clause-goes_on
+returns-in_err-value-clause-goes_on g c = goes_as (goes_call c.in_err-value.ensures) (search rules)
 
-pub returns-clause-reads : goal.returns-clause-reads
-returns-clause-reads g c =
-    let m = c.args.map.now in
-    let f = c.args.found in
-    let a = c.place_of-at.result in
-    let is_block : a ≡ block_at m.arena f.block = omega (arith, c.place_of-at.ensures) in
-    let same = c.in_ok-right.ensures.shape ∙ c.in_ok-left.ensures.shape ∙ c.in_ok-value.ensures.shape in
-    record {
-      at = cuts_seen m f.place f.block a c.in_ok-value.value c.in_ok-left.left c.in_ok-right.right _ _ _ _ _ _ c.requires.block is_block
-          c.in_ok-value.ensures.value c.in_ok-left.ensures.value c.in_ok-right.ensures.value _ c.in_ok-join.ensures.goes_on.begins
-          (reads_from g.W.Words g.W.Shape.Shape c.args.w.now c.read-3.new.self c.join.new.w _ same c.in_ok-join.ensures.reads);
-    }
+pub returns-in_err-left-clause-goes_on : goal.returns-in_err-left-clause-goes_on
+returns-in_err-left-clause-goes_on g c = goes_as (goes_then (goes_call c.in_ok-value.ensures) (goes_call c.in_err-left.ensures)) (search rules)
 
-pub returns-in_err-value : goal.returns-in_err-value
-returns-in_err-value g c =
-    let failed = c.from_residual.ensures.0 in
-    let on : GoesOn g.W.Words c.args.w.now c.read.new.self c.from_residual.result = goes_as (goes_call c.in_err-value.ensures) (search rules) in
-    search IfOk-from_err
+pub returns-in_err-right-clause-goes_on : goal.returns-in_err-right-clause-goes_on
+returns-in_err-right-clause-goes_on g c =
+    goes_as (goes_then (goes_then (goes_call c.in_ok-value.ensures) (goes_call c.in_ok-left.ensures)) (goes_call c.in_err-right.ensures)) (search rules)
 
-pub returns-in_err-left : goal.returns-in_err-left
-returns-in_err-left g c =
-    let failed = c.from_residual-in_err-left.ensures.0 in
-    let on : GoesOn g.W.Words c.args.w.now c.read-2.new.self c.from_residual-in_err-left.result =
-    goes_as (goes_then (goes_call c.in_ok-value.ensures) (goes_call c.in_err-left.ensures)) (search rules) in
-    search IfOk-from_err
-
-pub returns-in_err-right : goal.returns-in_err-right
-returns-in_err-right g c =
-    let failed = c.from_residual-in_err-right.ensures.0 in
-    let on : GoesOn g.W.Words c.args.w.now c.read-3.new.self c.from_residual-in_err-right.result =
-    goes_as (goes_then (goes_then (goes_call c.in_ok-value.ensures) (goes_call c.in_ok-left.ensures)) (goes_call c.in_err-right.ensures)) (search rules) in
-    search IfOk-from_err
-
-pub returns-in_err-join : goal.returns-in_err-join
-returns-in_err-join g c =
-    let failed = c.from_residual-in_err-join.ensures.0 in
-    let on : GoesOn g.W.Words c.args.w.now c.join.new.w c.from_residual-in_err-join.result =
-    goes_as (goes_then (goes_then (goes_then (goes_call c.in_ok-value.ensures) (goes_call c.in_ok-left.ensures))
-    (goes_call c.in_ok-right.ensures)) c.in_err-join.ensures.goes_on) (search rules) in
-    search IfOk-from_err
+pub returns-in_err-join-clause-goes_on : goal.returns-in_err-join-clause-goes_on
+returns-in_err-join-clause-goes_on g c = goes_as (goes_then (goes_then (goes_then (goes_call c.in_ok-value.ensures) (goes_call c.in_ok-left.ensures))
+    (goes_call c.in_ok-right.ensures)) c.in_err-join.ensures.goes_on) (search rules)

@@ -1,12 +1,7 @@
-use Rattle.std.proofs.Common.{◌≡◌, ◌+◌, ◌≤◌, nat_lt, refl, ◌∙◌, subst, arith, if◌then◌else◌, rules}
-use Rattle.std.proofs.lemmas.Result.{IfOk-from_err}
-use Rattle.txn_words.specs.Calls.{GoesOn}
-use Rattle.txn_alloc.specs.FreeLists.{block_at}
-use Rattle.txn_words.proofs.Looks.{looks_none, looks_map, looks_grow, looks_each, looks_from}
-use Rattle.txn_words.proofs.CallLaws.{goes, goes_then, goes_as}
-use Rattle.txn_tree_map.specs.Trees.{priority_of}
+use Rattle.txn_tree_map.proofs.Common.{◌≡◌, ◌+◌, ◌≤◌, nat_lt, refl, ◌∙◌, subst, arith, if◌then◌else◌, rules, IfOk-from_err, GoesOn, block_at, looks_none}
+use Rattle.txn_tree_map.proofs.Common.{looks_map, looks_grow, looks_each, goes, goes_then, goes_as, priority_of, HasTop, IsNamed, IsEnd, IsSeat, IsLink}
+use Rattle.txn_tree_map.proofs.Common.{IsPlace, IsPlaceOrKey, looks_since}
 use Rattle.txn_tree_map.proofs.Searches.Passed.{IsPassed}
-use Rattle.txn_tree_map.specs.Searches.{HasTop, IsNamed, IsEnd, IsSeat, IsLink, IsPlace, IsPlaceOrKey}
 use Rattle.txn_tree_map.proofs.Searches.SearchSteps.{passed_top, passed_down}
 use Rattle.txn_tree_map.proofs.Inserts.Seats.{passed_missing, missing_other, seat_end, seat_all, seat_here}
 use Rattle.txn_tree_map.proofs.Searches.Links.{passed_place, passed_near}
@@ -29,7 +24,7 @@ look-requires-clause-top g c =
     let m = c.args.map.now in
     let i = c.loop.invariant in
     looks_each g.W.Words g.W.Shape.Shape _ _ (IsLink m) (HasTop m c.loop.place)
-    (looks_map _ _ _ (IsLink m) _ _ _ (λ s h. passed_top m c.args.key (priority_of c.args.key + 1) s c.loop.place c.loop.counter h.0) i.looks) i.shape
+    (looks_map _ _ _ (IsLink m) _ _ _ (λ s h. passed_top c.args.key (priority_of c.args.key + 1) h.0) i.looks) i.shape
 
 pub returns-in-None : goal.returns-in-None
 returns-in-None g c =
@@ -39,10 +34,10 @@ returns-in-None g c =
     let on = c.in_ok-look.ensures.goes_on in
     record {
       seat =
-          looks_map _ _ _ (IsLink m) _ _ (IsSeat m c.args.key c.loop.place 0) (λ s h. seat_end m c.args.key s c.loop.place c.loop.counter h.0.0 h.1)
+          looks_map _ _ _ (IsLink m) _ _ (IsSeat m c.args.key c.loop.place 0) (λ s h. seat_end m c.args.key s h.0.0 h.1)
           (looks_grow _ _ _ (IsLink m) _ _ (IsPlace c.loop.place) _ (IsEnd c.loop.place)
-          (λ s p q. passed_place m c.args.key (priority_of c.args.key + 1) s c.loop.place c.loop.counter p.0)
-          i.looks (looks_from g.W.Words g.W.Shape.Shape c.args.w.now c.loop.w _ _ (IsPlace c.loop.place) _ i.shape end));
+          (λ s p q. passed_place p.0)
+          i.looks (looks_since g.W.Words g.W.Shape.Shape i.shape end));
       goes_on = goes_as (goes_then (goes i.shape i.origin i.looks.begins i.stop i.sound) on) (search rules);
     }
 
@@ -59,12 +54,11 @@ returns-then-priority-rank g c =
       seat =
           looks_map _ _ _ (IsLink m) _ _ (IsSeat m key c.loop.place (c.from-name.result + 1))
           (λ s h. subst (λ n. IsSeat m key c.loop.place n s) (omega (arith, c.from-name.ensures))
-          (seat_here m key s c.loop.place c.loop.counter node.block node.key c.priority-rank.ensures.small c.priority.ensures.small h.0.1 h.0.0 h.1 le))
+          (seat_here m key s node.block node.key c.priority-rank.ensures.small c.priority.ensures.small h.0.1 h.0.0 h.1 le))
           (looks_grow _ _ _ (IsLink m) _ _ (IsPlaceOrKey m c.loop.place node.block) _
           (IsNamed m c.loop.place node.block node.key)
-          (λ s p q. passed_near m c.args.key (priority_of c.args.key + 1) s c.loop.place c.loop.counter p.0
-          node.block node.key q) i.looks (looks_from g.W.Words g.W.Shape.Shape c.args.w.now c.loop.w _ _
-          (IsPlaceOrKey m c.loop.place node.block) _ i.shape named));
+          (λ s p q. passed_near p.0
+          node.block node.key q) i.looks (looks_since g.W.Words g.W.Shape.Shape i.shape named));
       goes_on = goes_as (goes_then (goes i.shape i.origin i.looks.begins i.stop i.sound) on) (search rules);
     }
 
@@ -89,15 +83,14 @@ loop-preserved g c =
       looks = looks_map _ _ _ (IsLink m) _ _ _
           (λ s h. (
             subst (λ a. IsPassed m key (priority_of key + 1) a (c.loop.counter + 1) s) next
-                (passed_down m key (priority_of key + 1) s c.loop.place c.loop.counter node.block node.key h.0.0 h.1
-                (missing_other m key s c.loop.place c.loop.counter node.block node.key h.0.1 h.0.0 h.1) higher),
+                (passed_down key (priority_of key + 1) node.block node.key h.0.0 h.1
+                (missing_other m key s node.block node.key h.0.1 h.0.0 h.1) higher),
             h.0.1,
           ))
           (looks_grow _ _ _ (IsLink m) _ _ (IsPlaceOrKey m c.loop.place node.block) _
           (IsNamed m c.loop.place node.block node.key)
-          (λ s p q. passed_near m c.args.key (priority_of c.args.key + 1) s c.loop.place c.loop.counter p.0
-          node.block node.key q) i.looks (looks_from g.W.Words g.W.Shape.Shape c.args.w.now c.loop.w _ _
-          (IsPlaceOrKey m c.loop.place node.block) _ i.shape named));
+          (λ s p q. passed_near p.0
+          node.block node.key q) i.looks (looks_since g.W.Words g.W.Shape.Shape i.shape named));
     }
 
 pub returns : goal.returns
@@ -106,7 +99,7 @@ returns g c =
     let i = c.loop.invariant in
     record {
       seat = looks_map _ _ _ (IsLink m) _ _ (IsSeat m c.args.key c.loop.place 0)
-          (λ s h. seat_all m c.args.key s c.loop.place c.loop.counter (omega (arith, c.loop-test.false)) h.0) i.looks;
+          (λ s h. seat_all m c.args.key s (omega (arith, c.loop-test.false)) h.0) i.looks;
       goes_on = goes_as (goes i.shape i.origin i.looks.begins i.stop i.sound) i.stop;
     }
 

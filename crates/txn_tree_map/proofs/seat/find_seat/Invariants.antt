@@ -1,8 +1,5 @@
-use Rattle.std.proofs.Common.{◌≡◌, ◌+◌, None}
-use Rattle.txn_words.specs.Looks.{Looks}
-use Rattle.txn_tree_map.specs.Trees.{priority_of}
+use Rattle.txn_tree_map.proofs.Common.{◌≡◌, ◌+◌, None, Looks, priority_of, IsMissing, IsLink}
 use Rattle.txn_tree_map.proofs.Searches.Passed.{IsPassed}
-use Rattle.txn_tree_map.specs.Searches.{IsMissing, IsLink}
 use Rattle.txn_tree_map.proofs.seat.find_seat.Given as goal
 
 abbrev pub invariant-loop : goal.invariant-loop

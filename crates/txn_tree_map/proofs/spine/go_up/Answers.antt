@@ -1,14 +1,12 @@
-use Rattle.std.proofs.Common.{◌≡◌, ℕ, ◌+◌, ◌^◌, ◌<◌, ◌≤◌, ◌++◌, ◌∷◌, List, [], length, slice_get, Some, get_or, sym, ap, ◌∙◌, subst, arith, rules}
-use Rattle.std.proofs.lemmas.List.{append-nil, nil_from_length}
-use Rattle.std.proofs.lemmas.Option.{slice_get-get_or}
-use Rattle.txn_alloc.specs.FreeLists.{block_at}
-use Rattle.txn_tree_map.specs.Trees.{priority_of}
+use Rattle.txn_tree_map.proofs.Common.{◌≡◌, ℕ, ◌+◌, ◌^◌, ◌<◌, ◌≤◌, ◌++◌, ◌∷◌, List, [], length, slice_get, Some, get_or, sym, ap, ◌∙◌, subst, arith, rules}
+use Rattle.txn_tree_map.proofs.Common.{append-nil, slice_get-get_or, block_at, priority_of}
+use Rattle.std.proofs.lemmas.List.{nil_from_length}
 use Rattle.txn_tree_map.proofs.Inserts.SpineSteps.{IsUp, up_first, up_below, up_seat, up_more, up_all}
-use Rattle.txn_tree_map.proofs.spine.go_up.Goals as goal
 use Rattle.txn_tree_map.proofs.spine.go_up.Goals.{In-Some, After-place_of-at}
+use Rattle.txn_tree_map.proofs.spine.go_up.Goals as goal
 
 pub loop-block-init : goal.loop-block-init
-loop-block-init c = up_first c.args.map.now c.args.key c.args.words.now c.args.blocks.now.items c.requires
+loop-block-init c = up_first c.args.key c.requires
 
 -- the spine with the block that was taken off it
 up : (c : In-Some) → IsUp c.args.map.now c.args.key c.args.words.now (c.pop.new.self.items ++ c.in-Some.block ∷ [])
@@ -18,7 +16,7 @@ up c = subst (λ (bs : List ℕ). IsUp c.args.map.now c.args.key c.args.words.no
 within : (c : In-Some) → (block_at c.args.map.now.arena c.in-Some.block + 4 ≤ length c.args.words.now) × (length c.args.words.now ≤ 2 ^ 64)
 within c = (
   (up c).is_at.laid.arena.blocks c.in-Some.block
-      (up_below c.args.map.now c.args.key c.args.words.now c.pop.new.self.items c.in-Some.block (up c)),
+      (up_below c.args.key c.pop.new.self.items c.in-Some.block (up c)),
   (up c).is_at.laid.arena.places,
 )
 
@@ -26,7 +24,7 @@ within c = (
 there : (c : After-place_of-at) → block_at c.args.map.now.arena c.in-Some.block + 4 ≤ length c.args.words.now
     → slice_get c.args.words.now (block_at c.args.map.now.arena c.in-Some.block)
     ≡ Some (get_or c.args.words.now c.place_of-at.result 0)
-there c lt = slice_get-get_or c.args.words.now (block_at c.args.map.now.arena c.in-Some.block) 0 (omega (arith, lt))
+there c lt = slice_get-get_or c.args.words.now (block_at c.args.map.now.arena c.in-Some.block) 0 (omega arith)
     ∙ ap (λ p. Some (get_or c.args.words.now p 0)) (sym c.place_of-at.ensures)
 
 pub place_of-at-requires : goal.place_of-at-requires
@@ -53,7 +51,7 @@ returns-then-priority-rank c =
     let key : ℕ = get_or c.args.words.now c.place_of-at.result 0 in
     let lt : priority_of c.args.key < priority_of key = omega (arith, c.if-priority-rank.true, c.priority-rank.ensures.value, c.priority.ensures.value) in
     rw (c.in_ok-push.ensures.items, c.place_of-at.ensures)
-    (up_seat c.args.map.now c.args.key c.args.words.now c.pop.new.self.items c.in-Some.block above key is_key lt)
+    (up_seat c.args.key c.pop.new.self.items c.in-Some.block above key is_key lt)
 
 pub loop-block-preserved : goal.loop-block-preserved
 loop-block-preserved c =
@@ -61,12 +59,12 @@ loop-block-preserved c =
     let is_key = there (goal.at.loop-block-preserved c).After-place_of-at (within (goal.at.loop-block-preserved c).In-Some).0 in
     let key : ℕ = get_or c.args.words.now c.place_of-at.result 0 in
     let le : priority_of key ≤ priority_of c.args.key = omega (arith, c.if-priority-rank.false, c.priority-rank.ensures.value, c.priority.ensures.value) in
-    up_more c.args.map.now c.args.key c.args.words.now c.pop.new.self.items c.in-Some.block above key is_key
+    up_more c.args.key c.pop.new.self.items c.in-Some.block above key is_key
     c.priority-rank.ensures.small c.priority.ensures.small le
 
 pub returns : goal.returns
 returns c =
-    let none : c.pop.new.self.items ≡ [] = nil_from_length c.pop.new.self.items (omega (arith, (c.in_default.ensures.cases).1, c.pop.new.self.ok)) in
+    let none = nil_from_length c.pop.new.self.items (omega (arith, (c.in_default.ensures.cases).1, c.pop.new.self.ok)) in
     let whole : c.loop-block.blocks.items ≡ [] = c.in_default.ensures.items ∙ append-nil c.pop.new.self.items ∙ none in
-    rw none (up_all c.args.map.now c.args.key c.args.words.now
+    rw none (up_all c.args.key
     (subst (λ (bs : List ℕ). IsUp c.args.map.now c.args.key c.args.words.now bs) whole c.loop-block.invariant))

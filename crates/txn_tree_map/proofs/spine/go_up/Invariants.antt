@@ -1,4 +1,4 @@
-use Rattle.std.proofs.Common.{length}
+use Rattle.txn_tree_map.proofs.Common.{length}
 use Rattle.txn_tree_map.proofs.Inserts.SpineSteps.{IsUp}
 use Rattle.txn_tree_map.proofs.spine.go_up.Given as goal
 

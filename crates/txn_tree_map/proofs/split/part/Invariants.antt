@@ -1,8 +1,4 @@
-use Rattle.std.proofs.Common.{◌≡◌, ℕ, List, None}
-use Rattle.history_model.specs.Traces.{after, Begins}
-use Rattle.history_model.specs.Fitting.{Fits}
-use Rattle.txn_words.specs.Frames.{AppendsOnly, AppendsReads}
-use Rattle.txn_tree_map.specs.Changes.{IsParted, IsSplitOwn, IsSplitSeen}
+use Rattle.txn_tree_map.proofs.Common.{◌≡◌, None, Begins, LeadsTo, WritesWithin, ReadsWithin, IsParted, IsSplitOwn, IsSplitSeen}
 use Rattle.txn_tree_map.proofs.split.part.Given as goal
 
 abbrev pub invariant-loop : goal.invariant-loop
@@ -14,12 +10,7 @@ invariant-loop g l =
       stop : words.stop l.w ≡ None;
       sound : words.is_sound l.w;
       begins : Begins (words.trace l.fn.w) (words.trace l.w);
-      reads : (s : List ℕ) → Fits (g.W.Shape.Shape.word_count (words.shape l.fn.w)) (g.W.Shape.Shape.good (words.shape l.fn.w)) (words.trace l.w) s
-          → AppendsReads (words.trace l.fn.w) (words.trace l.w)
-          (IsSplitSeen l.map l.key l.block l.name (after (words.trace l.fn.w) s) (after (words.trace l.w) s));
-      own : (s : List ℕ) → Fits (g.W.Shape.Shape.word_count (words.shape l.fn.w)) (g.W.Shape.Shape.good (words.shape l.fn.w)) (words.trace l.w) s
-          → AppendsOnly (words.trace l.fn.w) (words.trace l.w)
-          (IsSplitOwn l.map l.key l.block l.name (after (words.trace l.fn.w) s) (after (words.trace l.w) s));
-      parted : (s : List ℕ) → Fits (g.W.Shape.Shape.word_count (words.shape l.fn.w)) (g.W.Shape.Shape.good (words.shape l.fn.w)) (words.trace l.w) s
-          → IsParted l.map l.key l.block l.name l.counter l.ends.smaller l.ends.greater l.ends.rest (after (words.trace l.fn.w) s) (after (words.trace l.w) s);
+      reads : ReadsWithin words g.W.Shape.Shape l.fn.w l.w (IsSplitSeen l.map l.key l.block l.name);
+      own : WritesWithin words g.W.Shape.Shape l.fn.w l.w (IsSplitOwn l.map l.key l.block l.name);
+      parted : LeadsTo words g.W.Shape.Shape l.fn.w l.w (IsParted l.map l.key l.block l.name l.counter l.ends.smaller l.ends.greater l.ends.rest);
     }

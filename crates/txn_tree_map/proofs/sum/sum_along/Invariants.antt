@@ -1,14 +1,6 @@
-use Rattle.std.proofs.Common.{◌≡◌, ◌≤◌, ◌*◌, ◌^◌, ℕ, List, None}
-use Rattle.history_model.specs.Traces.{after}
-use Rattle.history_model.specs.Fitting.{Fits}
-use Rattle.txn_words.specs.Frames.{AppendsReads}
-use Rattle.txn_words.specs.Calls.{InEachState}
-use Rattle.txn_words.specs.Looks.{Looks}
-use Rattle.txn_alloc.specs.EntryMaps.{MayReadRange}
-use Rattle.txn_tree_map.specs.Trees.{tree_part}
+use Rattle.txn_tree_map.proofs.Common.{◌≡◌, ◌≤◌, ◌*◌, ◌^◌, ℕ, List, None, after, Fits, AppendsReads, InEachState, Looks, MayReadRange, tree_part, IsAnyWord}
+use Rattle.txn_tree_map.proofs.Common.{IsWalk}
 use Rattle.txn_tree_map.proofs.Summed.{IsSummed}
-use Rattle.txn_tree_map.specs.Sums.{IsAnyWord}
-use Rattle.txn_tree_map.specs.Walks.{IsWalk}
 use Rattle.txn_tree_map.proofs.sum.sum_along.Given as goal
 
 abbrev pub invariant-loop : goal.invariant-loop

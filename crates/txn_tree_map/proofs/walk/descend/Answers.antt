@@ -1,11 +1,6 @@
-use Rattle.std.proofs.Common.{◌≡◌, ◌+◌, nat_le, refl, ◌∙◌, arith, if◌then◌else◌, rules}
-use Rattle.std.proofs.lemmas.Result.{IfOk-from_err}
-use Rattle.txn_words.specs.Calls.{GoesOn}
-use Rattle.txn_words.proofs.CallLaws.{each_plain, goes, goes_then, goes_as}
-use Rattle.txn_words.proofs.Looks.{looks_none, looks_map, looks_grow, looks_each, looks_from}
-use Rattle.txn_alloc.specs.FreeLists.{block_at}
-use Rattle.txn_tree_map.specs.Searches.{HasTop, IsNamed, IsEnd, IsLink, IsPlace, IsPlaceOrKey}
-use Rattle.txn_tree_map.specs.Walks.{IsWalk}
+use Rattle.txn_tree_map.proofs.Common.{◌≡◌, ◌+◌, nat_le, refl, ◌∙◌, arith, if◌then◌else◌, rules, IfOk-from_err, GoesOn, goes, goes_then, goes_as, looks_none}
+use Rattle.txn_tree_map.proofs.Common.{looks_map, looks_grow, looks_each, block_at, HasTop, IsNamed, IsEnd, IsLink, IsPlace, IsPlaceOrKey, IsWalk, each_now}
+use Rattle.txn_tree_map.proofs.Common.{looks_since}
 use Rattle.txn_tree_map.proofs.InOrder.WalkSteps.{walk_top, walk_place, walk_near, walk_end, walk_all, walk_down, keeps_whole}
 use Rattle.txn_tree_map.proofs.walk.descend.Goals as goal
 
@@ -17,7 +12,7 @@ loop-init g c =
       origin = refl;
       stop = c.requires.ready.going;
       sound = c.requires.ready.sound;
-      looks = looks_none _ _ _ (IsLink m) _ (each_plain g.W.Words g.W.Shape.Shape _ _ c.requires.walk);
+      looks = looks_none _ _ _ (IsLink m) _ (each_now c.requires.walk);
       whole = λ e. refl;
     }
 
@@ -26,7 +21,7 @@ look-requires-clause-top g c =
     let m = c.args.map.now in
     let i = c.loop.invariant in
     looks_each g.W.Words g.W.Shape.Shape _ _ (IsLink m) (HasTop m c.loop.walk.place)
-    (looks_map _ _ _ (IsLink m) _ _ _ (λ s h. walk_top m s c.loop.walk c.args.least c.loop.counter h) i.looks) i.shape
+    (looks_map _ _ _ (IsLink m) _ _ _ (λ s h. walk_top c.loop.walk c.args.least h) i.looks) i.shape
 
 pub returns-in-None : goal.returns-in-None
 returns-in-None g c =
@@ -39,10 +34,10 @@ returns-in-None g c =
     record {
       end =
           looks_map _ _ _ (IsLink m) _ _ (IsWalk m walk least m.arena.blocks)
-          (λ s h. walk_end m s walk least c.loop.counter h.0 h.1)
+          (λ s h. walk_end walk least h.0 h.1)
           (looks_grow _ _ _ (IsLink m) _ _ (IsPlace walk.place) _ (IsEnd walk.place)
-          (λ s p q. walk_place m s walk least c.loop.counter p) i.looks
-          (looks_from g.W.Words g.W.Shape.Shape c.args.w.now c.loop.w _ _ (IsPlace walk.place) _ i.shape end));
+          (λ s p q. walk_place walk least p) i.looks
+          (looks_since g.W.Words g.W.Shape.Shape i.shape end));
       whole = i.whole;
       goes_on = goes_as (goes_then (goes i.shape i.origin i.looks.begins i.stop i.sound) on) (search rules);
     }
@@ -66,10 +61,10 @@ loop-preserved g c =
       stop = goes.stops;
       sound = goes.sound;
       looks = looks_map _ _ _ (IsLink m) _ _ _
-          (λ s h. walk_down m s walk least c.loop.counter h.0 mid next node.block node.key h.1 refl refl place c.keep.ensures.low c.keep.ensures.kept)
+          (λ s h. walk_down walk least h.0 mid next node.block node.key h.1 refl refl place c.keep.ensures.low c.keep.ensures.kept)
           (looks_grow _ _ _ (IsLink m) _ _ (IsPlaceOrKey m walk.place node.block) _
-          (IsNamed m walk.place node.block node.key) (λ s p q. walk_near m s walk least c.loop.counter p node.block node.key q) i.looks
-          (looks_from g.W.Words g.W.Shape.Shape c.args.w.now c.loop.w _ _ (IsPlaceOrKey m walk.place node.block) _ i.shape named));
+          (IsNamed m walk.place node.block node.key) (λ s p q. walk_near walk least p node.block node.key q) i.looks
+          (looks_since g.W.Words g.W.Shape.Shape i.shape named));
       whole = λ e. keeps_whole least node mid next _ c.keep.ensures.low c.keep.ensures.kept i.whole e;
     }
 
@@ -79,7 +74,7 @@ returns g c =
     let i = c.loop.invariant in
     record {
       end = looks_map _ _ _ (IsLink m) _ _ (IsWalk m c.loop.walk c.args.least m.arena.blocks)
-          (λ s h. walk_all m s c.loop.walk c.args.least c.loop.counter h (omega (arith, c.loop-test.false))) i.looks;
+          (λ s h. walk_all c.loop.walk c.args.least h (omega (arith, c.loop-test.false))) i.looks;
       whole = i.whole;
       goes_on = goes_as (goes i.shape i.origin i.looks.begins i.stop i.sound) i.stop;
     }

@@ -1,7 +1,4 @@
-use Rattle.std.proofs.Common.{◌≡◌, [], None}
-use Rattle.txn_words.specs.Looks.{Looks}
-use Rattle.txn_tree_map.specs.Searches.{IsLink}
-use Rattle.txn_tree_map.specs.Walks.{IsWalk}
+use Rattle.txn_tree_map.proofs.Common.{◌≡◌, [], None, Looks, IsLink, IsWalk}
 use Rattle.txn_tree_map.proofs.walk.descend.Given as goal
 
 abbrev pub invariant-loop : goal.invariant-loop

@@ -1,8 +1,4 @@
-use Rattle.std.proofs.Common.{◌≡◌, ◌+◌, ◌<◌, [], ◌∷◌, ◌++◌, Some, refl, arith, rules}
-use Rattle.txn_words.proofs.Looks.{looks_map, some_from}
-use Rattle.txn_alloc.specs.FreeLists.{block_at}
-use Rattle.txn_tree_map.specs.Searches.{IsLink}
-use Rattle.txn_tree_map.specs.Sums.{IsFirstFrom}
+use Rattle.txn_tree_map.proofs.Common.{◌≡◌, ◌+◌, [], ◌∷◌, ◌++◌, Some, refl, arith, rules, looks_map, block_at, IsLink, IsFirstFrom, some_since}
 use Rattle.txn_tree_map.proofs.InOrder.SumCalls.{node_below}
 use Rattle.txn_tree_map.proofs.InOrder.WalkSteps.{walk_none, walk_first, walk_behind}
 use Rattle.txn_tree_map.proofs.walk.next_kept.Goals as goal
@@ -11,19 +7,18 @@ pub returns-in_default-clause-come : goal.returns-in_default-clause-come
 returns-in_default-clause-come g c =
     let m = c.args.map.now in
     let none : c.descend.new.walk.kept.items ≡ [] = search rules in
-    looks_map _ _ _ (IsLink m) _ _ _ (λ s h. walk_none m s c.descend.new.walk c.args.least h none) c.in_ok-descend.ensures.end
+    looks_map _ _ _ (IsLink m) _ _ _ (λ s h. walk_none c.descend.new.walk c.args.least h none) c.in_ok-descend.ensures.end
 
 pub prove-unreachable-requires : goal.prove-unreachable-requires
 prove-unreachable-requires g c =
     let m = c.args.map.now in
     let node = c.in-Some.node in
     let goes = c.in_ok-descend.ensures.goes_on in
-    let some = some_from g.W.Words g.W.Shape.Shape c.args.w.now c.descend.new.w goes.shape (g.met.W.Words.fits c.descend.new.w goes.sound) in
+    let some = some_since g.W.Words g.W.Shape.Shape goes.shape (g.met.W.Words.fits c.descend.new.w goes.sound) in
     let kept : c.descend.new.walk.kept.items ≡ c.pop.new.self.items ++ node ∷ [] = c.in-Some.ensures.items in
     let nearest = looks_map _ _ _ (IsLink m) _ _ (IsFirstFrom m c.args.least (Some node))
-    (λ s h. walk_first m s c.descend.new.walk c.args.least h c.pop.new.self.items node kept) c.in_ok-descend.ensures.end in
-    let lt : node.block < m.arena.blocks = node_below m _ _ _ _ c.args.least 0 node nearest some in
-    omega (arith, lt, c.if-prove.true)
+    (λ s h. walk_first c.descend.new.walk c.args.least h c.pop.new.self.items node kept) c.in_ok-descend.ensures.end in
+    omega (arith, node_below nearest some, c.if-prove.true)
 
 pub returns-clause-come : goal.returns-clause-come
 returns-clause-come g c =
@@ -33,6 +28,6 @@ returns-clause-come g c =
     let kept : walk.kept.items ≡ c.pop.new.self.items ++ node ∷ [] = c.in-Some.ensures.items in
     let place : c.place_of.result + 3 ≡ block_at m.arena node.block + 3 = omega (arith, c.place_of.ensures) in
     looks_map _ _ _ (IsLink m) _ _ _ (λ s h. (
-      walk_first m s walk c.args.least h c.pop.new.self.items node kept,
-      walk_behind m s walk c.args.least h c.pop.new.self.items node kept _ place refl refl,
+      walk_first walk c.args.least h c.pop.new.self.items node kept,
+      walk_behind walk c.args.least h c.pop.new.self.items node kept _ place refl refl,
     )) c.in_ok-descend.ensures.end

@@ -1,7 +1,5 @@
-use Rattle.std.proofs.Common.{◌≡◌, ℕ, ◌+◌, ◌-◌, ◌<◌, ◌≤◌, arith, refl, sym, ap, subst}
-use Rattle.history_model.specs.Marks.{count_writes}
-use Rattle.history_model.specs.Fitting.{Fits}
-use Rattle.txn_words.specs.Marks.{PutsBack}
+use Rattle.txn_words.proofs.Common.{◌≡◌, ℕ, ◌+◌, ◌<◌, ◌≤◌, arith, refl, sym, ap, subst, count_writes, Fits, PutsBack}
+use Rattle.std.proofs.Common.{◌-◌}
 use Rattle.txn_words.proofs.GoingBack.{GoneBack, all_back, mark_stays, none_back, one_more_back}
 use Rattle.txn_words.proofs.Listed.{same_more, shape_of}
 use Rattle.txn_words.proofs.plain.go_back.Goals as goal

@@ -1,6 +1,4 @@
-use Rattle.std.proofs.Common.{◌≡◌, ◌≤◌}
-use Rattle.history_model.specs.Fitting.{Fits}
-use Rattle.history_model.specs.Marks.{count_writes}
+use Rattle.txn_words.proofs.Common.{◌≡◌, ◌≤◌, Fits, count_writes}
 use Rattle.txn_words.proofs.GoingBack.{GoneBack}
 use Rattle.txn_words.proofs.plain.go_back.Given as goal
 

@@ -1,5 +1,5 @@
-use Rattle.std.proofs.Common.{◌≡◌, ℕ, List, ◌∷◌, [], ◌++◌, slice_set, refl, ap, sym, ◌∙◌}
-use Rattle.history_model.specs.Undoing.{Notes, written_back}
+use Rattle.txn_words.proofs.Common.{◌≡◌, ℕ, List, ◌∷◌, [], ◌++◌, slice_set, refl, ap, sym, ◌∙◌, Notes}
+use Rattle.history_model.specs.Undoing.{written_back}
 use Rattle.history_model.proofs.Traces.UndoLaws.{newest_first}
 use Rattle.txn_words.proofs.plain.write_back.Goals as goal
 

@@ -1,5 +1,4 @@
-use Rattle.std.proofs.Common.{◌≡◌, length}
-use Rattle.history_model.specs.Undoing.{written_back}
+use Rattle.txn_words.proofs.Common.{◌≡◌, length, written_back}
 use Rattle.txn_words.proofs.plain.write_back.Given as goal
 
 abbrev pub invariant-loop-a : goal.invariant-loop-a

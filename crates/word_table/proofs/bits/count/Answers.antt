@@ -1,4 +1,4 @@
-use Rattle.std.proofs.Common.{◌≤◌, length, arith, rules, ◌^◌}
+use Rattle.word_table.proofs.Common.{◌≤◌, length, arith, rules, ◌^◌}
 use Rattle.std.proofs.lemmas.Iterator.{YieldsList-from_slice}
 use Rattle.std.proofs.lemmas.Iterator.Adapters.{fits_from_length, at_most_from_yields_List}
 use Rattle.word_table.proofs.bits.count.Goals as goal

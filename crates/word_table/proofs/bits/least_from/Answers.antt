@@ -1,4 +1,4 @@
-use Rattle.std.proofs.Common.{◌/◌, refl, arith, rules, slice_index}
+use Rattle.word_table.proofs.Common.{◌/◌, refl, arith, rules, slice_index}
 use Rattle.word_table.proofs.Copied.Rows.{least_at}
 use Rattle.word_table.proofs.bits.least_from.Goals as goal
 

@@ -1,4 +1,4 @@
-use Rattle.std.proofs.Common.{rules, arith}
+use Rattle.word_table.proofs.Common.{rules, arith}
 use Rattle.word_table.proofs.Copied.Rows.{least_within, none_within}
 use Rattle.word_table.proofs.bits.least_in.Goals as goal
 

@@ -1,4 +1,4 @@
-use Rattle.std.proofs.Common.{arith}
+use Rattle.word_table.proofs.Common.{arith}
 use Rattle.word_table.proofs.Copied.Rows.{least_bit}
 use Rattle.word_table.proofs.bits.least_seat.Goals as goal
 

@@ -1,5 +1,5 @@
-use Rattle.std.proofs.Common.{◌≡◌, ℕ, length, refl, arith, subst, ◌∙◌, length-set}
-use Rattle.std.specs.Slots.{slots_items, slots_counts}
+use Rattle.word_table.proofs.Common.{◌≡◌, ℕ, length, refl, arith, subst, ◌∙◌, length-set, slots_items}
+use Rattle.std.specs.Slots.{slots_counts}
 use Rattle.word_table.proofs.Joined.Gathering.{AreCopied, copied_more, all_copied}
 use Rattle.word_table.proofs.closing.copy_words.Goals as goal
 

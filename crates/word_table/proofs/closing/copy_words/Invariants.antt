@@ -1,5 +1,4 @@
-use Rattle.std.proofs.Common.{◌≡◌, length}
-use Rattle.std.specs.Slots.{slots_items}
+use Rattle.word_table.proofs.Common.{◌≡◌, length, slots_items}
 use Rattle.word_table.proofs.Joined.Gathering.{AreCopied}
 use Rattle.word_table.proofs.closing.copy_words.Given as goal
 

@@ -1,4 +1,4 @@
-use Rattle.history_model.specs.Fitting.{IsGood}
+use Rattle.word_table.proofs.Common.{IsGood}
 use Rattle.word_table.proofs.Joined.Gathering.{joins_at}
 use Rattle.word_table.proofs.closing.join_one.Goals as goal
 

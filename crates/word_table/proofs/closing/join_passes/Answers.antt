@@ -1,9 +1,4 @@
-use Rattle.std.proofs.Common.{◌≡◌, true, List, [], ◌∷◌, ◌++◌, ap, sym, subst, ◌∙◌, arith}
-use Rattle.history_model.specs.declared.view.View.{View}
-use Rattle.history_model.specs.Sets.{has}
-use Rattle.history_model.specs.Views.{number}
-use Rattle.word_table.specs.Copies.{PassView}
-use Rattle.word_table.specs.Gathering.{IsGathered}
+use Rattle.word_table.proofs.Common.{◌≡◌, true, List, [], ◌∷◌, ◌++◌, ap, sym, subst, ◌∙◌, arith, View, has, number, PassView, IsGathered}
 use Rattle.word_table.proofs.Joined.Gathering.{first_gathered, next_gathered, next_pass, none_left, seat_view}
 use Rattle.word_table.proofs.closing.join_passes.Goals as goal
 

@@ -1,5 +1,4 @@
-use Rattle.std.proofs.Common.{[], ◌∷◌, ◌++◌, vec_len}
-use Rattle.word_table.specs.Gathering.{IsGathered}
+use Rattle.word_table.proofs.Common.{[], ◌∷◌, ◌++◌, vec_len, IsGathered}
 use Rattle.word_table.proofs.closing.join_passes.Given as goal
 
 -- the seat has taken all passes but those that are left

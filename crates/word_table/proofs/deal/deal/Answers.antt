@@ -1,5 +1,4 @@
-use Rattle.std.proofs.Common.{◌≡◌, ◌-◌, ◌∙◌, refl, arith}
-use Rattle.std.proofs.lemmas.Result.{IfOk-from_err}
+use Rattle.word_table.proofs.Common.{◌≡◌, ◌-◌, ◌∙◌, refl, arith, IfOk-from_err}
 use Rattle.word_table.proofs.Openings.Opening.{dealt_push, last_me}
 use Rattle.word_table.proofs.deal.deal.Goals as goal
 

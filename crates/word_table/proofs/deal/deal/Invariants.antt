@@ -1,6 +1,4 @@
-use Rattle.std.proofs.Common.{◌≡◌, ◌-◌, []}
-use Rattle.locks_rule.specs.Splits.{opening_view}
-use Rattle.word_table.specs.Sound.{numbers}
+use Rattle.word_table.proofs.Common.{◌≡◌, ◌-◌, [], opening_view, numbers}
 use Rattle.word_table.proofs.Openings.Opening.{Dealt}
 use Rattle.word_table.proofs.deal.deal.Given as goal
 

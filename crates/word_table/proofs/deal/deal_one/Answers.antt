@@ -1,5 +1,4 @@
-use Rattle.std.proofs.Common.{ℕ, ◌+◌, ◌<◌, arith}
-use Rattle.history_model.specs.Fitting.{IsGood}
+use Rattle.word_table.proofs.Common.{ℕ, ◌+◌, ◌<◌, arith, IsGood}
 use Rattle.word_table.proofs.Openings.Opening.{deals_at, dealt_left, dealt_right}
 use Rattle.word_table.proofs.deal.deal_one.Goals as goal
 

@@ -1,4 +1,4 @@
-use Rattle.history_model.specs.Fitting.{IsGood}
+use Rattle.word_table.proofs.Common.{IsGood}
 use Rattle.word_table.proofs.Runs.Later.{entries_stand, later_stand_behind}
 use Rattle.word_table.proofs.Runs.Meetings.{is_arranged, reads_one_state}
 use Rattle.word_table.proofs.Runs.Recorded.{entries_stay}

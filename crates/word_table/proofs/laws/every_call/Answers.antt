@@ -1,4 +1,4 @@
-use Rattle.history_model.specs.Fitting.{IsGood}
+use Rattle.word_table.proofs.Common.{IsGood}
 use Rattle.word_table.proofs.Runs.Meetings.{restarts_few}
 use Rattle.word_table.proofs.Runs.Stamped.{stamps_are_kept}
 use Rattle.word_table.proofs.laws.every_call.Goals as goal

@@ -1,4 +1,4 @@
-use Rattle.history_model.specs.Fitting.{IsGood}
+use Rattle.word_table.proofs.Common.{IsGood}
 use Rattle.word_table.proofs.Kept.KeptChanges.{split_seat_sound, take_note_sound}
 use Rattle.word_table.proofs.laws.every_cut.Goals as goal
 

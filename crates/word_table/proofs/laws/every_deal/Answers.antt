@@ -1,4 +1,4 @@
-use Rattle.history_model.specs.Fitting.{IsGood}
+use Rattle.word_table.proofs.Common.{IsGood}
 use Rattle.word_table.proofs.Runs.Dealing.{seats_are_dealt}
 use Rattle.word_table.proofs.laws.every_deal.Goals as goal
 

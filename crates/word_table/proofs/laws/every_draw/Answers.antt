@@ -1,4 +1,4 @@
-use Rattle.history_model.specs.Fitting.{IsGood}
+use Rattle.word_table.proofs.Common.{IsGood}
 use Rattle.word_table.proofs.Runs.Drawing.{clock_counts_draws, only_draws_move_clock}
 use Rattle.word_table.proofs.laws.every_draw.Goals as goal
 

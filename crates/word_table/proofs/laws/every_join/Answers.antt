@@ -1,4 +1,4 @@
-use Rattle.history_model.specs.Fitting.{IsGood}
+use Rattle.word_table.proofs.Common.{IsGood}
 use Rattle.word_table.proofs.Kept.KeptChanges.{meet_note_sound, join_seats_sound}
 use Rattle.word_table.proofs.laws.every_join.Goals as goal
 

@@ -1,4 +1,4 @@
-use Rattle.history_model.specs.Fitting.{IsGood}
+use Rattle.word_table.proofs.Common.{IsGood}
 use Rattle.word_table.proofs.Runs.Meetings.{meets_in_conflict, never_meets_apart}
 use Rattle.word_table.proofs.laws.every_meeting.Goals as goal
 

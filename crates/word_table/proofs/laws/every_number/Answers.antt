@@ -1,4 +1,4 @@
-use Rattle.history_model.specs.Fitting.{IsGood}
+use Rattle.word_table.proofs.Common.{IsGood}
 use Rattle.word_table.proofs.Runs.Counted.{numbers_stay_below}
 use Rattle.word_table.proofs.laws.every_number.Goals as goal
 

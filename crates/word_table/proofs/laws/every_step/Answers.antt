@@ -1,4 +1,4 @@
-use Rattle.history_model.specs.Fitting.{IsGood}
+use Rattle.word_table.proofs.Common.{IsGood}
 use Rattle.word_table.proofs.Kept.KeptKinds.{sound_kept}
 use Rattle.word_table.proofs.laws.every_step.Goals as goal
 

@@ -1,4 +1,4 @@
-use Rattle.history_model.specs.Fitting.{IsGood}
+use Rattle.word_table.proofs.Common.{IsGood}
 use Rattle.word_table.proofs.Runs.Looking.{looks_are_waits}
 use Rattle.word_table.proofs.Runs.Waiting.{has_no_circle, has_no_deadlock}
 use Rattle.word_table.proofs.Runs.Ending.{waits_end}

@@ -1,4 +1,4 @@
-use Rattle.history_model.specs.Fitting.{IsGood}
+use Rattle.word_table.proofs.Common.{IsGood}
 use Rattle.word_table.proofs.Runs.Writing.{have_no_common_word, writes_own_and_asked}
 use Rattle.word_table.proofs.laws.every_write.Goals as goal
 

@@ -1,4 +1,4 @@
-use Rattle.history_model.specs.Fitting.{IsGood}
+use Rattle.word_table.proofs.Common.{IsGood}
 use Rattle.word_table.proofs.Runs.RunLaws.{opening_run}
 use Rattle.word_table.proofs.laws.opening_run.Goals as goal
 

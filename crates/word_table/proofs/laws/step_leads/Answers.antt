@@ -1,5 +1,5 @@
+use Rattle.word_table.proofs.Common.{IsGood}
 use Rattle.std.specs.Prelude.{[]}
-use Rattle.history_model.specs.Fitting.{IsGood}
 use Rattle.word_table.proofs.Runs.RunLaws.{step_leads}
 use Rattle.word_table.proofs.laws.step_leads.Goals as goal
 

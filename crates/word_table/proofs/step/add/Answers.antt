@@ -1,4 +1,4 @@
-use Rattle.std.proofs.Common.{ℕ, ◌+◌, ◌^◌, ◌<◌, subst}
+use Rattle.word_table.proofs.Common.{ℕ, ◌+◌, ◌^◌, ◌<◌, subst}
 use Rattle.word_table.proofs.step.add.Goals as goal
 
 -- the number that was found in a sound table has room for one more

@@ -1,5 +1,4 @@
-use Rattle.history_model.specs.Fitting.{IsGood}
-use Rattle.word_table.specs.Sound.{IsSound}
+use Rattle.word_table.proofs.Common.{IsGood, IsSound}
 use Rattle.word_table.proofs.step.add.Given as goal
 
 abbrev pub ghosts-add_by : goal.ghosts-add_by

@@ -1,6 +1,4 @@
-use Rattle.std.proofs.Common.{◌+◌, ◌%◌, ◌^◌}
-use Rattle.history_model.specs.Fitting.{IsGood}
-use Rattle.word_table.specs.Sound.{GroundHolds}
+use Rattle.word_table.proofs.Common.{◌+◌, ◌%◌, ◌^◌, IsGood, GroundHolds}
 use Rattle.word_table.proofs.Kept.Numbered.{step_allowed}
 use Rattle.word_table.proofs.Kept.Soundness.{Tells, add_allowed}
 use Rattle.word_table.proofs.step.add_by.Goals as goal

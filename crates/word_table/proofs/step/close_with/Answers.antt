@@ -1,4 +1,4 @@
-use Rattle.word_table.specs.Sound.{GroundHolds}
+use Rattle.word_table.proofs.Common.{GroundHolds}
 use Rattle.word_table.proofs.Kept.Numbered.{known_at_end}
 use Rattle.word_table.proofs.step.close_with.Goals as goal
 

@@ -1,7 +1,4 @@
-use Rattle.std.proofs.Common.{◌==◌}
-use prog.Atomic.{either}
-use Rattle.history_model.specs.Fitting.{IsGood}
-use Rattle.word_table.specs.Sound.{GroundHolds}
+use Rattle.word_table.proofs.Common.{◌==◌, either, IsGood, GroundHolds}
 use Rattle.word_table.proofs.Kept.Numbered.{step_allowed}
 use Rattle.word_table.proofs.Kept.Soundness.{Tells, exchange_allowed}
 use Rattle.word_table.proofs.step.exchange_by.Goals as goal

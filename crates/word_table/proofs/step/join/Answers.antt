@@ -1,4 +1,4 @@
-use Rattle.word_table.specs.Sound.{GroundHolds}
+use Rattle.word_table.proofs.Common.{GroundHolds}
 use Rattle.word_table.proofs.Kept.Numbered.{join_allowed}
 use Rattle.word_table.proofs.step.join.Goals as goal
 

@@ -1,5 +1,4 @@
-use Rattle.history_model.specs.Fitting.{IsGood}
-use Rattle.word_table.specs.Sound.{GroundHolds}
+use Rattle.word_table.proofs.Common.{IsGood, GroundHolds}
 use Rattle.word_table.proofs.Kept.Numbered.{step_allowed}
 use Rattle.word_table.proofs.Kept.Soundness.{PutsTo, store_allowed}
 use Rattle.word_table.proofs.step.store_by.Goals as goal

@@ -1,4 +1,4 @@
-use Rattle.worker_pool.specs.Inner.Dealing.{AreDealtInTurn, AreStill}
+use Rattle.worker_pool.proofs.Common.{AreDealtInTurn, AreStill}
 use Rattle.worker_pool.proofs.dealing.deal_all.Given as goal
 
 -- the callers so far are dealt

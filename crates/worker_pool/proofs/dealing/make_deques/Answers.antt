@@ -1,8 +1,4 @@
-use Rattle.std.proofs.Common.{◌≡◌, ◌∷◌, [], arith, ap, length, sym, ◌∙◌, length-append}
-use Rattle.std.proofs.lemmas.List.Elements.{All-push, All-same}
-use Rattle.crossbeam_deque.specs.Handles.{worker_view}
-use Rattle.worker_pool.specs.declared.rule.TheConstants.{ALL_PARTS}
-use Rattle.worker_pool.specs.Deques.{deal}
+use Rattle.worker_pool.proofs.Common.{◌≡◌, ◌∷◌, [], arith, ap, length, sym, ◌∙◌, length-append, All-push, All-same, worker_view, ALL_PARTS, deal}
 use Rattle.worker_pool.proofs.Dealt.{shown_more}
 use Rattle.worker_pool.proofs.dealing.make_deques.Goals as goal
 

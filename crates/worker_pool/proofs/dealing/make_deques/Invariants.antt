@@ -1,8 +1,4 @@
-use Rattle.std.proofs.Common.{◌≡◌, All, [], length}
-use Rattle.crossbeam_deque.specs.Handles.{worker_view}
-use Rattle.worker_pool.specs.declared.rule.TheConstants.{ALL_PARTS}
-use Rattle.worker_pool.specs.Deques.{deal}
-use Rattle.worker_pool.specs.Inner.Dealing.{AreShown}
+use Rattle.worker_pool.proofs.Common.{◌≡◌, All, [], length, worker_view, ALL_PARTS, deal, AreShown}
 use Rattle.worker_pool.proofs.dealing.make_deques.Given as goal
 
 -- the deques so far

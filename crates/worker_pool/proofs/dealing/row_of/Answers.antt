@@ -1,5 +1,4 @@
-use Rattle.std.proofs.Common.{◌<◌, ◌∷◌, [], arith, ap, length, sym, length-append}
-use Rattle.crossbeam_deque.specs.Handles.{worker_view}
+use Rattle.worker_pool.proofs.Common.{◌<◌, ◌∷◌, [], arith, ap, length, sym, length-append, worker_view}
 use Rattle.worker_pool.proofs.Dealt.{cutting_more, still_over}
 use Rattle.worker_pool.proofs.dealing.row_of.Goals as goal
 

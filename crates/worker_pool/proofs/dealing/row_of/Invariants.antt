@@ -1,4 +1,4 @@
-use Rattle.std.proofs.Common.{◌≡◌, length}
+use Rattle.worker_pool.proofs.Common.{◌≡◌, length}
 use Rattle.worker_pool.proofs.Dealt.{Cutting}
 use Rattle.worker_pool.proofs.dealing.row_of.Given as goal
 

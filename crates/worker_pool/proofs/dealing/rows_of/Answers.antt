@@ -1,8 +1,4 @@
-use Rattle.std.proofs.Common.{◌∷◌, [], arith, ap, length, length-append, Vec, Global, ℕ}
-use Rattle.std.proofs.lemmas.List.Elements.{All-push, All-same}
-use Rattle.crossbeam_deque.specs.Handles.{Pass}
-use Rattle.worker_pool.specs.declared.rule.Deal.{Deal}
-use Rattle.worker_pool.specs.Inner.Dealing.{IsNewRow}
+use Rattle.worker_pool.proofs.Common.{◌∷◌, [], arith, ap, length, length-append, Vec, Global, ℕ, All-push, All-same, Pass, Deal, IsNewRow}
 use Rattle.worker_pool.proofs.Dealt.{less_more, row_before}
 use Rattle.worker_pool.proofs.dealing.rows_of.Goals as goal
 

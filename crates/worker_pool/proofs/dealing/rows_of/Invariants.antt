@@ -1,5 +1,4 @@
-use Rattle.std.proofs.Common.{◌≡◌, All, length}
-use Rattle.worker_pool.specs.Inner.Dealing.{HaveLess, IsNewRow}
+use Rattle.worker_pool.proofs.Common.{◌≡◌, All, length, HaveLess, IsNewRow}
 use Rattle.worker_pool.proofs.dealing.rows_of.Given as goal
 
 -- the rows so far

@@ -1,4 +1,4 @@
-use Rattle.crossbeam_deque.specs.Handles.{worker_port, worker_view}
+use Rattle.worker_pool.proofs.Common.{worker_port, worker_view}
 use Rattle.worker_pool.proofs.Steps.{forks}
 use Rattle.worker_pool.proofs.ends.pass_of.Goals as goal
 

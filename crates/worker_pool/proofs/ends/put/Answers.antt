@@ -1,5 +1,4 @@
-use Rattle.crossbeam_deque.specs.Handles.{worker_port, worker_view}
-use Rattle.std.proofs.Common.{[], ◌∷◌}
+use Rattle.worker_pool.proofs.Common.{worker_port, worker_view, [], ◌∷◌}
 use Rattle.worker_pool.proofs.Steps.{pushes}
 use Rattle.worker_pool.proofs.ends.put.Goals as goal
 

@@ -1,6 +1,6 @@
-use Rattle.std.proofs.Common.{ℕ, ◌<◌, subst, sym, ap, min}
-use Rattle.crossbeam_deque.specs.Handles.{view, stealer_flavor}
-use Rattle.worker_pool.specs.declared.rule.Deal.{Deal}
+use Rattle.worker_pool.proofs.Common.{ℕ, ◌<◌, subst, sym, ap, view, Deal}
+use Rattle.std.proofs.Common.{min}
+use Rattle.crossbeam_deque.specs.Handles.{stealer_flavor}
 use Rattle.worker_pool.proofs.Steps.{takes, finds_few}
 use Rattle.worker_pool.proofs.ends.steal.Goals as goal
 

@@ -1,5 +1,4 @@
-use Rattle.std.proofs.Common.{◌≡◌}
-use Rattle.crossbeam_deque.specs.Handles.{view, SamePass}
+use Rattle.worker_pool.proofs.Common.{◌≡◌, view, SamePass}
 use Rattle.worker_pool.proofs.ends.steal.Given as goal
 
 abbrev pub invariant-loop : goal.invariant-loop

@@ -1,4 +1,4 @@
-use Rattle.crossbeam_deque.specs.Handles.{worker_port, worker_view, view}
+use Rattle.worker_pool.proofs.Common.{worker_port, worker_view, view}
 use Rattle.worker_pool.proofs.Steps.{merges}
 use Rattle.worker_pool.proofs.ends.take_back.Goals as goal
 

@@ -1,4 +1,4 @@
-use Rattle.crossbeam_deque.specs.Handles.{worker_port, worker_view}
+use Rattle.worker_pool.proofs.Common.{worker_port, worker_view}
 use Rattle.worker_pool.proofs.Steps.{takes, finds}
 use Rattle.worker_pool.proofs.ends.take_own.Goals as goal
 

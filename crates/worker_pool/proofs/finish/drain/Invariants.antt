@@ -1,7 +1,4 @@
-use Rattle.std.proofs.Common.{ℕ, ◌≡◌, ◌+◌}
-use Rattle.crossbeam_deque.specs.Handles.{worker_view, worker_flavor}
-use Rattle.worker_pool.specs.declared.rule.TheConstants.{ALL_PARTS}
-use Rattle.worker_pool.specs.Counting.{times}
+use Rattle.worker_pool.proofs.Common.{ℕ, ◌≡◌, ◌+◌, worker_view, worker_flavor, ALL_PARTS, times}
 use Rattle.worker_pool.proofs.finish.drain.Given as goal
 
 -- what was taken so far is in the list

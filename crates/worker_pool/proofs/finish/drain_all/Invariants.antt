@@ -1,7 +1,4 @@
-use Rattle.std.proofs.Common.{◌≡◌, ◌+◌, ◌++◌, ℕ, length}
-use Rattle.std.specs.Vec.Iter.{into_iter_items, into_iter_len}
-use Rattle.worker_pool.specs.Counting.{times}
-use Rattle.worker_pool.specs.Inner.Ends.{owners_dealt, owners_took}
+use Rattle.worker_pool.proofs.Common.{◌≡◌, ◌+◌, ◌++◌, ℕ, length, into_iter_items, into_iter_len, times, owners_dealt, owners_took}
 use Rattle.worker_pool.proofs.finish.drain_all.Given as goal
 
 -- of the owners so far, all that was dealt was taken or is in the list

@@ -1,6 +1,6 @@
-use Rattle.std.proofs.Common.{arith}
-use Rattle.worker_pool.proofs.finish.take_row_back.Goals as goal
+use Rattle.worker_pool.proofs.Common.{arith}
 use Rattle.worker_pool.proofs.Returning.{taking_more, taking_starts}
+use Rattle.worker_pool.proofs.finish.take_row_back.Goals as goal
 
 pub loop-pass-init : goal.loop-pass-init
 loop-pass-init c = taking_starts c.args.owners.now.items c.args.row.items c.requires.guests c.requires.whole

@@ -1,7 +1,4 @@
-use Rattle.std.proofs.Common.{◌≡◌, ◌+◌, ◌++◌, ℕ, length}
-use Rattle.std.specs.Vec.Iter.{into_iter_items, into_iter_len}
-use Rattle.worker_pool.specs.Inner.Ends.{HaveMore, owners_took}
-use Rattle.worker_pool.specs.Inner.Finishing.{rows_stole}
+use Rattle.worker_pool.proofs.Common.{◌≡◌, ◌+◌, ◌++◌, ℕ, length, into_iter_items, into_iter_len, HaveMore, owners_took, rows_stole}
 use Rattle.worker_pool.proofs.finish.take_rows_back.Given as goal
 
 -- the rows so far are given back

@@ -1,4 +1,4 @@
-use Rattle.std.proofs.Common.{arith, length}
+use Rattle.worker_pool.proofs.Common.{arith, length}
 use Rattle.std.proofs.lemmas.Result.{on_ok_weaker}
 use Rattle.worker_pool.proofs.Draining.{all_fifo, all_parts, same_dealt}
 use Rattle.worker_pool.proofs.finish.take_what_is_left.Goals as goal

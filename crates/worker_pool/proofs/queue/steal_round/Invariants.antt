@@ -1,4 +1,5 @@
-use Rattle.worker_pool.specs.Inner.Ends.{AreAtEach, stolen, HadSame}
+use Rattle.worker_pool.proofs.Common.{AreAtEach, stolen}
+use Rattle.worker_pool.specs.Inner.Ends.{HadSame}
 use Rattle.worker_pool.proofs.queue.steal_round.Given as goal
 
 -- no deque gave a caller so far

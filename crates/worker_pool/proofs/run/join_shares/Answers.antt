@@ -1,8 +1,5 @@
-use Rattle.std.proofs.Common.{◌∙◌, map, flat_map, ap, arith, length}
-use Rattle.std.proofs.lemmas.Result.{IfOk-from_err}
-use Rattle.std.specs.Vec.Iter.{into_iter_items}
-use Rattle.worker_pool.specs.declared.worker.Share.{Share}
-use Rattle.worker_pool.proofs.Yielded.{all_given, one_given, made_push, joined_push}
+use Rattle.worker_pool.proofs.Common.{◌∙◌, map, flat_map, ap, arith, length, into_iter_items, Share}
+use Rattle.worker_pool.proofs.Yielded.{all_given, next_given, made_push, joined_push}
 use Rattle.worker_pool.proofs.run.join_shares.Goals as goal
 
 pub loop-share-preserved : goal.loop-share-preserved
@@ -13,21 +10,18 @@ loop-share-preserved c =
     let steps = c.in-Some.ensures.steps in
     let e = c.in_ok-add_share.ensures in
     record {
-      all_come = one_given at.yielded (into_iter_items at.share-iterator) (into_iter_items c.next.new.self) _ w steps.0 i.all_come;
+      all_come = next_given at.yielded steps.0 i.all_come;
       left = omega (arith, i.left, steps.1, ap length steps.0);
       passes = made_push (λ (share : Share). share.pass) at.yielded at.passes.items c.add_share.new.passes.items w e.pass i.passes;
       done = joined_push (λ (share : Share). share.done.items) at.yielded at.all.items c.add_share.new.all.items w e.done i.done;
     }
-
-pub returns-in_err-add_share : goal.returns-in_err-add_share
-returns-in_err-add_share c = let failed = c.from_residual-in_err-add_share.ensures.0 in search IfOk-from_err
 
 pub returns : goal.returns
 returns c =
     let at = c.loop-share in
     let i = at.invariant in
     let whole = i.all_come ∙ c.into_iter-share-iterator.ensures.into_iter_gives.0 in
-    let all = all_given at.yielded (into_iter_items at.share-iterator) c.args.shares.items (omega (arith, i.left, c.in-None.ensures.steps.0)) whole in
+    let all = all_given (into_iter_items at.share-iterator) (omega (arith, i.left, c.in-None.ensures.steps.0)) whole in
     record {
       passes = i.passes ∙ ap (map (λ (share : Share). share.pass)) all;
       done = i.done ∙ ap (flat_map (λ (share : Share). share.done.items)) all;

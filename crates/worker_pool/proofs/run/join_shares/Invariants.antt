@@ -1,6 +1,4 @@
-use Rattle.std.proofs.Common.{◌≡◌, ◌++◌, map, flat_map, length}
-use Rattle.std.specs.Vec.Iter.{into_iter_items, into_iter_len}
-use Rattle.worker_pool.specs.declared.worker.Share.{Share}
+use Rattle.worker_pool.proofs.Common.{◌≡◌, ◌++◌, map, flat_map, length, into_iter_items, into_iter_len, Share}
 use Rattle.worker_pool.proofs.run.join_shares.Given as goal
 
 -- what the shares so far have is put together

@@ -1,16 +1,14 @@
-use Rattle.std.proofs.Common.{◌≡◌, ◌++◌, All, map, length, false}
-use Rattle.std.specs.Vec.Iter.{into_iter_items, into_iter_len}
-use Rattle.worker_pool.specs.declared.worker.Worker.{Worker}
-use Rattle.worker_pool.specs.Inner.Workers.{workers_of}
+use Rattle.worker_pool.proofs.Common.{◌≡◌, ◌++◌, map, length, reverse, into_iter_items, into_iter_len, worker_of}
 use Rattle.worker_pool.proofs.run.results_of.Given as goal
 
--- the workers so far found memory, and what they had is put together
-abbrev pub invariant-loop-worker : goal.invariant-loop-worker
-invariant-loop-worker l = record {
-  all_come : l.yielded ++ into_iter_items l.worker-iterator ≡ into_iter_items l.initial.worker-iterator;
-  left : into_iter_len l.worker-iterator ≡ length (into_iter_items l.worker-iterator);
-  none_failed : All (λ (worker : Worker). worker.failed ≡ false) (workers_of l.yielded);
-  owners : l.all.owners.items ≡ map (λ (worker : Worker). worker.queue.own) (workers_of l.yielded);
-  rows : l.all.rows.items ≡ map (λ (worker : Worker). worker.queue.passes) (workers_of l.yielded);
-  shares : l.all.shares.items ≡ map (λ (worker : Worker). worker.share) (workers_of l.yielded);
+-- what the workers so far had is put together, and the rest of the passes is turned round
+abbrev pub invariant-loop-client : goal.invariant-loop-client
+invariant-loop-client g l = record {
+  all_come : l.yielded ++ into_iter_items l.client-iterator ≡ into_iter_items l.initial.client-iterator;
+  left : into_iter_len l.client-iterator ≡ length (into_iter_items l.client-iterator);
+  level : length l.passes.items ≡ into_iter_len l.client-iterator;
+  owners : l.all.owners.items ≡ map (λ client. (worker_of client.worker).queue.own) l.yielded;
+  rows : l.all.rows.items ≡ map (λ client. (worker_of client.worker).queue.passes) l.yielded;
+  passes : map (λ share. share.pass) l.all.shares.items ++ reverse l.passes.items ≡ l.fn.passes.items;
+  done : map (λ share. share.done.items) l.all.shares.items ≡ map (λ client. (worker_of client.worker).done.items) l.yielded;
 }

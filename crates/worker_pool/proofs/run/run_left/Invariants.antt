@@ -1,9 +1,5 @@
-use Rattle.std.proofs.Common.{◌≡◌, ◌+◌, ◌*◌, ◌++◌, ◌≤◌, ℕ, length}
-use Rattle.std.specs.Vec.Iter.{into_iter_items, into_iter_len}
-use Rattle.script_reader.specs.declared.limits.TheConstants.{MOST_CALLERS, MOST_SCRIPTS}
-use Rattle.worker_pool.specs.Counting.{times}
-use Rattle.worker_pool.specs.Inner.Makers.{HasMade, RunsEach}
-use Rattle.worker_pool.specs.Inner.Workers.{seat_of}
+use Rattle.worker_pool.proofs.Common.{◌≡◌, ◌+◌, ◌*◌, ◌++◌, ◌≤◌, ℕ, length, into_iter_items, into_iter_len, MOST_CALLERS, MOST_SCRIPTS, times, HasMade, RunsEach}
+use Rattle.worker_pool.proofs.Common.{seat_of}
 use Rattle.worker_pool.proofs.run.run_left.Given as goal
 
 -- the callers so far were run

@@ -1,4 +1,4 @@
-use Rattle.std.proofs.Common.{arith}
+use Rattle.worker_pool.proofs.Common.{arith}
 use Rattle.worker_pool.proofs.Rooms.{few_scripts}
 use Rattle.worker_pool.proofs.Running.{runs_caller}
 use Rattle.worker_pool.proofs.worker.run_caller.Goals as goal
@@ -8,4 +8,4 @@ run_scripts-requires-clause-room g c = omega (arith, c.requires.room, few_script
 
 pub returns-in_ok-run_scripts-clause-run : goal.returns-in_ok-run_scripts-clause-run
 returns-in_ok-run_scripts-clause-run g c = λ h more one.
-    runs_caller c.args.work.now.input.now h more c.args.caller one c.args.share.now.done.items c.run_scripts.new.done.items (c.in_ok-run_scripts.ensures.run h)
+    runs_caller c.args.work.now.input.now h more c.args.caller one c.args.done.now.items c.run_scripts.new.done.items (c.in_ok-run_scripts.ensures.run h)

@@ -1,14 +1,7 @@
-use Rattle.std.proofs.Common.{◌≡◌, ℕ, ◌+◌, List, slice_index, refl, sym, ap, ◌∙◌, subst}
-use Rattle.script_reader.specs.Gathered.{script_at}
+use Rattle.worker_pool.proofs.Common.{◌≡◌, ℕ, ◌+◌, List, slice_index, refl, sym, ap, ◌∙◌, subst, script_at, IsGood, number, BooksShape, words_of, ScriptMeans}
+use Rattle.worker_pool.proofs.Common.{IsGoodFor, GetsEntry, Done}
+use Rattle.txn_books.proofs.Common.{ScriptOn}
 use Rattle.books_model.specs.declared.script.Part.{Part}
-use Rattle.history_model.specs.Fitting.{IsGood}
-use Rattle.history_model.specs.Views.{number}
-use Rattle.txn_books.specs.declared.shape.BooksShape.{BooksShape}
-use Rattle.txn_books.specs.Layout.{words_of}
-use Rattle.txn_books.specs.Meaning.{ScriptMeans, ScriptOn}
-use Rattle.txn_books.specs.Standing.{IsGoodFor}
-use Rattle.txn_commit.specs.Transactions.{GetsEntry}
-use Rattle.worker_pool.specs.Days.{Done}
 use Rattle.worker_pool.proofs.Making.{made_more}
 use Rattle.worker_pool.proofs.worker.run_script.Goals as goal
 

@@ -1,6 +1,4 @@
-use Rattle.std.proofs.Common.{nat_lt, sym, ap, ◌∙◌}
-use Rattle.std.specs.Cmp.{nat_cmp_total}
-use Rattle.std.specs.List.{slice_get}
+use Rattle.books_model.proofs.Common.{nat_lt, sym, ap, ◌∙◌, nat_cmp_total, slice_get}
 use Rattle.books_model.proofs.Maps.Keys.{is_lt-nat_cmp}
 use Rattle.books_model.proofs.Maps.Above.{first_above, least_number_above, no_number_above}
 use Rattle.books_model.proofs.books.Books.account_after.Goals as goal

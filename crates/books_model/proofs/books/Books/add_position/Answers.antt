@@ -1,11 +1,8 @@
-use Rattle.std.proofs.Common.{◌≡◌, ◌≤◌, ap, subst, sym, ◌∙◌, arith}
-use Rattle.books_model.specs.Books.{put_quantity, used}
-use Rattle.books_model.specs.Ranges.{AreInRange}
-use Rattle.books_model.specs.contracts.books.Books.{the_view}
+use Rattle.books_model.proofs.Common.{◌≡◌, ◌≤◌, ap, subst, sym, ◌∙◌, arith, put_quantity, used, AreInRange, the_view}
 use Rattle.books_model.proofs.Maps.Trees.{from_entries-inserted, positions_total, exact_positions}
 use Rattle.books_model.proofs.InRange.{put_quantity-in_range, used_after_position}
-use Rattle.books_model.proofs.books.Books.add_position.Goals as goal
 use Rattle.books_model.proofs.books.Books.add_position.Goals.{In_ok-insert}
+use Rattle.books_model.proofs.books.Books.add_position.Goals as goal
 
 -- the fields after the insertion show the books with the position
 view_after : (c : In_ok-insert) → the_view (record c.self.inside { positions = c.insert.new.self })

@@ -1,13 +1,8 @@
-use Rattle.std.proofs.Common.{◌≡◌, ◌≤◌, ap, subst, sym, ◌∙◌, arith}
-use Rattle.std.specs.Cmp.{nat_cmp_total}
-use Rattle.std.proofs.lemmas.Map.Lookups.{exact_unsigned}
-use Rattle.books_model.specs.Books.{put_price, used}
-use Rattle.books_model.specs.Ranges.{AreInRange}
-use Rattle.books_model.specs.contracts.books.Books.{the_view}
+use Rattle.books_model.proofs.Common.{◌≡◌, ◌≤◌, ap, subst, sym, ◌∙◌, arith, nat_cmp_total, exact_unsigned, put_price, used, AreInRange, the_view}
 use Rattle.books_model.proofs.Maps.Trees.{from_entries-inserted}
 use Rattle.books_model.proofs.InRange.{put_price-in_range, used_after_price}
-use Rattle.books_model.proofs.books.Books.add_price.Goals as goal
 use Rattle.books_model.proofs.books.Books.add_price.Goals.{In_ok-insert}
+use Rattle.books_model.proofs.books.Books.add_price.Goals as goal
 
 -- the fields after the insertion show the books with the price
 view_after : (c : In_ok-insert) → the_view (record c.self.inside { prices = c.insert.new.self }) ≡ put_price c.args.self.now c.args.instrument c.args.price

@@ -1,7 +1,6 @@
-use Rattle.std.proofs.Common.{sym, ap, ◌∙◌}
-use Rattle.std.specs.FinMap as map
-use Rattle.std.specs.Cmp.{nat_cmp_total}
+use Rattle.books_model.proofs.Common.{sym, ap, ◌∙◌, nat_cmp_total}
 use Rattle.books_model.proofs.Maps.Trees.{get-lookup}
+use Rattle.std.specs.FinMap as map
 use Rattle.books_model.proofs.books.Books.cash.Goals as goal
 
 pub returns : goal.returns

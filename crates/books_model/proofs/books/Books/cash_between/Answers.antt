@@ -1,7 +1,4 @@
-use Rattle.std.proofs.Common.{ap, subst, arith}
-use Rattle.std.specs.List.{sum_by}
-use Rattle.std.proofs.lemmas.List.Sums.{sum_by-cons}
-use Rattle.books_model.specs.Ranges.{AreInRange}
+use Rattle.books_model.proofs.Common.{ap, subst, arith, sum_by, sum_by-cons, AreInRange}
 use Rattle.books_model.proofs.Sums.{range_cash, cash-fits}
 use Rattle.books_model.proofs.books.Books.cash_between.Goals as goal
 

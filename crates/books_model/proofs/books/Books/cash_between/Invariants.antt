@@ -1,6 +1,4 @@
-use Rattle.std.proofs.Common.{◌≡◌, ◌+◌}
-use Rattle.std.specs.List.{sum_by}
-use Rattle.books_model.specs.Interpreter.{cash_between}
+use Rattle.books_model.proofs.Common.{◌≡◌, ◌+◌, sum_by, cash_between}
 use Rattle.books_model.proofs.books.Books.cash_between.Given as goal
 
 -- the total so far and the cash of the accounts that are left are the whole

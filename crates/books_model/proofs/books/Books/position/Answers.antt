@@ -1,6 +1,6 @@
-use Rattle.std.proofs.Common.{sym, ap, ◌∙◌}
-use Rattle.std.specs.FinMap as map
+use Rattle.books_model.proofs.Common.{sym, ap, ◌∙◌}
 use Rattle.books_model.proofs.Maps.Trees.{get-lookup, positions_total}
+use Rattle.std.specs.FinMap as map
 use Rattle.books_model.proofs.books.Books.position.Goals as goal
 
 pub returns : goal.returns

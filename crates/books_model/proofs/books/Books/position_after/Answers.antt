@@ -1,8 +1,5 @@
-use Rattle.std.proofs.Common.{ℕ, Option, sym, ap, refl, ◌∙◌}
-use Rattle.std.specs.List.{slice_get}
+use Rattle.books_model.proofs.Common.{ℕ, Option, sym, ap, refl, ◌∙◌, slice_get, is_lt, position_cmp}
 use Rattle.std.specs.Option.{option_map}
-use Rattle.std.specs.Ordering.{is_lt}
-use Rattle.books_model.specs.Books.{position_cmp}
 use Rattle.books_model.proofs.Maps.Trees.{positions_total}
 use Rattle.books_model.proofs.Maps.Above.{first_above, least_above, none_above}
 use Rattle.books_model.proofs.books.Books.position_after.Goals as goal

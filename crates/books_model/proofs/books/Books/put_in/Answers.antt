@@ -1,16 +1,11 @@
-use Rattle.std.proofs.Common.{◌≡◌, ℕ, List, ◌++◌, drop, sym, ap, subst, ◌∙◌}
-use Rattle.std.specs.Cmp.{nat_cmp_total}
-use Rattle.std.specs.Ordering.{nat_cmp}
-use Rattle.std.specs.FinMap as map
-use Rattle.std.proofs.lemmas.Map.Lookups.{exact_unsigned}
-use Rattle.books_model.specs.Books.{ClearingBooks, position_cmp}
-use Rattle.books_model.specs.Ranges.{AreInRange}
-use Rattle.books_model.specs.Inner.Changes.{AreChangesOf, changed, changed_books}
-use Rattle.books_model.specs.contracts.books.Books.{the_view}
+use Rattle.books_model.proofs.Common.{◌≡◌, ℕ, List, ◌++◌, drop, sym, ap, subst, ◌∙◌, nat_cmp_total, nat_cmp, exact_unsigned, ClearingBooks, position_cmp}
+use Rattle.books_model.proofs.Common.{AreInRange, changed, changed_books, the_view}
+use Rattle.books_model.specs.Inner.Changes.{AreChangesOf}
 use Rattle.books_model.proofs.Maps.Trees.{positions_total, exact_positions}
 use Rattle.books_model.proofs.Maps.Changes.{changed-roomier}
-use Rattle.books_model.proofs.books.Books.put_in.Goals as goal
 use Rattle.books_model.proofs.books.Books.put_in.Goals.{After-make_all_room, After-take_back-in-Err-2, After-drop_front}
+use Rattle.std.specs.FinMap as map
+use Rattle.books_model.proofs.books.Books.put_in.Goals as goal
 
 -- books with other maps and another queue
 abbrev with_parts : ClearingBooks → map.FinMap nat_cmp ℕ → map.FinMap position_cmp ℕ → map.FinMap nat_cmp ℕ → List (ℕ × ℕ) → ClearingBooks

@@ -1,10 +1,7 @@
-use Rattle.std.proofs.Common.{◌≡◌, ◌+◌, ap, ◌∙◌, arith}
-use Rattle.std.specs.Cmp.{nat_cmp_total}
-use Rattle.books_model.specs.Books.{used}
-use Rattle.books_model.specs.contracts.books.Books.{the_view}
+use Rattle.books_model.proofs.Common.{◌≡◌, ◌+◌, ap, ◌∙◌, arith, nat_cmp_total, used, the_view}
 use Rattle.books_model.proofs.Maps.Trees.{len-from_entries, positions_total}
-use Rattle.books_model.proofs.books.Books.used.Goals as goal
 use Rattle.books_model.proofs.books.Books.used.Goals.{After-len-3}
+use Rattle.books_model.proofs.books.Books.used.Goals as goal
 
 -- the lengths of the three maps are those of the view
 sum_is_used : (c : After-len-3) → c.len.result + c.len-2.result + c.len-3.result ≡ used (the_view c.self.inside)

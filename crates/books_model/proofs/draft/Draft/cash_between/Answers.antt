@@ -1,10 +1,7 @@
-use Rattle.std.proofs.Common.{◌≡◌, ◌+◌, ◌^◌, ◌<◌, ◌≤◌, ℕ, refl, ap, arith}
-use Rattle.books_model.specs.Books.{ClearingBooks}
-use Rattle.books_model.specs.Interpreter.{cash_between}
-use Rattle.books_model.specs.Inner.Changes.{changed_books, before_between, now_between}
+use Rattle.books_model.proofs.Common.{◌≡◌, ◌+◌, ◌^◌, ◌<◌, ◌≤◌, ℕ, refl, ap, arith, ClearingBooks, cash_between, changed_books, before_between, now_between}
 use Rattle.books_model.proofs.Sums.{before_between-le, cash_changed, cash-fits, none_between}
-use Rattle.books_model.proofs.draft.Draft.cash_between.Goals as goal
 use Rattle.books_model.proofs.draft.Draft.cash_between.Goals.{After-self}
+use Rattle.books_model.proofs.draft.Draft.cash_between.Goals as goal
 
 -- the books after the changes
 abbrev so_far : After-self → ClearingBooks

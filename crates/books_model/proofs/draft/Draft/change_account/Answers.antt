@@ -1,12 +1,8 @@
-use Rattle.std.proofs.Common.{◌≡◌, ◌<◌, IsSome, sym, ap, subst, ◌∙◌}
-use Rattle.std.specs.FinMap as map
-use Rattle.books_model.specs.Books.{ClearingBooks, used}
-use Rattle.books_model.specs.Ranges.{AreInRange}
-use Rattle.books_model.specs.Inner.Changes.{changed_books}
-use Rattle.books_model.specs.Inner.Draft.{set_account}
+use Rattle.books_model.proofs.Common.{◌≡◌, ◌<◌, IsSome, sym, ap, subst, ◌∙◌, ClearingBooks, used, AreInRange, changed_books, set_account}
 use Rattle.books_model.proofs.Drafts.{used_account, account_is_used, counted}
-use Rattle.books_model.proofs.draft.Draft.change_account.Goals as goal
 use Rattle.books_model.proofs.draft.Draft.change_account.Goals.{In_ok-note_change}
+use Rattle.std.specs.FinMap as map
+use Rattle.books_model.proofs.draft.Draft.change_account.Goals as goal
 
 -- the books after the changes so far
 abbrev so_far : In_ok-note_change → ClearingBooks
@@ -28,9 +24,10 @@ count_after-self-inside-requires-clause-least c =
 
 pub invariant_of-self-2 : goal.invariant_of-self-2
 invariant_of-self-2 c =
+    let here = (goal.at.invariant_of-self-2 c).In_ok-note_change in
     let books = c.self.inside.books.now in
     let known = c.in_ok-note_change.ensures.known books.accounts
-    (sym (was_there (goal.at.invariant_of-self-2 c).In_ok-note_change)) c.self.invariant.known.accounts in
+    (sym (was_there here)) c.self.invariant.known.accounts in
     record {
       before = c.self.invariant.before;
       known = record {
@@ -41,14 +38,14 @@ invariant_of-self-2 c =
         taken = c.self.invariant.known.taken;
       };
       counted = counted c.count_after-self-inside.result c.self.inside.used _
-          (used (so_far (goal.at.invariant_of-self-2 c).In_ok-note_change)) c.args.was _ c.args.now
-          (was_there (goal.at.invariant_of-self-2 c).In_ok-note_change) c.self.invariant.counted
-          c.count_after-self-inside.ensures (used_account (so_far (goal.at.invariant_of-self-2 c).In_ok-note_change)
-          c.args.account c.args.now) ∙ ap used (sym (after (goal.at.invariant_of-self-2 c).In_ok-note_change));
-      after = subst AreInRange (sym (after (goal.at.invariant_of-self-2 c).In_ok-note_change
-          ∙ ap (λ d. set_account d.after (goal.at.invariant_of-self-2 c).In_ok-note_change.args.account c.args.now) c.self.view_is)) c.requires.range;
+          (used (so_far here)) c.args.was _ c.args.now
+          (was_there here) c.self.invariant.counted
+          c.count_after-self-inside.ensures (used_account (so_far here)
+          c.args.account c.args.now) ∙ ap used (sym (after here));
+      after = subst AreInRange (sym (after here
+          ∙ ap (λ d. set_account d.after c.args.account c.args.now) c.self.view_is)) c.requires.range;
     }
 
 pub returns-clause-ok : goal.returns-clause-ok
 returns-clause-ok c = after (goal.at.returns-clause-ok c).In_ok-note_change
-    ∙ ap (λ d. set_account d.after (goal.at.returns-clause-ok c).In_ok-note_change.args.account c.args.now) c.self.view_is
+    ∙ ap (λ d. set_account d.after c.args.account c.args.now) c.self.view_is

@@ -1,8 +1,8 @@
-use Rattle.std.proofs.Common.{ℕ, is_some, not, sym, ap, ◌∙◌}
-use Rattle.std.specs.FinMap as map
+use Rattle.books_model.proofs.Common.{ℕ, is_some, not, sym, ap, ◌∙◌}
 use Rattle.books_model.proofs.Drafts.{room_left, put_position-apart}
-use Rattle.books_model.proofs.draft.Draft.exchange.Goals as goal
 use Rattle.books_model.proofs.draft.Draft.exchange.Goals.{else-is_none-via-then-is_none+else-is_full, else-is_none-via-else-is_none}
+use Rattle.std.specs.FinMap as map
+use Rattle.books_model.proofs.draft.Draft.exchange.Goals as goal
 
 -- the buyer holds what it held after the seller's position is lowered
 pub set_quantity-requires-2-clause-was : goal.set_quantity-requires-2-clause-was

@@ -1,9 +1,7 @@
-use Rattle.std.proofs.Common.{◌≡◌, None, sym, ap, subst, ◌∙◌, inl, inr, arith}
-use Rattle.std.specs.FinMap as map
-use Rattle.std.proofs.lemmas.Bool.{cases_lt}
-use Rattle.books_model.specs.Ranges.{AreInRange}
+use Rattle.books_model.proofs.Common.{◌≡◌, None, sym, ap, subst, ◌∙◌, inl, inr, arith, cases_lt, AreInRange}
 use Rattle.books_model.proofs.Maps.Comparing.{none_of}
 use Rattle.books_model.proofs.Sums.{holds_nothing, holds_one}
+use Rattle.std.specs.FinMap as map
 use Rattle.books_model.proofs.draft.Draft.holds_any.Goals as goal
 
 pub returns-then-is_some : goal.returns-then-is_some

@@ -1,4 +1,4 @@
-use Rattle.std.proofs.Common.{◌≡◌, ℕ, ◌<◌, ◌≤◌, None}
+use Rattle.books_model.proofs.Common.{◌≡◌, ℕ, ◌<◌, ◌≤◌, None}
 use Rattle.std.specs.FinMap as map
 use Rattle.books_model.proofs.draft.Draft.holds_any.Given as goal
 

@@ -1,4 +1,4 @@
-use Rattle.std.proofs.Common.{arith}
+use Rattle.books_model.proofs.Common.{arith}
 use Rattle.books_model.proofs.draft.Draft.move_cash.Goals as goal
 
 pub pay-requires-clause-apart : goal.pay-requires-clause-apart

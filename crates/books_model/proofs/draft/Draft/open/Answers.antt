@@ -1,8 +1,8 @@
-use Rattle.std.proofs.Common.{◌≡◌, None, sym, ◌∙◌, arith}
-use Rattle.std.specs.FinMap as map
+use Rattle.books_model.proofs.Common.{◌≡◌, None, sym, ◌∙◌, arith}
 use Rattle.books_model.proofs.InRange.{put_cash-in_range, used_after_insert}
 use Rattle.books_model.proofs.Drafts.{room_left}
 use Rattle.books_model.proofs.Maps.Comparing.{none_of}
+use Rattle.std.specs.FinMap as map
 use Rattle.books_model.proofs.draft.Draft.open.Goals as goal
 
 pub change_account-requires-clause-range : goal.change_account-requires-clause-range

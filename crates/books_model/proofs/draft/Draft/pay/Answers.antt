@@ -1,6 +1,6 @@
-use Rattle.std.proofs.Common.{ap, ◌∙◌}
-use Rattle.std.specs.FinMap as map
+use Rattle.books_model.proofs.Common.{ap, ◌∙◌}
 use Rattle.books_model.proofs.Drafts.{put_cash-apart}
+use Rattle.std.specs.FinMap as map
 use Rattle.books_model.proofs.draft.Draft.pay.Goals as goal
 
 -- the second account has its cash after the first one's has changed

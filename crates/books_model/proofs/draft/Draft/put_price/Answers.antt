@@ -1,5 +1,4 @@
-use Rattle.std.proofs.Common.{sym, subst, ◌∙◌}
-use Rattle.books_model.specs.Ranges.{IsWithin}
+use Rattle.books_model.proofs.Common.{sym, subst, ◌∙◌, IsWithin}
 use Rattle.books_model.proofs.Drafts.{priced-in_range}
 use Rattle.books_model.proofs.draft.Draft.put_price.Goals as goal
 

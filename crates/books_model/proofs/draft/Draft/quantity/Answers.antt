@@ -1,9 +1,8 @@
-use Rattle.std.proofs.Common.{◌≡◌, sym, ap, ◌∙◌}
-use Rattle.std.specs.FinMap as map
-use Rattle.books_model.specs.Inner.Changes.{changed_books}
+use Rattle.books_model.proofs.Common.{◌≡◌, sym, ap, ◌∙◌, changed_books}
 use Rattle.books_model.proofs.Drafts.{quantity-in_range}
-use Rattle.books_model.proofs.draft.Draft.quantity.Goals as goal
 use Rattle.books_model.proofs.draft.Draft.quantity.Goals.{In-Some}
+use Rattle.std.specs.FinMap as map
+use Rattle.books_model.proofs.draft.Draft.quantity.Goals as goal
 
 -- a changed quantity is that of the changed books
 is_held : (c : In-Some) → c.in-Some.change.now

@@ -1,11 +1,9 @@
-use Rattle.std.proofs.Common.{◌≡◌, ◌<◌, ◌++◌, ◌∷◌, [], length, drop, sym, ap, subst, ◌∙◌, arith, length-append}
-use Rattle.books_model.specs.Books.{ClearingBooks, put_call}
-use Rattle.books_model.specs.Ranges.{AreInRange}
-use Rattle.books_model.specs.Inner.Changes.{changed_books}
+use Rattle.books_model.proofs.Common.{◌≡◌, ◌<◌, ◌++◌, ◌∷◌, [], length, drop, sym, ap, subst, ◌∙◌, arith, length-append, ClearingBooks, put_call, AreInRange}
+use Rattle.books_model.proofs.Common.{changed_books}
 use Rattle.books_model.proofs.Queues.{drop-push}
 use Rattle.books_model.proofs.InRange.{put_call-in_range}
-use Rattle.books_model.proofs.draft.Draft.queue_call.Goals as goal
 use Rattle.books_model.proofs.draft.Draft.queue_call.Goals.{In_ok-push}
+use Rattle.books_model.proofs.draft.Draft.queue_call.Goals as goal
 
 -- the books after the changes so far
 abbrev so_far : In_ok-push → ClearingBooks

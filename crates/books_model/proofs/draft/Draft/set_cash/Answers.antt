@@ -1,4 +1,4 @@
-use Rattle.std.proofs.Common.{is_some, ap}
+use Rattle.books_model.proofs.Common.{is_some, ap}
 use Rattle.books_model.proofs.InRange.{change-in_range}
 use Rattle.books_model.proofs.draft.Draft.set_cash.Goals as goal
 

@@ -1,4 +1,4 @@
-use Rattle.std.proofs.Common.{sym, ◌∙◌, arith}
+use Rattle.books_model.proofs.Common.{sym, ◌∙◌, arith}
 use Rattle.books_model.proofs.Drafts.{unheld-in_range, held-in_range}
 use Rattle.books_model.proofs.draft.Draft.set_quantity.Goals as goal
 

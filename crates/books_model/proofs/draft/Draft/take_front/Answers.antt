@@ -1,12 +1,9 @@
-use Rattle.std.proofs.Common.{◌≡◌, ◌<◌, ◌+◌, ◌++◌, length, drop, sym, ap, subst, ◌∙◌, arith, length-append}
-use Rattle.std.proofs.lemmas.List.{length-drop}
-use Rattle.books_model.specs.Books.{ClearingBooks}
-use Rattle.books_model.specs.Ranges.{AreInRange}
-use Rattle.books_model.specs.Inner.Changes.{changed_books}
+use Rattle.books_model.proofs.Common.{◌≡◌, ◌<◌, ◌+◌, ◌++◌, length, drop, sym, ap, subst, ◌∙◌, arith, length-append, length-drop, ClearingBooks, AreInRange}
+use Rattle.books_model.proofs.Common.{changed_books}
 use Rattle.books_model.proofs.Queues.{drop-next}
 use Rattle.books_model.proofs.Drafts.{taken-in_range}
-use Rattle.books_model.proofs.draft.Draft.take_front.Goals as goal
 use Rattle.books_model.proofs.draft.Draft.take_front.Goals.{After-len}
+use Rattle.books_model.proofs.draft.Draft.take_front.Goals as goal
 
 -- the books after the changes so far
 abbrev so_far : After-len → ClearingBooks

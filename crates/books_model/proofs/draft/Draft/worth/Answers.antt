@@ -1,5 +1,4 @@
-use Rattle.std.proofs.Common.{◌≡◌, ◌+◌, ◌*◌, ◌≤◌, ℕ, Option, unwrap_or, sym, ap, subst, ◌∙◌, arith}
-use Rattle.books_model.specs.Ranges.{AreInRange}
+use Rattle.books_model.proofs.Common.{◌≡◌, ◌+◌, ◌*◌, ◌≤◌, ℕ, Option, unwrap_or, sym, ap, subst, ◌∙◌, arith, AreInRange}
 use Rattle.books_model.proofs.Sums.{most_worth, worth_below, worth_first, worth_next, worth_last, price_of_most}
 use Rattle.books_model.proofs.draft.Draft.worth.Goals as goal
 

@@ -1,4 +1,4 @@
-use Rattle.std.proofs.Common.{◌≡◌, ◌+◌, ◌*◌, ◌≤◌}
+use Rattle.books_model.proofs.Common.{◌≡◌, ◌+◌, ◌*◌, ◌≤◌}
 use Rattle.books_model.proofs.Sums.{most_worth, worth_below}
 use Rattle.books_model.proofs.draft.Draft.worth.Given as goal
 

@@ -1,7 +1,4 @@
-use Rattle.std.proofs.Common.{◌+◌, ◌∷◌, ◌++◌, [], length, refl, ap, ◌∙◌, arith}
-use Rattle.std.specs.Slice.Iter.{iter_rest}
-use Rattle.std.proofs.lemmas.List.{nil_from_length}
-use Rattle.books_report.specs.Stores.Interpreter.{run_from}
+use Rattle.books_report.proofs.Common.{◌+◌, ◌∷◌, ◌++◌, [], length, refl, ap, ◌∙◌, arith, iter_rest, nil_from_length, run_from}
 use Rattle.books_report.specs.Stores.Steps.{step_with}
 use Rattle.books_report.proofs.AnyStore.Runs.{after_values, after_values-none, ends, goes_on, is_absent, is_full}
 use Rattle.books_report.proofs.stores.plain.run_operations.Goals as goal

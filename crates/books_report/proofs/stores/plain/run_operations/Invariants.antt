@@ -1,6 +1,4 @@
-use Rattle.std.proofs.Common.{◌≡◌, ◌+◌, length}
-use Rattle.std.specs.Slice.Iter.{iter_rest}
-use Rattle.books_report.specs.Stores.Interpreter.{run_from}
+use Rattle.books_report.proofs.Common.{◌≡◌, ◌+◌, length, iter_rest, run_from}
 use Rattle.books_report.proofs.AnyStore.Runs.{after_values}
 use Rattle.books_report.proofs.stores.plain.run_operations.Given as goal
 

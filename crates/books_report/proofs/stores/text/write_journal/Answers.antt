@@ -1,11 +1,5 @@
-use Rattle.std.proofs.Common.{◌≡◌, ◌∷◌, length, List, All, ap, subst, arith}
-use Rattle.std.specs.Iterator.Adapters.{zip_first, zip_second}
-use Rattle.std.specs.Slice.Iter.{iter_rest}
-use Rattle.std.specs.String.{string_bytes}
-use Rattle.std.proofs.lemmas.List.Elements.{All-drop}
-use Rattle.books_report.specs.declared.line.Line.{Line}
-use Rattle.books_report.specs.Lines.{place_of_line, lent}
-use Rattle.script_reader.specs.Journal.{IsPlaceOf}
+use Rattle.books_report.proofs.Common.{◌≡◌, ◌∷◌, length, List, All, ap, subst, arith, zip_first, zip_second, iter_rest, string_bytes, All-drop, Line}
+use Rattle.books_report.proofs.Common.{place_of_line, lent, IsPlaceOf}
 use Rattle.books_report.proofs.AnyStore.Printing.{line_next}
 use Rattle.books_report.proofs.stores.text.write_journal.Goals as goal
 
@@ -22,7 +16,7 @@ loop-line-preserved g c =
       beside = omega (arith, c.loop-line.invariant.beside, ap (λ (ls : List Line). length ls) next, ap (λ rs. length rs) answered);
       places = All-drop (λ l. IsPlaceOf c.args.callers.now (place_of_line l)) 1 (c.in-Some.line.now ∷ left)
           (subst (λ ls. All (λ l. IsPlaceOf c.args.callers.now (place_of_line l)) ls) next c.loop-line.invariant.places);
-      text = line_next g.V.ToldValue.word c.args.callers.now _ (string_bytes c.loop-line.text) _ c.name-name.result.now c.loop-line.serial
-          lines left (lent replies) (lent others) c.in-Some.line.now c.in-Some.reply.now.now c.loop-line.invariant.text next (ap lent answered)
+      text = line_next g.V.ToldValue.word c.args.callers.now (string_bytes c.loop-line.text) c.loop-line.serial
+          c.loop-line.invariant.text next (ap lent answered)
           c.name-name.ensures c.in_ok-write_line.ensures;
     }

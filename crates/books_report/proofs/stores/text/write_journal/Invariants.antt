@@ -1,12 +1,6 @@
-use Rattle.std.proofs.Common.{◌≡◌, ◌+◌, ◌++◌, length, All}
-use Rattle.std.specs.Iterator.Adapters.{zip_first, zip_second}
-use Rattle.std.specs.Slice.Iter.{iter_rest}
-use Rattle.std.specs.String.{string_bytes}
-use Rattle.books_report.specs.Lines.{place_of_line, lent, scripts_of}
-use Rattle.script_reader.specs.Journal.{IsPlaceOf}
-use Rattle.books_report.specs.Journals.{journal_lines}
+use Rattle.books_report.proofs.Common.{◌≡◌, ◌+◌, ◌++◌, length, All, zip_first, zip_second, iter_rest, string_bytes, place_of_line, lent, scripts_of, IsPlaceOf}
+use Rattle.books_report.proofs.Common.{journal_lines, store_reply_words}
 use Rattle.books_report.proofs.stores.text.write_journal.Given as goal
-use Rattle.books_report.specs.Stores.Output.{store_reply_words}
 
 -- the text so far and the lines that are left are the whole
 abbrev pub invariant-loop-line : goal.invariant-loop-line

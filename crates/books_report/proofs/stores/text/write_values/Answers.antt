@@ -1,8 +1,4 @@
-use Rattle.std.proofs.Common.{◌++◌, sym, ap, ◌∙◌, append-nil}
-use Rattle.std.specs.Slice.Iter.{iter_rest}
-use Rattle.std.specs.String.{string_bytes}
-use Rattle.std.specs.List.{flat_map}
-use Rattle.std.proofs.lemmas.List.{nil_from_length}
+use Rattle.books_report.proofs.Common.{◌++◌, sym, ap, ◌∙◌, append-nil, iter_rest, string_bytes, flat_map, nil_from_length}
 use Rattle.books_report.proofs.Outputs.Journals.{piece_next, spaced}
 use Rattle.books_report.proofs.stores.text.write_values.Goals as goal
 

@@ -1,7 +1,4 @@
-use Rattle.std.proofs.Common.{◌≡◌, ◌++◌}
-use Rattle.std.specs.Slice.Iter.{iter_rest}
-use Rattle.std.specs.String.{string_bytes}
-use Rattle.std.specs.List.{flat_map}
+use Rattle.books_report.proofs.Common.{◌≡◌, ◌++◌, iter_rest, string_bytes, flat_map}
 use Rattle.books_report.proofs.Outputs.Journals.{spaced}
 use Rattle.books_report.proofs.stores.text.write_values.Given as goal
 

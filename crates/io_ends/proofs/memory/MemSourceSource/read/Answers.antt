@@ -1,5 +1,4 @@
-use Rattle.std.proofs.Common.{arith, ap, ◌∙◌, ◌≡◌, sym, take, drop}
-use Rattle.std.proofs.lemmas.Grind.{common_steps}
+use Rattle.io_ends.proofs.Common.{arith, ap, ◌∙◌, ◌≡◌, sym, take, drop, common_steps}
 use Rattle.io_ends.proofs.Pieces.{prefix_and_rest}
 use Rattle.io_ends.proofs.memory.MemSourceSource.read.Goals as goal
 

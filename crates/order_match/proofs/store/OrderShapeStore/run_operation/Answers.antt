@@ -1,5 +1,4 @@
-use Rattle.std.proofs.lemmas.Result.{IfOk-weaker}
-use Rattle.txn_stores.proofs.Turning.{leads_less}
+use Rattle.order_match.proofs.Common.{IfOk-weaker, leads_less}
 use Rattle.order_match.proofs.store.OrderShapeStore.run_operation.Goals as goal
 
 pub returns-in-Buy-clause-step : goal.returns-in-Buy-clause-step

@@ -1,16 +1,11 @@
-use Rattle.std.proofs.Common.{◌≡◌, List, sym, ap, ◌∙◌, subst}
-use Rattle.std.proofs.lemmas.Result.{IfOk-weaker}
-use Rattle.history_model.specs.Fitting.{IsGood}
-use Rattle.books_report.specs.Lines.{lent, scripts_of}
-use Rattle.books_report.specs.Stores.Output.{state_left}
-use Rattle.order_text.specs.declared.order.Resting.{Resting}
-use Rattle.order_text.specs.Output.{closing_of, order_store, text_of, AreByNumber}
+use Rattle.order_match.proofs.Common.{◌≡◌, List, sym, ap, ◌∙◌, subst, IfOk-weaker, Resting, order_store, OrderShape, words_of, IsGoodFor, Stands}
+use Rattle.word_table.proofs.Common.{IsGood}
+use Rattle.books_report.proofs.Common.{lent, scripts_of}
+use Rattle.txn_stores.proofs.Common.{state_left}
+use Rattle.order_text.specs.Output.{closing_of, text_of, AreByNumber}
 use Rattle.order_text.proofs.Closings.{pairs_rise}
-use Rattle.order_match.specs.declared.shape.OrderShape.{OrderShape}
-use Rattle.order_match.specs.Layout.{words_of}
-use Rattle.order_match.specs.Standing.{IsGoodFor, Stands}
-use Rattle.order_match.proofs.store.OrderShapeStore.text.Goals as goal
 use Rattle.order_match.proofs.store.OrderShapeStore.text.Goals.{After-deref}
+use Rattle.order_match.proofs.store.OrderShapeStore.text.Goals as goal
 
 pub orders_of_words-requires : goal.orders_of_words-requires
 orders_of_words-requires c = record {

@@ -1,8 +1,4 @@
-use Rattle.std.proofs.Common.{◌<◌, ◌/◌, ℕ, List, length, map, slice_index, sym, ap, ◌∙◌, subst}
-use Rattle.std.specs.List.Sorted.{IsNonDecreasing}
-use Rattle.order_rebuild.specs.declared.turn.Turn.{Turn}
-use Rattle.order_rebuild.specs.declared.turn.TheConstants.{LINE}
-use Rattle.order_rebuild.specs.Lines.{AreStarts, AreChains}
+use Rattle.order_rebuild.proofs.Common.{◌<◌, ◌/◌, ℕ, List, length, map, slice_index, sym, ap, ◌∙◌, subst, IsNonDecreasing, Turn, LINE, AreStarts, AreChains}
 use Rattle.order_rebuild.proofs.Rows.{items_within, codes_sorted, made}
 use Rattle.order_rebuild.proofs.lines.Lines.of.Goals as goal
 

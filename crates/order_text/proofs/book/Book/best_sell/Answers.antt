@@ -1,10 +1,6 @@
-use Rattle.std.proofs.Common.{ℕ, Option, false, rules, tests, sym, ap, ◌∙◌}
-use Rattle.std.specs.Option.{unwrap_or}
-use Rattle.std.proofs.lemmas.Iterator.{YieldsList-from_map, YieldsList-from_slice}
-use Rattle.std.proofs.lemmas.Iterator.Adapters.{option_map_id}
-use Rattle.std.proofs.lemmas.Iterator.Consumers.{YieldsList-at, YieldsList-from_filter, min_from_yields_List}
-use Rattle.order_text.specs.declared.order.Resting.{Resting}
-use Rattle.order_text.specs.Orders.{OrderBook, best_sell, is_on}
+use Rattle.order_text.proofs.Common.{ℕ, Option, false, rules, tests, sym, ap, ◌∙◌, unwrap_or, YieldsList-from_map, YieldsList-from_slice, option_map_id}
+use Rattle.order_text.proofs.Common.{YieldsList-at, YieldsList-from_filter, Resting, OrderBook, best_sell, is_on}
+use Rattle.std.proofs.lemmas.Iterator.Consumers.{min_from_yields_List}
 use Rattle.order_text.proofs.book.Book.best_sell.Goals as goal
 
 pub returns : goal.returns

@@ -1,12 +1,6 @@
-use Rattle.std.proofs.Common.{List, not, ◌==◌, Option, sym, ap, ◌∙◌, subst}
-use Rattle.order_text.specs.contracts.book.Book.{the_view}
-use Rattle.order_text.specs.declared.order.Resting.{Resting}
-use Rattle.order_text.specs.declared.reply.OrderValue.TheVariants as value
-use Rattle.books_report.specs.Stores.Interpreter.Step.{Gives}
-use Rattle.order_text.specs.Interpreter.{with_order}
-use Rattle.order_text.specs.Orders.{OrderBook, all_but}
-use Rattle.order_text.specs.Ranges.{HasRoom}
+use Rattle.order_text.proofs.Common.{List, not, ◌==◌, Option, sym, ap, ◌∙◌, subst, the_view, Resting, Gives, with_order, OrderBook, all_but, HasRoom}
 use Rattle.order_text.proofs.Rooms.{fewer_have_room}
+use Rattle.order_text.specs.declared.reply.OrderValue.TheVariants as value
 use Rattle.order_text.proofs.book.Book.cancel.Goals as goal
 
 -- the others are left

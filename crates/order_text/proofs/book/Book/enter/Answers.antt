@@ -1,12 +1,7 @@
-use Rattle.std.proofs.Common.{◌≡◌, ℕ, ◌+◌, ◌*◌, ◌≤◌, ◌&&◌, ◌++◌, List, length, nat_lt, false, refl, sym, ap, ◌∙◌, subst, arith}
-use Rattle.order_text.specs.contracts.book.Book.{the_view}
+use Rattle.order_text.proofs.Common.{◌≡◌, ℕ, ◌+◌, ◌≤◌, ◌&&◌, ◌++◌, List, length, nat_lt, false, refl, sym, ap, ◌∙◌, subst, arith, the_view, Resting, Trade}
+use Rattle.order_text.proofs.Common.{incoming, partners, rest_of, trades_down, OrderBook, blocks_of, HasRoom}
+use Rattle.std.proofs.Common.{◌*◌}
 use Rattle.order_text.specs.declared.limits.TheConstants.{MOST_BLOCKS}
-use Rattle.order_text.specs.declared.order.Resting.{Resting}
-use Rattle.order_text.specs.declared.reply.Trade.{Trade}
-use Rattle.order_text.specs.Interpreter.{incoming}
-use Rattle.order_text.specs.Matching.{partners, rest_of, trades_down}
-use Rattle.order_text.specs.Orders.{OrderBook, blocks_of}
-use Rattle.order_text.specs.Ranges.{HasRoom}
 use Rattle.order_text.proofs.Rooms.{entered_has_room, no_more_after}
 use Rattle.order_text.proofs.book.Book.enter.Goals as goal
 

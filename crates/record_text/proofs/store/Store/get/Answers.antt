@@ -1,7 +1,5 @@
-use Rattle.std.proofs.Common.{sym, ap, ◌∙◌}
+use Rattle.record_text.proofs.Common.{sym, ap, ◌∙◌, nat_cmp_total, get-lookup}
 use Rattle.std.specs.FinMap as finite
-use Rattle.std.specs.Cmp.{nat_cmp_total}
-use Rattle.books_model.proofs.Maps.Trees.{get-lookup}
 use Rattle.record_text.proofs.store.Store.get.Goals as goal
 
 pub returns : goal.returns

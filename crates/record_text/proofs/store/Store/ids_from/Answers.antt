@@ -1,10 +1,9 @@
-use Rattle.std.proofs.Common.{◌≡◌, ℕ, ◌<◌, ◌≤◌, [], ◌++◌, ◌∷◌, true, false, nat_le, sym, ap, ◌∙◌, arith, append-nil}
-use Rattle.std.specs.FinMap as finite
-use Rattle.std.proofs.lemmas.Bool.Decides.{nat_tests}
-use Rattle.books_model.proofs.Maps.Trees.{entries-from_entries, positions_total}
+use Rattle.record_text.proofs.Common.{◌≡◌, ℕ, ◌<◌, ◌≤◌, [], ◌++◌, ◌∷◌, true, false, nat_le, sym, ap, ◌∙◌, arith, append-nil, nat_tests, entries-from_entries}
+use Rattle.record_text.proofs.Common.{positions_total}
 use Rattle.record_text.proofs.Listing.{Entry, lists, listed, nothing_listed, passes_full, passes_low}
-use Rattle.record_text.proofs.store.Store.ids_from.Goals as goal
 use Rattle.record_text.proofs.store.Store.ids_from.Goals.{else-of-rank-via-then-of-rank+else-len-most, else-of-rank-via-else-of-rank}
+use Rattle.std.specs.FinMap as finite
+use Rattle.record_text.proofs.store.Store.ids_from.Goals as goal
 
 tests_true : (a b : ℕ) → a ≤ b → nat_le a b ≡ true
 tests_true a b le = grind (arith, nat_tests)

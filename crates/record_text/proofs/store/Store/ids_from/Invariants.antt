@@ -1,7 +1,6 @@
-use Rattle.std.proofs.Common.{List}
-use Rattle.std.specs.FinMap as finite
-use Rattle.record_text.specs.Records.{index_of}
+use Rattle.record_text.proofs.Common.{List, index_of}
 use Rattle.record_text.proofs.Listing.{Entry, IsListed}
+use Rattle.std.specs.FinMap as finite
 use Rattle.record_text.proofs.store.Store.ids_from.Given as goal
 
 -- of the index the earlier entries are listed

@@ -1,12 +1,7 @@
-use Rattle.std.proofs.Common.{[], ◌++◌, ◌∷◌, map, sym, ap, ◌∙◌, subst, append-nil}
-use Rattle.std.specs.FinMap as finite
-use Rattle.std.specs.Cmp.{nat_cmp_total}
-use Rattle.std.specs.Map.{keys_of}
-use Rattle.std.specs.List.Sorted.{IsStrictlySortedBy}
-use Rattle.std.specs.Ordering.{nat_cmp}
-use Rattle.books_model.proofs.Maps.Trees.{entries-from_entries}
-use Rattle.record_text.specs.Records.{index_cmp}
+use Rattle.record_text.proofs.Common.{[], ◌++◌, ◌∷◌, map, sym, ap, ◌∙◌, subst, append-nil, nat_cmp_total, keys_of, IsStrictlySortedBy, nat_cmp}
+use Rattle.record_text.proofs.Common.{entries-from_entries, index_cmp}
 use Rattle.record_text.proofs.Indexes.{one_more, place_of, Stored}
+use Rattle.std.specs.FinMap as finite
 use Rattle.record_text.proofs.store.Store.index.Goals as goal
 
 pub loop-id-init : goal.loop-id-init

@@ -1,6 +1,6 @@
-use Rattle.std.proofs.Common.{ℕ, List}
-use Rattle.std.specs.FinMap as finite
+use Rattle.record_text.proofs.Common.{ℕ, List}
 use Rattle.record_text.proofs.Indexes.{IsIndexed}
+use Rattle.std.specs.FinMap as finite
 use Rattle.record_text.proofs.store.Store.index.Given as goal
 
 -- the index has the records so far

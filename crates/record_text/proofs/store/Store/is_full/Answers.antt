@@ -1,5 +1,5 @@
-use Rattle.std.proofs.Common.{◌+◌, ◌*◌, nat_lt, sym, ap, ◌∙◌, arith}
-use Rattle.record_text.specs.Records.{is_store_full}
+use Rattle.record_text.proofs.Common.{◌*◌, sym, ap, ◌∙◌, arith, is_store_full}
+use Rattle.std.proofs.Common.{◌+◌, nat_lt}
 use Rattle.record_text.proofs.Rooms.{blocks_of_tree}
 use Rattle.record_text.proofs.store.Store.is_full.Goals as goal
 

@@ -1,16 +1,10 @@
-use Rattle.std.proofs.Common.{◌≡◌, Bool, true, false, not, ◌&&◌, refl, sym, ap, ◌∙◌, subst}
-use Rattle.std.specs.FinMap as finite
-use Rattle.std.specs.Cmp.{nat_cmp_total}
-use Rattle.std.proofs.lemmas.Map.Lookups.{exact_unsigned}
-use Rattle.books_model.proofs.Maps.Trees.{from_entries-inserted}
-use Rattle.record_text.specs.contracts.store.Store.{the_view}
-use Rattle.record_text.specs.Records.{RecordStore, is_store_full}
-use Rattle.record_text.specs.Ranges.{HasRoom}
-use Rattle.books_report.specs.Stores.Interpreter.Step.{Gives}
+use Rattle.record_text.proofs.Common.{◌≡◌, Bool, true, false, not, ◌&&◌, refl, sym, ap, ◌∙◌, subst, nat_cmp_total, exact_unsigned, from_entries-inserted}
+use Rattle.record_text.proofs.Common.{the_view, RecordStore, is_store_full, HasRoom, Gives}
 use Rattle.record_text.proofs.Puts.{contains_tree, has_room, is_put, lacks_blocks, put_value}
+use Rattle.record_text.proofs.store.Store.put.Goals.{Joined-is_there, then-is_there, else-is_there, else-not-is_there-via-then-not-is_there+else-is_full}
+use Rattle.record_text.proofs.store.Store.put.Goals.{else-not-is_there-via-else-not-is_there}
+use Rattle.std.specs.FinMap as finite
 use Rattle.record_text.proofs.store.Store.put.Goals as goal
-use Rattle.record_text.proofs.store.Store.put.Goals.{Joined-is_there, then-is_there, else-is_there}
-use Rattle.record_text.proofs.store.Store.put.Goals.{else-not-is_there-via-then-not-is_there+else-is_full, else-not-is_there-via-else-not-is_there}
 
 both : (b f : Bool) → b ≡ false → f ≡ true → (not b && f) ≡ true
 both true f e g = absurd (cc)

@@ -1,16 +1,10 @@
-use Rattle.std.proofs.Common.{◌≡◌, sym, ap, ◌∙◌, subst}
-use Rattle.std.specs.FinMap as finite
-use Rattle.std.specs.Cmp.{nat_cmp_total}
-use Rattle.books_model.proofs.Maps.Trees.{get-lookup}
-use Rattle.record_text.specs.contracts.store.Store.{the_view}
-use Rattle.books_report.specs.Stores.Interpreter.Step.{Gives}
+use Rattle.record_text.proofs.Common.{◌≡◌, sym, ap, ◌∙◌, subst, nat_cmp_total, get-lookup, the_view, Gives, RecordStore, HasRoom}
 use Rattle.books_report.specs.Stores.Steps.{step_with}
-use Rattle.record_text.specs.Records.{RecordStore}
-use Rattle.record_text.specs.Ranges.{HasRoom}
-use Rattle.record_text.specs.declared.reply.RecordValue.TheVariants as value
 use Rattle.record_text.proofs.Removals.{is_absent, is_gone, keeps_room, removed_from_tree}
-use Rattle.record_text.proofs.store.Store.remove.Goals as goal
 use Rattle.record_text.proofs.store.Store.remove.Goals.{Joined-remove, in-Some, in-None}
+use Rattle.std.specs.FinMap as finite
+use Rattle.record_text.specs.declared.reply.RecordValue.TheVariants as value
+use Rattle.record_text.proofs.store.Store.remove.Goals as goal
 
 -- the records after the removal
 records_after : (c : Joined-remove) → finite.from_entries c.remove.new.self.entries ≡ finite.remove c.args.self.now.records c.args.id

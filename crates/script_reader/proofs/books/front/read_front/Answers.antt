@@ -1,36 +1,31 @@
 -- What is read up to the last line, or the first fault.
-use Rattle.std.proofs.Common.{◌≡◌, inl, ℕ, ◌-◌, ◌≤◌, ◌==◌, List, [], Err, length, take, drop, sym, ap, subst, ◌∙◌, take-append-drop}
-use Rattle.std.proofs.Common.{length-append, length-take, arith}
+use Rattle.script_reader.proofs.Common.{◌≡◌, inl, ℕ, ◌-◌, ◌≤◌, ◌==◌, List, [], Err, length, take, drop, sym, ap, subst, ◌∙◌, take-append-drop, length-append}
+use Rattle.script_reader.proofs.Common.{arith, count_by, LINE_FEED, ClearingInput, Spells, HasFront, IsFaultyBehind, IsFrontFault}
+use Rattle.std.proofs.Common.{length-take}
 use Rattle.script_reader.specs.declared.fault.Fault.{Fault as AnyFault}
-use Rattle.script_reader.specs.declared.fault.InputFault.TheVariants as refused
-use Rattle.std.specs.List.{count_by}
-use Rattle.script_reader.specs.declared.text.words.TheConstants.{LINE_FEED}
-use Rattle.script_reader.specs.Input.{ClearingInput}
-use Rattle.script_reader.specs.Grammar.{Spells}
-use Rattle.script_reader.specs.Inner.Scripts.{HasFront}
-use Rattle.script_reader.specs.Faults.{IsFaultyBehind, IsFrontFault}
 use Rattle.script_reader.proofs.books.Texts.Counting.{told, in_front}
 use Rattle.script_reader.proofs.Judged.{feeds}
 use Rattle.script_reader.proofs.books.Texts.Deciding.{front_not_both, fronts_once, one_fault}
 use Rattle.script_reader.proofs.books.Texts.Fronting.{take_front}
 use Rattle.script_reader.proofs.books.Texts.OneInput.{one_input}
+use Rattle.script_reader.specs.declared.fault.InputFault.TheVariants as refused
 use Rattle.script_reader.proofs.books.front.read_front.Goals as goal
 
 -- a front that was read
-ok_read : (text left : List ℕ) (input other : ClearingInput) (end : ℕ) → HasFront input text left → end ≤ length text
+ok_read : {text left : List ℕ} {input other : ClearingInput} {end : ℕ} → HasFront input text left → end ≤ length text
     → Spells (take end text) other → (input ≡ other) × (length text - length left ≡ end)
-ok_read text left input other end h short k =
+ok_read {text} {left} {input} {other} {end} h short k =
     let same = fronts_once text h.front left (take end text) (drop end text) h.text (sym (take-append-drop end text)) (input, h.spelled) (other, k) in (
       one_input h.front input other h.spelled (subst (λ t. Spells t other) (sym same.0) k),
       omega (arith, ap length h.text, ap length same.0, length-append h.front left, length-take end text, short),
     )
 
 -- what is known of the text if a line is faulty
-in_text : (text start left : List ℕ) (why : AnyFault) → start ≡ text → IsFaultyBehind [] start left why → IsFaultyBehind [] text left why
-in_text text start left why e h = subst (λ l. IsFaultyBehind [] l left why) e h
+in_text : {text start left : List ℕ} {why : AnyFault} → start ≡ text → IsFaultyBehind [] start left why → IsFaultyBehind [] text left why
+in_text {left} {why} e h = subst (λ l. IsFaultyBehind [] l left why) e h
 
 behind : (c : goal.After-len-in-Err-LineFault) → IsFaultyBehind [] c.args.bytes.now c.input_of.new.lines c.in-Err-LineFault.why
-behind c = in_text c.args.bytes.now c.new-lines.result c.input_of.new.lines c.in-Err-LineFault.why c.new-lines.ensures
+behind c = in_text c.new-lines.ensures
     (c.input_of.ensures.fault c.in-Err-LineFault.why (c.in-Err-LineFault.is ∙ ap Err c.in-Err-LineFault.field-0-is))
 
 pub slice_bounds-occurrences-count : goal.slice_bounds-occurrences-count
@@ -38,11 +33,11 @@ slice_bounds-occurrences-count c =
     omega (arith, c.len-in-Err-LineFault.ensures, (told c.args.bytes.now c.input_of.new.lines c.in-Err-LineFault.why (behind c)).shorter)
 
 behind_counted : (c : goal.After-occurrences-read) → IsFaultyBehind [] c.args.bytes.now c.input_of.new.lines c.in-Err-LineFault.why
-behind_counted c = in_text c.args.bytes.now c.new-lines.result c.input_of.new.lines c.in-Err-LineFault.why
+behind_counted c = in_text
     c.new-lines.ensures (c.input_of.ensures.fault c.in-Err-LineFault.why (c.in-Err-LineFault.is ∙ ap Err c.in-Err-LineFault.field-0-is))
 
 behind_numbered : (c : goal.After-faulty_line-line) → IsFaultyBehind [] c.args.bytes.now c.input_of.new.lines c.in-Err-LineFault.why
-behind_numbered c = in_text c.args.bytes.now c.new-lines.result c.input_of.new.lines c.in-Err-LineFault.why
+behind_numbered c = in_text
     c.new-lines.ensures (c.input_of.ensures.fault c.in-Err-LineFault.why (c.in-Err-LineFault.is ∙ ap Err c.in-Err-LineFault.field-0-is))
 
 -- how many line feeds there are in front of what is left
@@ -62,12 +57,12 @@ returns-in-Ok-clause-ok c =
     let end = ap (λ n. length c.args.bytes.now - n) c.len.ensures in (
       omega arith,
       subst (λ t. Spells t c.in-Ok.input)
-          (sym (take_front c.args.bytes.now h.front c.input_of.new.lines (length c.args.bytes.now - c.len.result) h.text end)) h.spelled,
+          (sym (take_front c.input_of.new.lines (length c.args.bytes.now - c.len.result) h.text end)) h.spelled,
     )
 
 pub returns-in-Ok-clause-read : goal.returns-in-Ok-clause-read
 returns-in-Ok-clause-read c input end short h =
-    let same = ok_read c.args.bytes.now c.input_of.new.lines c.in-Ok.input input end (front c) short h in
+    let same = ok_read (front c) short h in
     (same.0, ap (λ n. length c.args.bytes.now - n) c.len.ensures ∙ same.1)
 
 pub returns-in-Ok-clause-faulty : goal.returns-in-Ok-clause-faulty

@@ -1,4 +1,4 @@
-use Rattle.std.proofs.Common.{codes, sym, ◌∙◌}
+use Rattle.script_reader.proofs.Common.{codes, sym, ◌∙◌}
 use Rattle.script_reader.proofs.LineFaults.LineKinds.{only_word}
 use Rattle.script_reader.proofs.books.OperationRows.{free}
 use Rattle.script_reader.proofs.books.operations.operation_of.Goals as goal

@@ -1,21 +1,16 @@
-use Rattle.std.proofs.Common.{lit<, ◌≡◌, ◌∷◌, [], codes, Some, refl, subst, arith}
-use Rattle.std.proofs.lemmas.Result.{err_from_is_err_and}
-use Rattle.books_model.specs.declared.limits.TheConstants.{GREATEST_PRICE}
-use Rattle.books_model.specs.Ranges.{IsWithin}
-use Rattle.script_reader.specs.Text.{number}
-use Rattle.script_reader.specs.Forms.{operation_forms, prices}
-use Rattle.script_reader.specs.Rows.{HasNumbers, numbers_fault}
+use Rattle.script_reader.proofs.Common.{lit<, ◌≡◌, ◌∷◌, [], codes, Some, refl, subst, arith, GREATEST_PRICE, IsWithin, number, operation_forms, prices}
+use Rattle.script_reader.proofs.Common.{HasNumbers, numbers_fault}
+use Rattle.script_reader.proofs.HandedOn.{handed_on}
 use Rattle.script_reader.proofs.books.WithoutFault.BooksFaultless.{instruments_fit}
 use Rattle.script_reader.proofs.LineFaults.Operating.{row_two}
 use Rattle.script_reader.proofs.LineFaults.RowFaults.{two_wrong}
 use Rattle.script_reader.proofs.books.OperationRows.{free}
-use Rattle.script_reader.proofs.books.operations.price_of.Goals as goal
 use Rattle.script_reader.proofs.books.operations.price_of.Goals.{In_ok-instrument}
+use Rattle.script_reader.proofs.books.operations.price_of.Goals as goal
 
 pub returns-in_err-instrument-clause-err : goal.returns-in_err-instrument-clause-err
 returns-in_err-instrument-clause-err c =
-    let p = err_from_is_err_and c.from_residual.result c.from_residual.ensures.1 in
-    rw (p.1, p.2) (λ version. two_wrong (operation_forms version c.args.books.now.instruments) c.args.words.now (codes "price") (
+    rw (handed_on c.from_residual.ensures.1) (λ version. two_wrong (operation_forms version c.args.books.now.instruments) c.args.words.now (codes "price") (
       1,
       c.args.books.now.instruments,
     ) prices _ (λ a b. refl) c.requires
@@ -29,7 +24,7 @@ read : (c : In_ok-instrument) → (IsWithin 1 c.args.books.now.instruments c.in_
 read c =
     let found = c.in_ok-instrument.ensures.found in
     row_two (codes "price") c.args.words.now (1, c.args.books.now.instruments) prices c.requires
-    (instruments_fit c.args.books.now c.ranges-2.ensures) (lit< tt)
+    (instruments_fit c.ranges-2.ensures) (lit< tt)
     (subst (λ r. HasNumbers c.args.words.now (r ∷ prices ∷ [])) c.instruments_of.ensures.number found.0, found.1, found.2)
 
 pub overflow_cast-result : goal.overflow_cast-result

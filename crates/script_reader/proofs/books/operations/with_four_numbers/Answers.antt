@@ -1,22 +1,19 @@
-use Rattle.std.proofs.Common.{lit<, ◌≡◌, ◌∷◌, [], codes, Some, refl, sym, subst, ◌∙◌, arith}
-use Rattle.std.proofs.lemmas.Result.{err_from_is_err_and}
-use Rattle.books_model.specs.declared.limits.TheConstants.{GREATEST_ACCOUNT, GREATEST_QUANTITY}
-use Rattle.books_model.specs.Ranges.{IsWithin}
-use Rattle.script_reader.specs.Text.{number}
-use Rattle.script_reader.specs.Forms.{operation_forms, accounts, quantities}
-use Rattle.script_reader.specs.Rows.{HasNumbers, numbers_fault}
+use Rattle.script_reader.proofs.Common.{lit<, ◌≡◌, ◌∷◌, [], codes, Some, refl, sym, subst, ◌∙◌, arith, GREATEST_ACCOUNT, IsWithin, number, operation_forms}
+use Rattle.script_reader.proofs.Common.{accounts, quantities, HasNumbers, numbers_fault}
+use Rattle.books_model.specs.declared.limits.TheConstants.{GREATEST_QUANTITY}
+use Rattle.script_reader.proofs.HandedOn.{handed_on}
 use Rattle.script_reader.proofs.books.WithoutFault.BooksFaultless.{instruments_fit}
 use Rattle.script_reader.proofs.LineFaults.Operating.{row_four}
 use Rattle.script_reader.proofs.LineFaults.RowFaults.{unknown_word, four_wrong}
 use Rattle.script_reader.proofs.books.OperationRows.{free}
-use Rattle.script_reader.proofs.books.operations.with_four_numbers.Goals as goal
 use Rattle.script_reader.proofs.books.operations.with_four_numbers.Goals.{In_ok-buyer}
+use Rattle.script_reader.proofs.books.operations.with_four_numbers.Goals as goal
 
 pub returns-in_err-buyer-clause-err : goal.returns-in_err-buyer-clause-err
 returns-in_err-buyer-clause-err c =
-    let p = err_from_is_err_and c.from_residual.result c.from_residual.ensures.1 in
-    rw (p.1, p.2) (λ version. four_wrong (operation_forms version c.args.books.now.instruments) c.args.words.now (codes "trade") accounts accounts
-    (1, c.args.books.now.instruments) quantities _ (λ a b d e. refl) (sym c.is_row.ensures ∙ c.if-is_row.true)
+    rw (handed_on c.from_residual.ensures.1) (λ version. four_wrong (operation_forms version c.args.books.now.instruments) c.args.words.now
+    (codes "trade") accounts accounts
+    (1, c.args.books.now.instruments) quantities (λ a b d e. refl) (sym c.is_row.ensures ∙ c.if-is_row.true)
     (subst (λ r. numbers_fault c.args.words.now (accounts ∷ accounts ∷ r ∷ quantities ∷ [])
     ≡ Some c.in_err-buyer.field-0.0) c.instruments_of.ensures.number c.in_err-buyer.ensures.err))
 
@@ -28,7 +25,7 @@ read : (c : In_ok-buyer) → (IsWithin 1 GREATEST_ACCOUNT c.in_ok-buyer.buyer ×
 read c =
     let found = c.in_ok-buyer.ensures.found in
     row_four (codes "trade") c.args.words.now accounts accounts (1, c.args.books.now.instruments) quantities
-    (sym c.is_row.ensures ∙ c.if-is_row.true) (lit< tt) (lit< tt) (instruments_fit c.args.books.now c.ranges-2.ensures) (lit< tt) (
+    (sym c.is_row.ensures ∙ c.if-is_row.true) (lit< tt) (lit< tt) (instruments_fit c.ranges-2.ensures) (lit< tt) (
       subst (λ r. HasNumbers c.args.words.now (accounts ∷ accounts ∷ r ∷ quantities ∷ [])) c.instruments_of.ensures.number found.0,
       found.1,
       found.2,
@@ -54,4 +51,4 @@ returns-then-is_row-clause-found c version = free (read (goal.at.returns-then-is
 
 pub returns-clause-err : goal.returns-clause-err
 returns-clause-err c version =
-    unknown_word (operation_forms version c.args.books.now.instruments) c.args.words.now 5 c.requires (sym c.is_row.ensures ∙ c.if-is_row.false, tt)
+    unknown_word (operation_forms version c.args.books.now.instruments) c.args.words.now c.requires (sym c.is_row.ensures ∙ c.if-is_row.false, tt)

@@ -1,6 +1,5 @@
-use Rattle.std.proofs.Common.{lit<, codes, refl, sym, ◌∙◌, arith}
-use Rattle.std.proofs.lemmas.Result.{err_from_is_err_and}
-use Rattle.script_reader.specs.Forms.{operation_forms, accounts}
+use Rattle.script_reader.proofs.Common.{lit<, codes, refl, sym, ◌∙◌, arith, operation_forms, accounts}
+use Rattle.script_reader.proofs.HandedOn.{handed_on}
 use Rattle.script_reader.proofs.LineFaults.Operating.{row_one}
 use Rattle.script_reader.proofs.LineFaults.RowFaults.{unknown_word, one_wrong}
 use Rattle.script_reader.proofs.books.OperationRows.{free}
@@ -8,8 +7,7 @@ use Rattle.script_reader.proofs.books.operations.with_one_number.Goals as goal
 
 pub returns-in_err-account-clause-err : goal.returns-in_err-account-clause-err
 returns-in_err-account-clause-err c =
-    let p = err_from_is_err_and c.from_residual.result c.from_residual.ensures.1 in
-    rw (p.1, p.2) (λ version n. one_wrong (operation_forms version n) c.args.words.now (codes "open") accounts _ (λ a. refl)
+    rw (handed_on c.from_residual.ensures.1) (λ version n. one_wrong (operation_forms version n) c.args.words.now (codes "open") accounts _ (λ a. refl)
     (sym c.is_row.ensures ∙ c.if-is_row.true) c.in_err-account.ensures.err)
 
 pub overflow_cast-result : goal.overflow_cast-result
@@ -23,8 +21,8 @@ returns-then-is_row-clause-found c version books =
 
 pub returns-in_err-account-2-clause-err : goal.returns-in_err-account-2-clause-err
 returns-in_err-account-2-clause-err c =
-    let p = err_from_is_err_and c.from_residual-in_err-account-2.result c.from_residual-in_err-account-2.ensures.1 in
-    rw (p.1, p.2) (λ version n. one_wrong (operation_forms version n) c.args.words.now (codes "close") accounts _ (λ a. refl)
+    rw (handed_on c.from_residual-in_err-account-2.ensures.1) (λ version n. one_wrong (operation_forms version n) c.args.words.now
+    (codes "close") accounts _ (λ a. refl)
     (sym c.is_row-2.ensures ∙ c.if-is_row-2.true) c.in_err-account-2.ensures.err)
 
 pub overflow_cast-result-then-is_row-2 : goal.overflow_cast-result-then-is_row-2
@@ -38,8 +36,8 @@ returns-then-is_row-2-clause-found c version books =
 
 pub returns-in_err-account-3-clause-err : goal.returns-in_err-account-3-clause-err
 returns-in_err-account-3-clause-err c =
-    let p = err_from_is_err_and c.from_residual-in_err-account-3.result c.from_residual-in_err-account-3.ensures.1 in
-    rw (p.1, p.2) (λ version n. one_wrong (operation_forms version n) c.args.words.now (codes "show") accounts _ (λ a. refl)
+    rw (handed_on c.from_residual-in_err-account-3.ensures.1) (λ version n. one_wrong (operation_forms version n) c.args.words.now (codes "show") accounts _
+    (λ a. refl)
     (sym c.is_row-3.ensures ∙ c.if-is_row-3.true) c.in_err-account-3.ensures.err)
 
 pub overflow_cast-result-then-is_row-3 : goal.overflow_cast-result-then-is_row-3
@@ -52,5 +50,5 @@ returns-then-is_row-3-clause-found c version books =
     c.in_ok-account-3.ensures.found)
 
 pub returns-clause-err : goal.returns-clause-err
-returns-clause-err c version n = unknown_word (operation_forms version n) c.args.words.now 2 c.requires
+returns-clause-err c version n = unknown_word (operation_forms version n) c.args.words.now c.requires
     (sym c.is_row.ensures ∙ c.if-is_row.false, (sym c.is_row-2.ensures ∙ c.if-is_row-2.false, (sym c.is_row-3.ensures ∙ c.if-is_row-3.false, tt)))

@@ -1,22 +1,17 @@
-use Rattle.std.proofs.Common.{lit<, ◌≡◌, ◌∷◌, [], codes, Some, refl, sym, subst, ◌∙◌, arith}
-use Rattle.books_model.specs.declared.limits.TheConstants.{GREATEST_ACCOUNT}
-use Rattle.books_model.specs.Ranges.{IsWithin}
-use Rattle.script_reader.specs.Text.{number}
-use Rattle.script_reader.specs.Versions.{greatest_amount}
-use Rattle.std.proofs.lemmas.Result.{err_from_is_err_and}
-use Rattle.script_reader.specs.Forms.{operation_forms, accounts, amounts}
-use Rattle.script_reader.specs.Rows.{HasNumbers, numbers_fault}
+use Rattle.script_reader.proofs.Common.{lit<, ◌≡◌, ◌∷◌, [], codes, Some, refl, sym, subst, ◌∙◌, arith, GREATEST_ACCOUNT, IsWithin, number, greatest_amount}
+use Rattle.script_reader.proofs.Common.{operation_forms, accounts, amounts, HasNumbers, numbers_fault}
+use Rattle.script_reader.proofs.HandedOn.{handed_on}
 use Rattle.script_reader.proofs.books.Versions.{amount_small}
 use Rattle.script_reader.proofs.LineFaults.Operating.{row_three}
 use Rattle.script_reader.proofs.LineFaults.RowFaults.{unknown_word, three_wrong}
 use Rattle.script_reader.proofs.books.OperationRows.{bound_move}
-use Rattle.script_reader.proofs.books.operations.with_three_numbers.Goals as goal
 use Rattle.script_reader.proofs.books.operations.with_three_numbers.Goals.{In_ok-from}
+use Rattle.script_reader.proofs.books.operations.with_three_numbers.Goals as goal
 
 pub returns-in_err-from-clause-err : goal.returns-in_err-from-clause-err
 returns-in_err-from-clause-err c =
-    let p = err_from_is_err_and c.from_residual.result c.from_residual.ensures.1 in
-    rw (p.1, p.2) (λ n. three_wrong (operation_forms c.args.version n) c.args.words.now (codes "move") accounts accounts (amounts c.args.version) _
+    rw (handed_on c.from_residual.ensures.1) (λ n. three_wrong (operation_forms c.args.version n) c.args.words.now (codes "move") accounts accounts
+    (amounts c.args.version) _
     (λ a b d. refl)
     (sym c.is_row.ensures ∙ c.if-is_row.true)
     (subst (λ r. numbers_fault c.args.words.now (accounts ∷ accounts ∷ r ∷ []) ≡ Some c.in_err-from.field-0.0) c.amounts.ensures.range
@@ -43,4 +38,4 @@ returns-then-is_row-clause-found c books = bound_move c.args.version (read (goal
 
 pub returns-clause-err : goal.returns-clause-err
 returns-clause-err c n =
-    unknown_word (operation_forms c.args.version n) c.args.words.now 4 c.requires (sym c.is_row.ensures ∙ c.if-is_row.false, tt)
+    unknown_word (operation_forms c.args.version n) c.args.words.now c.requires (sym c.is_row.ensures ∙ c.if-is_row.false, tt)

@@ -1,22 +1,17 @@
-use Rattle.std.proofs.Common.{lit<, ◌≡◌, ◌∷◌, [], codes, Some, refl, sym, subst, ◌∙◌, arith}
-use Rattle.std.proofs.lemmas.Result.{err_from_is_err_and}
-use Rattle.books_model.specs.declared.limits.TheConstants.{GREATEST_ACCOUNT, GREATEST_RATE}
-use Rattle.books_model.specs.Ranges.{IsWithin}
-use Rattle.script_reader.specs.Text.{number}
-use Rattle.script_reader.specs.Versions.{greatest_amount}
-use Rattle.script_reader.specs.Forms.{operation_forms, accounts, amounts}
-use Rattle.script_reader.specs.Rows.{HasNumbers, numbers_fault}
+use Rattle.script_reader.proofs.Common.{lit<, ◌≡◌, ◌∷◌, [], codes, Some, refl, sym, subst, ◌∙◌, arith, GREATEST_ACCOUNT, GREATEST_RATE, IsWithin, number}
+use Rattle.script_reader.proofs.Common.{greatest_amount, operation_forms, accounts, amounts, HasNumbers, numbers_fault}
+use Rattle.script_reader.proofs.HandedOn.{handed_on}
 use Rattle.script_reader.proofs.books.Versions.{amount_small}
 use Rattle.script_reader.proofs.LineFaults.Operating.{row_two}
 use Rattle.script_reader.proofs.LineFaults.RowFaults.{unknown_word, two_wrong}
 use Rattle.script_reader.proofs.books.OperationRows.{free, bound}
-use Rattle.script_reader.proofs.books.operations.with_two_numbers.Goals as goal
 use Rattle.script_reader.proofs.books.operations.with_two_numbers.Goals.{In_ok-account, In_ok-account-2}
+use Rattle.script_reader.proofs.books.operations.with_two_numbers.Goals as goal
 
 pub returns-in_err-account-clause-err : goal.returns-in_err-account-clause-err
 returns-in_err-account-clause-err c =
-    let p = err_from_is_err_and c.from_residual.result c.from_residual.ensures.1 in
-    rw (p.1, p.2) (two_wrong (operation_forms c.args.version c.args.books.now.instruments) c.args.words.now (codes "deposit") accounts
+    rw (handed_on c.from_residual.ensures.1) (two_wrong (operation_forms c.args.version c.args.books.now.instruments) c.args.words.now
+    (codes "deposit") accounts
     (amounts c.args.version) _ (λ a b. refl)
     (sym c.is_row.ensures ∙ c.if-is_row.true)
     (subst (λ r. numbers_fault c.args.words.now (accounts ∷ r ∷ []) ≡ Some c.in_err-account.field-0.0) c.amounts.ensures.range c.in_err-account.ensures.err))
@@ -38,8 +33,8 @@ returns-then-is_row-clause-found c = bound c.args.version (deposit_read (goal.at
 
 pub returns-in_err-account-2-clause-err : goal.returns-in_err-account-2-clause-err
 returns-in_err-account-2-clause-err c =
-    let p = err_from_is_err_and c.from_residual-in_err-account-2.result c.from_residual-in_err-account-2.ensures.1 in
-    rw (p.1, p.2) (two_wrong (operation_forms c.args.version c.args.books.now.instruments) c.args.words.now (codes "withdraw") accounts
+    rw (handed_on c.from_residual-in_err-account-2.ensures.1) (two_wrong (operation_forms c.args.version c.args.books.now.instruments) c.args.words.now
+    (codes "withdraw") accounts
     (amounts c.args.version) _ (λ a b. refl)
     (sym c.is_row-2.ensures ∙ c.if-is_row-2.true)
     (subst (λ r. numbers_fault c.args.words.now (accounts ∷ r ∷ []) ≡ Some c.in_err-account-2.field-0.0) c.amounts-then-is_row-2.ensures.range
@@ -63,8 +58,8 @@ returns-then-is_row-2-clause-found c = bound c.args.version (withdraw_read (goal
 
 pub returns-in_err-account-3-clause-err : goal.returns-in_err-account-3-clause-err
 returns-in_err-account-3-clause-err c =
-    let p = err_from_is_err_and c.from_residual-in_err-account-3.result c.from_residual-in_err-account-3.ensures.1 in
-    rw (p.1, p.2) (two_wrong (operation_forms c.args.version c.args.books.now.instruments) c.args.words.now (codes "margin") accounts (1, GREATEST_RATE) _
+    rw (handed_on c.from_residual-in_err-account-3.ensures.1) (two_wrong (operation_forms c.args.version c.args.books.now.instruments) c.args.words.now
+    (codes "margin") accounts (1, GREATEST_RATE) _
     (λ a b. refl)
     (sym c.is_row-4.ensures ∙ c.if-is_row-4.true) c.in_err-account-3.ensures.err)
 
@@ -82,8 +77,8 @@ returns-then-is_row-4-clause-found c =
 
 pub returns-in_err-first-clause-err : goal.returns-in_err-first-clause-err
 returns-in_err-first-clause-err c =
-    let p = err_from_is_err_and c.from_residual-in_err-first.result c.from_residual-in_err-first.ensures.1 in
-    rw (p.1, p.2) (two_wrong (operation_forms c.args.version c.args.books.now.instruments) c.args.words.now (codes "sum") accounts accounts _ (λ a b. refl)
+    rw (handed_on c.from_residual-in_err-first.ensures.1) (two_wrong (operation_forms c.args.version c.args.books.now.instruments) c.args.words.now
+    (codes "sum") accounts accounts _ (λ a b. refl)
     (sym c.is_row-5.ensures ∙ c.if-is_row-5.true) c.in_err-first.ensures.err)
 
 pub overflow_cast-result-then-is_row-5 : goal.overflow_cast-result-then-is_row-5
@@ -109,7 +104,7 @@ pub price_of-requires : goal.price_of-requires
 price_of-requires c = sym c.is_row-3.ensures ∙ c.if-is_row-3.true
 
 pub returns-clause-err : goal.returns-clause-err
-returns-clause-err c = unknown_word (operation_forms c.args.version c.args.books.now.instruments) c.args.words.now 3 c.requires (
+returns-clause-err c = unknown_word (operation_forms c.args.version c.args.books.now.instruments) c.args.words.now c.requires (
   sym c.is_row.ensures ∙ c.if-is_row.false,
   (
     sym c.is_row-2.ensures ∙ c.if-is_row-2.false,

@@ -1,14 +1,11 @@
-use Rattle.std.proofs.Common.{◌≡◌, ◌≤◌, Bool, true, false, not, ◌&&◌, List, All, length, [], ◌∷◌, ◌++◌, sym, ap, subst, ◌∙◌, append_assoc, append-nil, arith}
-use Rattle.std.specs.Vec.Iter.{into_iter_items}
-use Rattle.std.proofs.lemmas.Bool.{leb-false, true≢false}
+use Rattle.script_reader.proofs.Common.{◌≡◌, ◌≤◌, Bool, true, false, not, ◌&&◌, List, All, length, [], ◌∷◌, ◌++◌, sym, ap, subst, ◌∙◌, append_assoc, arith}
+use Rattle.script_reader.proofs.Common.{into_iter_items, leb-false, MOST_CALLERS, MOST_SCRIPTS, Submission, AreCallersFor, callers_of, Spells, CanStand}
+use Rattle.script_reader.proofs.Common.{add_submission, is_beyond_in, IsScriptOf, AreCallersOf}
+use Rattle.std.proofs.Common.{append-nil}
+use Rattle.std.proofs.lemmas.Bool.{true≢false}
 use Rattle.std.proofs.lemmas.List.{nil_from_length}
 use Rattle.std.proofs.lemmas.List.Elements.{All-head, All-tail}
-use Rattle.script_reader.specs.declared.limits.TheConstants.{MOST_CALLERS, MOST_SCRIPTS}
-use Rattle.script_reader.specs.Input.{Submission, AreCallersFor, callers_of, count_scripts}
-use Rattle.script_reader.specs.Grammar.{Spells}
-use Rattle.script_reader.specs.Pieces.{CanStand}
-use Rattle.script_reader.specs.Inner.Gatherings.{add_submission, is_beyond_in}
-use Rattle.script_reader.specs.Inner.OfVersion.{IsScriptOf, AreCallersOf}
+use Rattle.script_reader.specs.Input.{count_scripts}
 use Rattle.script_reader.proofs.Conditions.{neither}
 use Rattle.script_reader.proofs.language.Grouped.Grouping.{callers_of-push}
 use Rattle.script_reader.proofs.language.Grouped.Submitting.{callers_more}
@@ -49,7 +46,7 @@ loop-submitted-preserved c =
       even = c.in-Ok.ensures.even;
       made = c.in-Ok.ensures.added ∙ (λ k. add_submission (i.made k) (c.submitted.view_is k)) ∙ sym (callers_of-push before s);
       valid = subst (AreCallersOf v b) (sym (callers_of-push before s))
-          (callers_more (IsScriptOf v b) (callers_of before) s i.valid stands.named (script_of v b s.script stands.fits stands.within)
+          (callers_more (IsScriptOf v b) (callers_of before) s i.valid stands.named (script_of v b stands.fits stands.within)
           (leb-false MOST_SCRIPTS _ room.0) (λ new. leb-false MOST_CALLERS _ (right new room.1)));
       sized = omega (arith, i.sized, steps.1, ap length steps.0);
       whole = whole ∙ sym (append_assoc before (s ∷ []) (into_iter_items c.next.new.self));
@@ -82,5 +79,5 @@ returns c bytes opens =
     let all = i.whole ∙ ap (λ l. c.loop-submitted.yielded ++ l) none ∙ append-nil c.loop-submitted.yielded in
     let made = ap callers_of (sym all) in
     subst (Spells bytes) (sym (c.new-2.ensures ∙ ap (λ l. record { books = b; callers = l }) (c.new.ensures ∙ i.made ∙ made)))
-    (spelled v b bytes c.args.opening.scripts.now c.args.scripts.items c.ranges-2.ensures c.requires.read
+    (spelled c.ranges-2.ensures c.requires.read
     (subst (AreCallersOf v b) made i.valid) opens)

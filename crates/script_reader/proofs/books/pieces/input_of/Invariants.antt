@@ -1,8 +1,5 @@
-use Rattle.std.proofs.Common.{◌≡◌, ◌++◌, length}
-use Rattle.std.specs.Vec.Iter.{into_iter_items, into_iter_len}
-use Rattle.script_reader.specs.Input.{callers_of}
-use Rattle.script_reader.specs.Inner.Gatherings.{callers_in, IsEven}
-use Rattle.script_reader.specs.Inner.OfVersion.{AreCallersOf}
+use Rattle.script_reader.proofs.Common.{◌≡◌, ◌++◌, length, into_iter_items, callers_of, callers_in, IsEven, AreCallersOf}
+use Rattle.std.specs.Vec.Iter.{into_iter_len}
 use Rattle.script_reader.proofs.books.pieces.input_of.Given as goal
 
 abbrev pub invariant-loop-submitted : goal.invariant-loop-submitted

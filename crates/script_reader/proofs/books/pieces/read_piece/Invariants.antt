@@ -1,7 +1,4 @@
-use Rattle.std.proofs.Common.{◌≡◌, ◌++◌, All, length}
-use Rattle.std.specs.List.{flat_map}
-use Rattle.script_reader.specs.Grammar.{submission_lines}
-use Rattle.script_reader.specs.Pieces.{CanStand}
+use Rattle.script_reader.proofs.Common.{◌≡◌, ◌++◌, All, length, flat_map, submission_lines, CanStand}
 use Rattle.script_reader.proofs.books.pieces.read_piece.Given as goal
 
 abbrev pub invariant-loop-lines : goal.invariant-loop-lines

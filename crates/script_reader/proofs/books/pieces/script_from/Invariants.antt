@@ -1,4 +1,4 @@
-use Rattle.std.proofs.Common.{◌≤◌, ◌-◌, length}
+use Rattle.script_reader.proofs.Common.{◌≤◌, ◌-◌, length}
 use Rattle.script_reader.proofs.books.pieces.script_from.Given as goal
 
 abbrev pub invariant-loop-place : goal.invariant-loop-place

@@ -1,9 +1,5 @@
-use Rattle.std.proofs.Common.{◌≡◌, ◌≤◌, ◌+◌, ◌++◌, map, length, All}
-use Rattle.std.specs.List.{flat_map}
-use Rattle.books_model.specs.declared.limits.TheConstants.{MOST_OPERATIONS}
-use Rattle.script_reader.specs.Text.{line, books_operation_words}
+use Rattle.script_reader.proofs.Common.{◌≡◌, ◌≤◌, ◌+◌, ◌++◌, map, length, All, flat_map, MOST_OPERATIONS, line, books_operation_words, IsOperationOf}
 use Rattle.script_reader.proofs.books.scripts.add_branch.Given as goal
-use Rattle.script_reader.specs.Inner.OfVersion.{IsOperationOf}
 
 abbrev pub invariant-loop-words : goal.invariant-loop-words
 invariant-loop-words l = record {

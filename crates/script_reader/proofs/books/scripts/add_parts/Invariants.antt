@@ -1,8 +1,5 @@
-use Rattle.std.proofs.Common.{◌≡◌, ◌++◌, length, sum_by}
-use Rattle.books_model.specs.Scripts.{operations_of, alternatives_in}
-use Rattle.script_reader.specs.Text.{script_lines}
+use Rattle.script_reader.proofs.Common.{◌≡◌, ◌++◌, length, sum_by, operations_of, alternatives_in, script_lines, IsScriptOf}
 use Rattle.script_reader.proofs.books.scripts.add_parts.Given as goal
-use Rattle.script_reader.specs.Inner.OfVersion.{IsScriptOf}
 
 abbrev pub invariant-loop-words : goal.invariant-loop-words
 invariant-loop-words l = record {

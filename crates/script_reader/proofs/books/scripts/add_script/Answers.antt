@@ -1,39 +1,30 @@
-use Rattle.std.proofs.Common.{◌≡◌, Err, Some, sym, ap, ◌∙◌}
-use Rattle.std.proofs.lemmas.Result.{err_from_is_err_and}
-use Rattle.script_reader.specs.declared.fault.Fault.TheVariants as fault
-use Rattle.script_reader.specs.declared.fault.Refusal.TheVariants as refusal
-use Rattle.script_reader.specs.Inner.LinesAsWords.{lines_so_far}
-use Rattle.script_reader.specs.Inner.Gatherings.{is_beyond_in}
-use Rattle.script_reader.specs.Faults.{fault_of}
+use Rattle.script_reader.proofs.Common.{Some, sym, ap, ◌∙◌, is_beyond_in}
+use Rattle.script_reader.proofs.HandedOn.{same_reason, same_refusal}
 use Rattle.script_reader.proofs.books.Texts.Gathered.{behind_script, outside_word, outside_limit}
 use Rattle.script_reader.proofs.Judging.{behind_line}
 use Rattle.script_reader.proofs.books.scripts.add_script.Goals as goal
 
 pub returns-in_err-name-clause-fault : goal.returns-in_err-name-clause-fault
 returns-in_err-name-clause-fault c why e subs left made are is =
-    let p = err_from_is_err_and c.from_residual.result c.from_residual.ensures.1 in
-    let same : c.in_err-name.field-0.0 ≡ why = cc (p.1, p.2, e) in
     let none = c.in_err-name.ensures.none in
-    behind_line fault_of (lines_so_far c.args.version c.args.books.now subs) left c.args.lines.now c.args.words.now why are is
-    (outside_word c.args.version c.args.books.now subs c.args.words.now c.requires.unfinished none.1 ∙ ap Some (sym none.0 ∙ same))
+    behind_line are is
+    (outside_word c.args.version c.args.books.now subs c.args.words.now c.requires.unfinished none.1 ∙ ap Some
+    (sym none.0 ∙ same_reason c.from_residual.ensures.1 e))
 
 pub returns-then-is_full_for-clause-fault : goal.returns-then-is_full_for-clause-fault
 returns-then-is_full_for-clause-fault c why e subs left made are is =
-    let same : fault.Limit ≡ why = cc in
     let found = c.in_ok-name.ensures.found in
     let beyond = sym (ap (λ l. is_beyond_in l c.in_ok-name.name.now) made) ∙ sym c.is_full_for.ensures ∙ c.if-is_full_for.true in
-    behind_line fault_of (lines_so_far c.args.version c.args.books.now subs) left c.args.lines.now c.args.words.now why are is
-    (outside_limit c.args.version c.args.books.now subs c.in_ok-name.name.now c.args.words.now found.0 found.1 beyond ∙ ap Some same)
+    behind_line are is
+    (outside_limit c.args.version c.args.books.now subs found.0 found.1 beyond ∙ cc)
 
 pub returns-in_err-script-clause-fault : goal.returns-in_err-script-clause-fault
 returns-in_err-script-clause-fault c why e subs left made are is =
-    let p = err_from_is_err_and c.from_residual-in_err-script.result c.from_residual-in_err-script.ensures.1 in
-    let same : c.in_err-script.field-0.0 ≡ refusal.LineFault why = cc (p.1, p.2, e) in
     let found = c.in_ok-name.ensures.found in
     let room = sym (ap (λ l. is_beyond_in l c.in_ok-name.name.now) made) ∙ sym c.is_full_for.ensures ∙ c.if-is_full_for.false in
-    behind_script c.args.version c.args.books.now subs c.in_ok-name.name.now c.args.words.now left c.args.lines.now c.script_of.new.lines why found.0 found.1
+    behind_script c.args.version c.args.books.now subs found.0 found.1
     room is
-    (c.script_of.ensures.fault why (c.in_err-script.was ∙ ap Err same) subs c.in_ok-name.name.now)
+    (c.script_of.ensures.fault why (same_refusal c.in_err-script.was c.from_residual-in_err-script.ensures.1 e) subs c.in_ok-name.name.now)
 
 pub returns-clause-added : goal.returns-clause-added
 returns-clause-added c =

@@ -1,11 +1,6 @@
-use Rattle.std.proofs.Common.{◌≡◌, ◌++◌, List, length}
-use Rattle.std.specs.List.{flat_map}
-use Rattle.script_reader.specs.Text.{line}
-use Rattle.script_reader.specs.Input.{Submission, callers_of}
-use Rattle.script_reader.specs.Inner.LinesAsWords.{books_submission_words}
-use Rattle.script_reader.specs.Inner.Gatherings.{callers_in, IsEven}
+use Rattle.script_reader.proofs.Common.{◌≡◌, ◌++◌, List, length, flat_map, line, Submission, callers_of, books_submission_words, callers_in, IsEven}
+use Rattle.script_reader.proofs.Common.{AreCallersOf}
 use Rattle.script_reader.proofs.books.scripts.read_scripts.Given as goal
-use Rattle.script_reader.specs.Inner.OfVersion.{AreCallersOf}
 
 abbrev pub invariant-loop-words : goal.invariant-loop-words
 invariant-loop-words l = record {

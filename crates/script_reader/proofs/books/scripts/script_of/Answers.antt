@@ -1,10 +1,6 @@
-use Rattle.std.proofs.Common.{◌≡◌, Err, ap, ◌∙◌}
-use Rattle.std.proofs.lemmas.Result.{err_from_is_err_and}
-use Rattle.script_reader.specs.declared.fault.Refusal.TheVariants as refusal
+use Rattle.script_reader.proofs.HandedOn.{same_refusal}
 use Rattle.script_reader.proofs.books.scripts.script_of.Goals as goal
 
 pub returns-in_err-add_parts-clause-fault : goal.returns-in_err-add_parts-clause-fault
 returns-in_err-add_parts-clause-fault c why e subs name =
-    let p = err_from_is_err_and c.from_residual.result c.from_residual.ensures.1 in
-    let same : c.in_err-add_parts.field-0.0 ≡ refusal.LineFault why = cc (p.1, p.2, e) in
-    c.add_parts.ensures.fault why (c.in_err-add_parts.was ∙ ap Err same) subs name
+    c.add_parts.ensures.fault why (same_refusal c.in_err-add_parts.was c.from_residual.ensures.1 e) subs name

@@ -1,7 +1,4 @@
-use Rattle.std.proofs.Common.{◌≡◌, ◌≤◌, ◌++◌, length, All}
-use Rattle.books_model.specs.declared.limits.TheConstants.{MOST_OPERATIONS}
-use Rattle.script_reader.specs.ListLanguage.{IsOperationIn}
-use Rattle.script_reader.specs.Inner.ListScripts.{operations_text}
+use Rattle.script_reader.proofs.Common.{◌≡◌, ◌≤◌, ◌++◌, length, All, MOST_OPERATIONS, IsOperationIn, operations_text}
 use Rattle.script_reader.proofs.language.reader.add_operations.Given as goal
 
 abbrev pub invariant-loop-words : goal.invariant-loop-words

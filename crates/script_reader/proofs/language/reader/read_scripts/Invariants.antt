@@ -1,9 +1,5 @@
-use Rattle.std.proofs.Common.{◌≡◌, ◌++◌, List, length}
-use Rattle.std.specs.List.{flat_map}
-use Rattle.script_reader.specs.Text.{line}
-use Rattle.script_reader.specs.Gathered.{SubmissionOf, AreCallers, callers_of}
-use Rattle.script_reader.specs.ListLanguage.{IsScriptIn, submission_words}
-use Rattle.script_reader.specs.Inner.Gatherings.{callers_in, IsEven}
+use Rattle.script_reader.proofs.Common.{◌≡◌, ◌++◌, List, length, flat_map, line, SubmissionOf, AreCallers, IsScriptIn, submission_words, callers_in, IsEven}
+use Rattle.script_reader.specs.Gathered.{callers_of}
 use Rattle.script_reader.proofs.language.reader.read_scripts.Given as goal
 
 abbrev pub invariant-loop-words : goal.invariant-loop-words

@@ -1,16 +1,12 @@
-use Rattle.std.proofs.Common.{◌≡◌, [], inl, inr, ◌+◌, ◌-◌, ◌==◌, Err, length, take, sym, ap, subst, ◌∙◌, arith}
-use Rattle.std.specs.List.{count_by}
-use Rattle.script_reader.specs.declared.text.words.TheConstants.{LINE_FEED}
-use Rattle.script_reader.specs.declared.fault.Fault.TheVariants as fault
-use Rattle.script_reader.specs.declared.fault.InputFault.TheVariants as refused
-use Rattle.script_reader.specs.Reading.{IsFaultBehind, IsFaultInFront, GoesOnBehind}
-use Rattle.script_reader.specs.ListLanguage.{IsTextOf, IsText, IsFirstFaultIn, judge}
-use Rattle.script_reader.specs.Inner.ListScripts.{HasTextInFront}
+use Rattle.script_reader.proofs.Common.{◌≡◌, [], inl, inr, ◌+◌, ◌-◌, ◌==◌, Err, length, take, sym, ap, subst, ◌∙◌, arith, count_by, LINE_FEED, IsFaultBehind}
+use Rattle.script_reader.proofs.Common.{IsFaultInFront, GoesOnBehind, IsTextOf, IsText, IsFirstFaultIn, judge, HasTextInFront}
 use Rattle.script_reader.proofs.Judged.{feeds}
 use Rattle.script_reader.proofs.language.Listed.Telling.{one_text, one_fault, not_both}
 use Rattle.script_reader.proofs.language.Listed.Ending.{told, in_front, whole_text, goes_on, few_feeds}
-use Rattle.script_reader.proofs.language.reader.read_text.Goals as goal
 use Rattle.script_reader.proofs.language.reader.read_text.Given.{Over}
+use Rattle.script_reader.specs.declared.fault.Fault.TheVariants as fault
+use Rattle.script_reader.specs.declared.fault.InputFault.TheVariants as refused
+use Rattle.script_reader.proofs.language.reader.read_text.Goals as goal
 
 -- nothing is left
 whole : (g : Over) (c : goal.Then-len-eq0 g) → IsTextOf g.L.Language.language c.args.bytes.now (g.L.Language.sizes_of c.in-Ok.found.0) c.in-Ok.found.1
@@ -18,7 +14,7 @@ whole g c =
     let language = g.L.Language.language in
     let ns = g.L.Language.sizes_of c.in-Ok.found.0 in
     let front = subst (λ l. HasTextInFront language ns c.in-Ok.found.1 l c.front_of.new.lines) c.new-lines.ensures c.in-Ok.ensures.found in
-    whole_text language c.args.bytes.now c.front_of.new.lines ns c.in-Ok.found.1 front (sym c.len.ensures ∙ c.if-len-eq0.true)
+    whole_text language front (sym c.len.ensures ∙ c.if-len-eq0.true)
 
 pub returns-then-len-eq0-clause-read : goal.returns-then-len-eq0-clause-read
 returns-then-len-eq0-clause-read g c sizes callers h =
@@ -35,7 +31,7 @@ overflow_cast-line g c =
     let front = subst (λ l. HasTextInFront language ns c.in-Ok.found.1 l c.front_of.new.lines) c.new-lines.ensures c.in-Ok.ensures.found in
     let counted : c.occurrences-read.result ≡ feeds c.args.bytes.now c.front_of.new.lines = c.occurrences-read.ensures
     ∙ ap (λ n. count_by (λ b. b == LINE_FEED) (take (length c.args.bytes.now - n) c.args.bytes.now)) c.len-in-Ok.ensures in
-    omega (arith, counted, few_feeds language c.args.bytes.now c.front_of.new.lines ns c.in-Ok.found.1 front g.met.L.Language.lawful)
+    omega (arith, counted, few_feeds language front g.met.L.Language.lawful)
 
 pub overflow_add-line : goal.overflow_add-line
 overflow_add-line g c =
@@ -44,7 +40,7 @@ overflow_add-line g c =
     let front = subst (λ l. HasTextInFront language ns c.in-Ok.found.1 l c.front_of.new.lines) c.new-lines.ensures c.in-Ok.ensures.found in
     let counted : c.occurrences-read.result ≡ feeds c.args.bytes.now c.front_of.new.lines = c.occurrences-read.ensures
     ∙ ap (λ n. count_by (λ b. b == LINE_FEED) (take (length c.args.bytes.now - n) c.args.bytes.now)) c.len-in-Ok.ensures in
-    omega (arith, counted, few_feeds language c.args.bytes.now c.front_of.new.lines ns c.in-Ok.found.1 front g.met.L.Language.lawful)
+    omega (arith, counted, few_feeds language front g.met.L.Language.lawful)
 
 pub faulty_line-line-requires : goal.faulty_line-line-requires
 faulty_line-line-requires g c =
@@ -63,8 +59,8 @@ on g c =
     let front = subst (λ l. HasTextInFront language ns c.in-Ok.found.1 l c.front_of.new.lines) c.new-lines.ensures c.in-Ok.ensures.found in
     let counted : c.occurrences-read.result ≡ feeds c.args.bytes.now c.front_of.new.lines = c.occurrences-read.ensures
     ∙ ap (λ n. count_by (λ b. b == LINE_FEED) (take (length c.args.bytes.now - n) c.args.bytes.now)) c.len-in-Ok.ensures in
-    goes_on language c.args.bytes.now c.front_of.new.lines ns c.in-Ok.found.1 front (λ none. c.if-len-eq0.false (c.len.ensures ∙ none))
-    c.occurrences-read.result counted
+    goes_on language front (λ none. c.if-len-eq0.false (c.len.ensures ∙ none))
+    counted
 
 pub returns-else-len-eq0-clause-read : goal.returns-else-len-eq0-clause-read
 returns-else-len-eq0-clause-read g c sizes callers h =

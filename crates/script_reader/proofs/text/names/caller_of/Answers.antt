@@ -1,8 +1,6 @@
-use Rattle.std.proofs.Common.{◌≡◌, ◌∷◌, [], ap, sym, subst, ◌∙◌, codes, Bor, List, ℕ, Result, Ok, Err}
+use Rattle.script_reader.proofs.Common.{◌≡◌, ◌∷◌, [], ap, sym, subst, ◌∙◌, codes, List, ℕ, Result, Ok, Err, Fault, IsName, word_at}
+use Rattle.std.proofs.Common.{Bor}
 use Rattle.std.specs.Result.{IfOk}
-use Rattle.script_reader.specs.declared.fault.Fault.{Fault}
-use Rattle.script_reader.specs.Input.{IsName}
-use Rattle.script_reader.specs.Lines.{word_at}
 use Rattle.script_reader.proofs.LineFaults.LineKinds.{one_behind}
 use Rattle.script_reader.proofs.text.names.caller_of.Goals as goal
 

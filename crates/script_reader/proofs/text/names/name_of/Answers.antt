@@ -1,4 +1,4 @@
-use Rattle.std.proofs.Common.{sym, ◌∙◌}
+use Rattle.script_reader.proofs.Common.{sym, ◌∙◌}
 use Rattle.script_reader.proofs.text.Tokens.Naming.{IsName-text}
 use Rattle.script_reader.proofs.text.names.name_of.Goals as goal
 

@@ -1,10 +1,9 @@
-use Rattle.std.proofs.Common.{ℕ, ◌≡◌, ◌+◌, get_or, take, true, ◌&&◌, List, [], ◌∷◌, refl, sym, ap, ◌∙◌, arith}
+use Rattle.script_reader.proofs.Common.{ℕ, ◌≡◌, ◌+◌, get_or, take, true, ◌&&◌, List, [], ◌∷◌, refl, sym, ap, ◌∙◌, arith, list_all, all_ascii_digits}
+use Rattle.script_reader.proofs.Common.{numerals_by_value, tells_all_ascii_digits}
 use Rattle.std.specs.Int.{IsInRange}
-use Rattle.std.specs.List.{list_all}
 use Rattle.std.specs.Char.{is_ascii_digit}
-use Rattle.std.specs.Str.{all_ascii_digits}
 use Rattle.std.proofs.lemmas.Str.{digit_value_digit}
-use Rattle.std.proofs.lemmas.Str.Parse.{numerals_by_value, tells_all_ascii_digits, digit_at}
+use Rattle.std.proofs.lemmas.Str.Parse.{digit_at}
 use Rattle.std.proofs.lemmas.List.Folds.{list_all_more, list_all_at}
 use Rattle.std.proofs.lemmas.Int.Digits.{digits_value_more}
 use Rattle.script_reader.proofs.Conditions.{and_true}

@@ -1,6 +1,4 @@
-use Rattle.std.proofs.Common.{◌≡◌, true, min, take}
-use Rattle.std.specs.Str.{all_ascii_digits}
-use Rattle.std.specs.Str.Parse.{digits_value}
+use Rattle.script_reader.proofs.Common.{◌≡◌, true, min, take, all_ascii_digits, digits_value}
 use Rattle.script_reader.proofs.text.Tokens.Numerals.{greatest_u64}
 use Rattle.script_reader.proofs.text.numbers.value_of.Given as goal
 

@@ -1,7 +1,4 @@
-use Rattle.std.proofs.Common.{◌≡◌, ◌<◌, ◌==◌, ℕ, false, length, take, get_or}
-use Rattle.std.specs.List.{count_by}
-use Rattle.script_reader.specs.declared.text.words.TheConstants.{SPACE, LINE_FEED}
-use Rattle.script_reader.specs.Inner.Cuts.{word_end}
+use Rattle.script_reader.proofs.Common.{◌≡◌, ◌<◌, ◌==◌, ℕ, false, length, take, get_or, count_by, SPACE, LINE_FEED, word_end}
 use Rattle.script_reader.proofs.text.words.first_line.Given as goal
 
 abbrev pub invariant-loop-i : goal.invariant-loop-i

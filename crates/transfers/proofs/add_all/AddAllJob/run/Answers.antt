@@ -1,7 +1,4 @@
-use Rattle.std.proofs.Common.{◌≡◌, ◌+◌, ◌<◌, ◌≤◌, ◌^◌, sum, take, get_or, ◌∙◌, sym, subst, [], arith}
-use Rattle.std.proofs.lemmas.List.Sums.{sum_by_more}
-use Rattle.std.specs.Prelude.{⊤}
-use Rattle.txn.proofs.Common.{Leads}
+use Rattle.transfers.proofs.Common.{◌≡◌, ◌+◌, ◌<◌, ◌≤◌, ◌^◌, sum, take, get_or, ◌∙◌, sym, subst, [], arith, sum_by_more, ⊤, Leads}
 use Rattle.transfers.proofs.Growing.{Grown, grown_more}
 use Rattle.transfers.proofs.Meaning.{adds_none, adds_all}
 use Rattle.transfers.proofs.add_all.AddAllJob.run.Goals as goal

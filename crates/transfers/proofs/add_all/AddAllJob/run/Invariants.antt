@@ -1,6 +1,4 @@
-use Rattle.std.proofs.Common.{◌≡◌, [], None, sum, take}
-use Rattle.std.specs.Prelude.{⊤}
-use Rattle.txn.proofs.Common.{Leads}
+use Rattle.transfers.proofs.Common.{◌≡◌, [], None, sum, take, ⊤, Leads}
 use Rattle.transfers.proofs.Growing.{Grown}
 use Rattle.transfers.proofs.add_all.AddAllJob.run.Given as goal
 

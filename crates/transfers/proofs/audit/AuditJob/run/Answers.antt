@@ -1,4 +1,4 @@
-use Rattle.std.proofs.Common.{◌+◌, ◌<◌, ◌^◌, refl, ◌∙◌, arith}
+use Rattle.transfers.proofs.Common.{◌+◌, ◌<◌, ◌^◌, refl, ◌∙◌, arith}
 use Rattle.transfers.proofs.Auditing.{none_summed, one_more, has_room}
 use Rattle.transfers.proofs.audit.AuditJob.run.Goals as goal
 

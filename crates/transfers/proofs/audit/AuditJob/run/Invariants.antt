@@ -1,4 +1,4 @@
-use Rattle.std.proofs.Common.{◌≡◌, None}
+use Rattle.transfers.proofs.Common.{◌≡◌, None}
 use Rattle.transfers.proofs.Auditing.{IsSummed}
 use Rattle.transfers.proofs.audit.AuditJob.run.Given as goal
 

@@ -1,7 +1,5 @@
-use Rattle.std.proofs.Common.{subst, sym, refl, arith}
+use Rattle.transfers.proofs.Common.{subst, sym, refl, arith, nothing_yet, was_read, HasSum}
 use Rattle.std.proofs.lemmas.Option.{slice_get_past}
-use Rattle.txn.proofs.Common.{nothing_yet, was_read}
-use Rattle.transfers.specs.Moving.{HasSum}
 use Rattle.transfers.proofs.look.LookJob.run.Goals as goal
 
 pub returns-then-place-vault-clause-meaning : goal.returns-then-place-vault-clause-meaning

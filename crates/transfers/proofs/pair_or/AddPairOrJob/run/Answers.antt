@@ -1,7 +1,5 @@
-use Rattle.std.proofs.Common.{◌+◌, true, false, subst}
-use Rattle.std.specs.Prelude.{⊤}
-use Rattle.txn.proofs.Common.{Leads, leads_fresh, leads_leads}
-use Rattle.transfers.specs.Counting.{AddsWhereFits}
+use Rattle.transfers.proofs.Common.{◌+◌, true, false, subst, ⊤, Leads, AddsWhereFits}
+use Rattle.txn.proofs.Common.{leads_fresh, leads_leads}
 use Rattle.transfers.proofs.Fitting.{neither_fits, other_fits, pair_fits}
 use Rattle.transfers.proofs.pair_or.AddPairOrJob.run.Goals as goal
 

@@ -1,6 +1,6 @@
-use Rattle.std.proofs.Common.{refl, sym, ◌∙◌}
-use Rattle.txn.specs.Maps.{New}
+use Rattle.transfers.proofs.Common.{refl, sym, ◌∙◌}
 use Rattle.txn.proofs.Common.{order_found, order_inserted, good_at_start, done_from_start, may_look, there_still, behind}
+use Rattle.txn.specs.Maps.{New}
 use Rattle.transfers.proofs.put.PutIfAbsentJob.run.Goals as goal
 
 pub get-requires-clause-order : goal.get-requires-clause-order

@@ -1,4 +1,4 @@
-use Rattle.std.proofs.Common.{◌≢◌, ◌+◌, ◌<◌, ◌≤◌, ◌^◌, sym, arith}
+use Rattle.transfers.proofs.Common.{◌≢◌, ◌+◌, ◌<◌, ◌≤◌, ◌^◌, sym, arith}
 use Rattle.transfers.proofs.Transferring.{too_little, has_room, keeps, stays_good}
 use Rattle.transfers.proofs.transfer.TransferJob.run.Goals as goal
 

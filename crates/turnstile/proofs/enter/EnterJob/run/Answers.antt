@@ -1,4 +1,4 @@
-use Rattle.std.proofs.Common.{◌<◌, arith}
+use Rattle.turnstile.proofs.Common.{◌<◌, arith}
 use Rattle.turnstile.proofs.Entering.{stays_out, comes_in, stays_good}
 use Rattle.turnstile.proofs.enter.EnterJob.run.Goals as goal
 

@@ -1,4 +1,4 @@
-use Rattle.std.proofs.Common.{◌≡◌}
+use Rattle.turnstile.proofs.Common.{◌≡◌}
 use Rattle.txn.specs.Prelude.{Idle}
 use Rattle.turnstile.proofs.visitors.VisitorClient.work.Given as goal
 

@@ -1,10 +1,4 @@
-use Rattle.std.proofs.Common.{ℕ, List, sym, ap, ◌∙◌, subst}
-use Rattle.history_model.specs.Traces.{after}
-use Rattle.history_model.specs.Fitting.{Fits}
-use Rattle.txn_words.specs.Verdicts.{is_kept, answer_of}
-use Rattle.txn_books.specs.Layout.{words_of}
-use Rattle.txn_books.specs.Standing.{IsGoodFor}
-use Rattle.txn_books.specs.Meaning.{ScriptOn, ScriptMeans}
+use Rattle.txn_books.proofs.Common.{ℕ, List, sym, ap, ◌∙◌, subst, after, Fits, is_kept, answer_of, words_of, IsGoodFor, ScriptOn, ScriptMeans}
 use Rattle.txn_books.proofs.OnBooks.Scripted.{fresh_good, fresh_means, fresh_leaves}
 use Rattle.txn_books.proofs.job.ScriptJobJob.run.Goals as goal
 

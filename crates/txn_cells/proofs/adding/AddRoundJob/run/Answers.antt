@@ -1,9 +1,5 @@
-use Rattle.std.proofs.Common.{◌≡◌, ◌+◌, ◌*◌, ◌%◌, sym, ◌∙◌, subst, arith}
-use Rattle.history_model.specs.Fitting.{Fits}
-use Rattle.history_model.specs.Traces.{after}
+use Rattle.txn_cells.proofs.Common.{◌≡◌, ◌+◌, ◌*◌, ◌%◌, sym, ◌∙◌, subst, arith, Fits, after, CELLS, AreCells}
 use Rattle.txn_cells.specs.contracts.numbers.U128Coded.TheImpl.{ghosts as numbers}
-use Rattle.txn_cells.specs.declared.limits.TheConstants.{CELLS}
-use Rattle.txn_cells.specs.Cells.{AreCells}
 use Rattle.txn_cells.proofs.Additions.{cells_at_first, round_adds}
 use Rattle.txn_cells.proofs.adding.AddRoundJob.run.Goals as goal
 

@@ -1,6 +1,4 @@
-use Rattle.std.proofs.Common.{[], ◌∷◌, take, sym, ap, ◌∙◌}
-use Rattle.txn_cells.specs.declared.typed.TypedEvent.TheVariants.{Get}
-use Rattle.txn_cells.specs.Cells.{IsOfCell}
+use Rattle.txn_cells.proofs.Common.{[], ◌∷◌, take, sym, ap, ◌∙◌, Get, IsOfCell}
 use Rattle.txn_cells.proofs.Arrays.{value_found, gets, cells_after}
 use Rattle.txn_cells.proofs.array.CellArray.get.Goals as goal
 

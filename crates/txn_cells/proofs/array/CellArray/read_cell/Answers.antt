@@ -1,9 +1,5 @@
-use Rattle.std.proofs.Common.{◌≡◌, ◌+◌, ◌*◌, ◌<◌, ◌≤◌, length, take, ap, ◌∙◌, subst, arith}
-use Rattle.std.proofs.lemmas.List.{length-take-le, length-set}
-use Rattle.txn_words.proofs.CallLaws.{each_plain}
-use Rattle.txn_cells.specs.Cells.{IsOfCell}
-use Rattle.txn_cells.specs.Inner.Puts.{HasWords}
-use Rattle.txn_words.specs.Looks.{Looks}
+use Rattle.txn_cells.proofs.Common.{◌≡◌, ◌+◌, ◌*◌, ◌<◌, ◌≤◌, length, take, ap, ◌∙◌, subst, arith, length-set, each_plain, IsOfCell, HasWords, Looks}
+use Rattle.std.proofs.lemmas.List.{length-take-le}
 use Rattle.txn_cells.proofs.Calls.{cell_lies}
 use Rattle.txn_cells.proofs.Turns.{more_read, cell_read}
 use Rattle.txn_cells.proofs.array.CellArray.read_cell.Goals as goal

@@ -1,7 +1,4 @@
-use Rattle.std.proofs.Common.{◌≡◌, ◌+◌, ◌*◌, None, length, take}
-use Rattle.txn_words.specs.Looks.{Looks}
-use Rattle.txn_cells.specs.Cells.{IsOfCell}
-use Rattle.txn_cells.specs.Inner.Puts.{HasWords}
+use Rattle.txn_cells.proofs.Common.{◌≡◌, ◌+◌, ◌*◌, None, length, take, Looks, IsOfCell, HasWords}
 use Rattle.txn_cells.proofs.array.CellArray.read_cell.Given as goal
 
 abbrev pub invariant-loop-k : goal.invariant-loop-k

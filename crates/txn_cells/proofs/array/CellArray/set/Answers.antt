@@ -1,6 +1,5 @@
-use Rattle.std.proofs.Common.{rules, [], ◌∷◌, take}
-use Rattle.txn_cells.specs.declared.typed.TypedEvent.TheVariants.{Set}
-use Rattle.txn_words.proofs.Listed.{map_ok}
+use Rattle.txn_cells.proofs.Common.{[], ◌∷◌, take, Set, map_ok}
+use Rattle.std.proofs.Common.{rules}
 use Rattle.txn_cells.proofs.Arrays.{sets, cells_after}
 use Rattle.txn_cells.proofs.array.CellArray.set.Goals as goal
 

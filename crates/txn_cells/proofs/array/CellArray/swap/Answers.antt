@@ -1,13 +1,7 @@
-use Rattle.std.proofs.Common.{◌+◌, ◌*◌, [], ◌∷◌, take, sym, ap, ◌∙◌, subst}
-use Rattle.history_model.proofs.Traces.TraceLaws.{begins_trans}
-use Rattle.txn_words.specs.Calls.{LeadsTo, InEachState}
-use Rattle.history_model.proofs.Traces.FittingLaws.{some_at}
-use Rattle.txn_cells.specs.declared.typed.TypedEvent.TheVariants.{Get, Set}
-use Rattle.txn_cells.specs.Cells.{AreCells, IsOfCell}
-use Rattle.txn_words.proofs.Listed.{map_ok}
+use Rattle.txn_cells.proofs.Common.{◌+◌, ◌*◌, [], ◌∷◌, take, sym, ap, ◌∙◌, subst, begins_trans, LeadsTo, InEachState, some_at, Get, Set, AreCells, IsOfCell}
+use Rattle.txn_cells.proofs.Common.{map_ok, PutsWords}
 use Rattle.txn_cells.proofs.Arrays.{value_found, sets, cells_after, does_next}
 use Rattle.txn_cells.proofs.Swapping.{cells_looked, Crossed, crossed, either_written, either_read}
-use Rattle.txn_cells.specs.Inner.Puts.{PutsWords}
 use Rattle.txn_cells.proofs.array.CellArray.swap.Given.{Over}
 use Rattle.txn_cells.proofs.array.CellArray.swap.Goals as goal
 

@@ -1,4 +1,4 @@
-use Rattle.std.proofs.Common.{◌≡◌, ◌+◌, ◌-◌, ◌*◌, List, ℕ, take, drop, sym, ap, ◌∙◌, arith}
+use Rattle.txn_cells.proofs.Common.{◌≡◌, ◌+◌, ◌-◌, ◌*◌, List, ℕ, take, drop, sym, ap, ◌∙◌, arith}
 use Rattle.txn_cells.proofs.Values.{value_at, value_is}
 use Rattle.txn_cells.proofs.array.CellArray.value_in.Goals as goal
 

@@ -1,9 +1,6 @@
-use Rattle.std.proofs.Common.{◌≡◌, ◌+◌, ◌*◌, ◌≤◌, get_or, ap, ◌∙◌, arith}
-use Rattle.history_model.proofs.Traces.TraceLaws.{begins_trans}
-use Rattle.txn_words.proofs.CallLaws.{each_plain}
-use Rattle.txn_words.proofs.FrameLaws.{only_write, only_then}
-use Rattle.txn_words.proofs.ReadLaws.{sees_write, sees_then}
-use Rattle.txn_cells.specs.Cells.{IsOfCell}
+use Rattle.txn_cells.proofs.Common.{◌≡◌, ◌+◌, ◌*◌, ◌≤◌, get_or, ap, ◌∙◌, arith, begins_trans, each_plain, only_then, sees_then, IsOfCell}
+use Rattle.txn_words.proofs.FrameLaws.{only_write}
+use Rattle.txn_words.proofs.ReadLaws.{sees_write}
 use Rattle.txn_cells.proofs.Calls.{cell_lies}
 use Rattle.txn_cells.proofs.Turns.{more_put}
 use Rattle.txn_cells.proofs.array.CellArray.write_cell.Goals as goal

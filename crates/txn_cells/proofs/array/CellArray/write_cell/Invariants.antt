@@ -1,9 +1,4 @@
-use Rattle.std.proofs.Common.{◌≡◌, ◌+◌, ◌*◌, None, take}
-use Rattle.history_model.specs.Traces.{Begins}
-use Rattle.history_model.specs.Fitting.{Leads}
-use Rattle.txn_words.specs.Frames.{AppendsOnly, AppendsReads}
-use Rattle.txn_cells.specs.Cells.{IsOfCell}
-use Rattle.txn_cells.specs.Inner.Puts.{PutsWords}
+use Rattle.txn_cells.proofs.Common.{◌≡◌, ◌+◌, ◌*◌, None, take, Begins, Leads, AppendsOnly, AppendsReads, IsOfCell, PutsWords}
 use Rattle.txn_cells.proofs.array.CellArray.write_cell.Given as goal
 
 abbrev pub invariant-loop-k : goal.invariant-loop-k

@@ -1,10 +1,6 @@
-use Rattle.std.proofs.Common.{◌≡◌, ◌+◌, ◌*◌, [], ◌∷◌, slice_index, refl, sym, ap, ◌∙◌, subst, arith}
-use Rattle.history_model.specs.Fitting.{IsGood}
-use Rattle.history_model.specs.Views.{number}
-use Rattle.values_rule.proofs.Members.{in_second}
+use Rattle.txn_cells.proofs.Common.{◌≡◌, ◌+◌, ◌*◌, [], ◌∷◌, slice_index, refl, sym, ap, ◌∙◌, subst, arith, IsGood, number, AreCells, HasRounds}
+use Rattle.word_table.proofs.Common.{in_second}
 use Rattle.txn_cells.specs.contracts.numbers.U128Coded.TheImpl.{ghosts as numbers}
-use Rattle.txn_cells.specs.Cells.{AreCells}
-use Rattle.txn_cells.specs.Rounds.{HasRounds}
 use Rattle.txn_cells.proofs.Gathering.{no_rounds, of_words, one_round}
 use Rattle.txn_cells.proofs.rounds.AdderClient.work.Goals as goal
 

@@ -1,7 +1,6 @@
-use Rattle.std.proofs.Common.{◌≡◌}
+use Rattle.txn_cells.proofs.Common.{◌≡◌, HasRounds}
 use Rattle.history_model.specs.declared.view.Phase.TheVariants.{Idle}
 use Rattle.txn_cells.specs.contracts.numbers.U128Coded.TheImpl.{ghosts as numbers}
-use Rattle.txn_cells.specs.Rounds.{HasRounds}
 use Rattle.txn_cells.proofs.rounds.AdderClient.work.Given as goal
 
 -- so many rounds were made

@@ -1,6 +1,4 @@
-use Rattle.std.proofs.Common.{Option, sym, subst, arith}
-use Rattle.txn_commit.specs.declared.attempt.Halt.{Halt}
-use Rattle.txn_commit.specs.Attempts.{IsSoundAttempt}
+use Rattle.txn_commit.proofs.Common.{Option, sym, subst, arith, Halt, IsSoundAttempt}
 use Rattle.txn_commit.proofs.Attempts.{memory_sound, not_halted}
 use Rattle.txn_commit.proofs.attempt.AttemptWords.back_to.Goals as goal
 

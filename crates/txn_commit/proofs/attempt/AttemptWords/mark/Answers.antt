@@ -1,4 +1,4 @@
-use Rattle.std.proofs.Common.{◌∙◌}
+use Rattle.txn_commit.proofs.Common.{◌∙◌}
 use Rattle.txn_commit.proofs.Attempts.{noted_count}
 use Rattle.txn_commit.proofs.attempt.AttemptWords.mark.Goals as goal
 

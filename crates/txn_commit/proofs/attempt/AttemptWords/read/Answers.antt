@@ -1,16 +1,9 @@
-use Rattle.std.proofs.Common.{ℕ, ◌<◌, [], ◌∷◌, Option, None, length, refl, sym, ap, ◌∙◌, subst, append-nil}
-use Rattle.history_model.specs.declared.event.Event.TheVariants.{Read}
-use Rattle.history_model.specs.declared.view.View.{View}
-use Rattle.history_model.specs.Fitting.{IsGood}
-use Rattle.word_table.specs.Calls.{ReadsArranged}
-use Rattle.word_table.specs.Copies.{PassView}
-use Rattle.word_table.specs.Desks.{DeskView}
-use Rattle.lock_or_yield.specs.declared.turn.Intent.TheVariants as intent
-use Rattle.txn_commit.specs.declared.attempt.Halt.{Halt}
-use Rattle.txn_commit.specs.Attempts.{IsSoundAttempt, stop_of}
-use Rattle.txn_commit.specs.Inner.Asking.{AsksForWord}
+use Rattle.txn_commit.proofs.Common.{ℕ, ◌<◌, [], ◌∷◌, Option, None, length, refl, sym, ap, ◌∙◌, subst, Read, View, IsGood, ReadsArranged, PassView, DeskView}
+use Rattle.txn_commit.proofs.Common.{Halt, IsSoundAttempt, stop_of, AsksForWord}
+use Rattle.std.proofs.Common.{append-nil}
 use Rattle.txn_commit.proofs.Attempts.{begun_origin, held_sound, not_halted, sound_as, yields_sound}
 use Rattle.txn_commit.proofs.Asking.{asks_trace, load_asked, load_locks, load_trace, used_load}
+use Rattle.lock_or_yield.specs.declared.turn.Intent.TheVariants as intent
 use Rattle.txn_commit.proofs.attempt.AttemptWords.read.Goals as goal
 
 pub use_or_yield-requires : goal.use_or_yield-requires

@@ -1,20 +1,13 @@
-use Rattle.std.proofs.Common.{◌≡◌, ℕ, ◌<◌, [], ◌∷◌, ◌++◌, Option, Some, inr, refl, sym, ap, ◌∙◌, subst, arith, append_assoc, append-nil, rules}
-use Rattle.history_model.specs.declared.event.Event.TheVariants.{Read, Write}
-use Rattle.history_model.specs.declared.view.View.{View}
-use Rattle.history_model.specs.Locks.{lock_of_word}
-use Rattle.history_model.specs.Traces.{Trace}
-use Rattle.history_model.specs.Views.{number, HasWriteGrant}
-use Rattle.values_rule.specs.Steps.{store_value_action}
-use Rattle.undo_log.specs.Room.{Room}
-use Rattle.lock_or_yield.specs.declared.turn.Intent.TheVariants as intent
-use Rattle.lock_or_yield.specs.Asking.{AsksToWrite, GainsAtMost}
-use Rattle.txn_commit.specs.declared.attempt.Halt.{Halt}
-use Rattle.txn_commit.specs.declared.attempt.Halt.TheVariants as halt
-use Rattle.txn_commit.specs.Attempts.{IsSoundAttempt, stop_of}
+use Rattle.txn_commit.proofs.Common.{◌≡◌, ℕ, ◌<◌, [], ◌∷◌, ◌++◌, Option, Some, inr, refl, sym, ap, ◌∙◌, subst, arith, append_assoc, rules, Read, Write, View}
+use Rattle.txn_commit.proofs.Common.{lock_of_word, Trace, number, HasWriteGrant, store_value_action, Room, GainsAtMost, Halt, IsSoundAttempt, stop_of}
+use Rattle.lock_or_yield.proofs.Common.{AsksToWrite}
+use Rattle.std.proofs.Common.{append-nil}
 use Rattle.txn_commit.proofs.Attempts.{asks_table, loaded_last, not_halted, of_refused, of_made, refused_when_full, yields_sound, held_sound, memory_sound}
 use Rattle.txn_commit.proofs.Attempts.{store_sound, held_not_yield, granted_not_yield}
 use Rattle.txn_commit.proofs.Asking.{asks_trace, load_asked, load_locks, load_trace}
 use Rattle.txn_commit.proofs.attempt.AttemptWords.write.Goals.{in-Held, in-Granted}
+use Rattle.lock_or_yield.specs.declared.turn.Intent.TheVariants as intent
+use Rattle.txn_commit.specs.declared.attempt.Halt.TheVariants as halt
 use Rattle.txn_commit.proofs.attempt.AttemptWords.write.Goals as goal
 
 -- what a store after a load leaves of the trace, of the words asked for and of locks

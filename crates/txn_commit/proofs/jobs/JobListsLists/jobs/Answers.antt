@@ -1,4 +1,4 @@
-use Rattle.std.proofs.Common.{List, length, ap, arith}
+use Rattle.txn_commit.proofs.Common.{List, length, ap, arith}
 use Rattle.txn_commit.proofs.JobCounts.{jobs_of_one}
 use Rattle.txn_commit.proofs.jobs.JobListsLists.jobs.Goals as goal
 

@@ -1,10 +1,8 @@
-use Rattle.std.proofs.Common.{◌≡◌, sym, ◌∙◌}
+use Rattle.txn_commit.proofs.Common.{◌≡◌, sym, ◌∙◌, number, AreGoodWords}
 use Rattle.std.proofs.Math.Logic.{∥∥₁_elim}
 use base.Stored.{Coded-set}
-use Rattle.history_model.specs.Views.{number}
 use Rattle.txn_commit.proofs.JobCounts.{entry_of_job, job_there, of_job}
 use Rattle.txn_commit.proofs.jobs.JobListsLists.run.Goals as goal
-use Rattle.word_table.specs.Desks.{AreGoodWords}
 
 pub run_job-requires-clause-job : goal.run_job-requires-clause-job
 run_job-requires-clause-job g c =

@@ -1,16 +1,7 @@
-use Rattle.std.proofs.Common.{◌≡◌, ◌+◌, arith, rules, ap, ◌∙◌}
-use Rattle.std.proofs.lemmas.Result.{IfOk-from_err}
-use Rattle.txn_words.proofs.CallLaws.{each_plain, goes_call, goes_then, goes_as}
-use Rattle.txn_words.specs.Calls.{GoesOn}
-use Rattle.txn_alloc.specs.FreeLists.{block_at, HasNone}
-use Rattle.txn_alloc.specs.EntryMaps.{HasMapApart}
-use Rattle.txn_hash_map.specs.Chains.{chain_part}
+use Rattle.txn_hash_map.proofs.Common.{◌≡◌, ◌+◌, arith, rules, ap, ◌∙◌, goes_call, goes_then, goes_as, block_at, HasMapApart, chain_part, each_looked}
+use Rattle.txn_hash_map.proofs.Common.{laid_block, held, looks_value, each_now, each_since, leads_since, some_since}
 use Rattle.txn_alloc.proofs.FreeLists.Wider.{take_keeps}
-use Rattle.txn_words.proofs.Looks.{leads_from, each_from, each_looked, some_from}
 use Rattle.txn_hash_map.proofs.Steps.{missing_value}
-use Rattle.txn_alloc.proofs.FreeLists.Traces.{laid_block}
-use Rattle.txn_alloc.proofs.Maps.Parts.{held}
-use Rattle.txn_alloc.proofs.Maps.Founds.{looks_value}
 use Rattle.txn_alloc.proofs.Maps.Inserted.{revalued, put_new, found_full}
 use Rattle.txn_hash_map.proofs.Looks.{near_own, keys_block}
 use Rattle.txn_hash_map.proofs.Changes.{inserted_old}
@@ -26,7 +17,7 @@ read-requires-clause-within g c =
     let found = rw c.in-Some.is at c.in_ok-found.ensures.found in
     let below = rw c.in-Some.is at c.in_ok-found.ensures.block in
     let goes = c.in_ok-found.ensures.goes_on in
-    let some = some_from g.W.Words g.W.Shape.Shape c.args.w.now c.find.new.w goes.shape (g.met.W.Words.fits c.find.new.w goes.sound) in
+    let some = some_since g.W.Words g.W.Shape.Shape goes.shape (g.met.W.Words.fits c.find.new.w goes.sound) in
     let in_list = laid_block m.arena _ _ _ some c.in-Some.found.block (record { at = λ s fit. (found.holds s fit).laid.arena }) below in
     omega (arith, in_list.0, ap g.W.Shape.Shape.word_count goes.shape, c.place_of-at.ensures)
 
@@ -36,7 +27,7 @@ write-requires-clause-within g c =
     let found = rw c.in-Some.is at c.in_ok-found.ensures.found in
     let below = rw c.in-Some.is at c.in_ok-found.ensures.block in
     let goes = c.in_ok-found.ensures.goes_on in
-    let some = some_from g.W.Words g.W.Shape.Shape c.args.w.now c.find.new.w goes.shape (g.met.W.Words.fits c.find.new.w goes.sound) in
+    let some = some_since g.W.Words g.W.Shape.Shape goes.shape (g.met.W.Words.fits c.find.new.w goes.sound) in
     let in_list = laid_block m.arena _ _ _ some c.in-Some.found.block (record { at = λ s fit. (found.holds s fit).laid.arena }) below in
     omega (arith, in_list.0, ap g.W.Shape.Shape.word_count goes.shape, ap g.W.Shape.Shape.word_count c.in_ok-old-in-Some.ensures.shape, c.place_of-at.ensures)
 
@@ -45,8 +36,8 @@ take_near-requires-clause-order g c =
     let m = c.args.self.now in
     let missing = rw c.in-None.is at c.in_ok-found.ensures.missing in
     let goes = c.in_ok-found.ensures.goes_on in
-    let order = each_looked _ _ _ _ missing (HasMapApart (chain_part m)) (each_plain g.W.Words g.W.Shape.Shape _ _ c.requires.order) in
-    each_from g.W.Words g.W.Shape.Shape c.args.w.now c.find.new.w _ goes.shape
+    let order = each_looked _ _ _ _ missing (HasMapApart (chain_part m)) (each_now c.requires.order) in
+    each_since c.args.w.now goes.shape
     (record { at = λ s fit. ((order.at s fit).free, (order.at s fit).holds.free_lists) })
 
 pub put_in_front-requires-clause-laid : goal.put_in_front-requires-clause-laid
@@ -56,9 +47,9 @@ put_in_front-requires-clause-laid g c =
     let goes = c.in_ok-found.ensures.goes_on in
     let then = c.in_ok-block-in-None.ensures in
     let keeps = take_keeps m.arena c.in_ok-block-in-None.field-0 _ _ _ _
-    (leads_from g.W.Words g.W.Shape.Shape c.args.w.now c.find.new.w c.take_near.new.w _ goes.shape then.others) in
-    each_from g.W.Words g.W.Shape.Shape c.args.w.now c.take_near.new.w _ (then.goes_on.shape ∙ goes.shape)
-    (laid_taken m c.args.key c.args.value _ _ _ _ (each_plain g.W.Words g.W.Shape.Shape _ _ c.requires.order) missing _ then.goes_on.begins keeps)
+    (leads_since goes.shape then.others) in
+    each_since c.args.w.now (then.goes_on.shape ∙ goes.shape)
+    (laid_taken c.args.value (each_now c.requires.order) missing then.goes_on.begins keeps)
 
 pub returns-in_ok-write-in-Some : goal.returns-in_ok-write-in-Some
 returns-in_ok-write-in-Some g c =
@@ -71,11 +62,11 @@ returns-in_ok-write-in-Some g c =
     let found = rw c.in-Some.is at c.in_ok-found.ensures.found in
     let is_value : q ≡ block_at m.arena b + 1 = omega (arith, c.place_of-at.ensures) in
     let goes = goes_then (goes_then c.in_ok-found.ensures.goes_on (goes_call read)) (goes_call write) in
-    let some = some_from g.W.Words g.W.Shape.Shape c.args.w.now c.write.new.self goes.shape (g.met.W.Words.fits c.write.new.self goes.sound) in
+    let some = some_since g.W.Words g.W.Shape.Shape goes.shape (g.met.W.Words.fits c.write.new.self goes.sound) in
     let i = revalued g.W.Words g.W.Shape.Shape (chain_part m) key c.args.value c.args.w.now c.write.new.self goes.shape goes.begins
     c.requires.order some b q c.in_ok-old-in-Some.old is_value _ (keys_block m key c.in-Some.found.place b) (near_own m key)
     (looks_value _ _ _ _ found _ q c.in_ok-old-in-Some.old read.value) write.value
-    (λ s f used free hold h. inserted_old m key s f used free hold c.in-Some.found.place b c.args.value h) in
+    (λ s f used free hold h. inserted_old hold c.args.value h) in
     record {
       put = i.put;
       nearest = i.nearest;
@@ -93,29 +84,28 @@ pub returns-in_ok-put_in_front-in-Some-2 : goal.returns-in_ok-put_in_front-in-So
 returns-in_ok-put_in_front-in-Some-2 g c =
     let m = c.args.self.now in
     let key = c.args.key in
-    let b = c.in-Some-2.block in
     let first = c.in_ok-found.ensures.goes_on in
     let take = c.in_ok-block-in-None.ensures in
     let last = c.in_ok-put_in_front-in-Some-2.ensures in
     let goes = goes_then (goes_then first take.goes_on) last.goes_on in
     let missing = rw c.in-None.is at c.in_ok-found.ensures.missing in
-    let order = each_plain g.W.Words g.W.Shape.Shape _ _ c.requires.order in
-    let taken = leads_from g.W.Words g.W.Shape.Shape c.args.w.now c.find.new.w c.take_near.new.w _ first.shape (rw c.in-Some-2.is at take.taken) in
-    let nearest = leads_from g.W.Words g.W.Shape.Shape c.args.w.now c.find.new.w c.take_near.new.w _ first.shape (rw c.in-Some-2.is at take.nearest) in
+    let order = each_now c.requires.order in
+    let taken = leads_since first.shape (rw c.in-Some-2.is at take.taken) in
+    let nearest = leads_since first.shape (rw c.in-Some-2.is at take.nearest) in
     let kept = take_keeps m.arena c.in_ok-block-in-None.field-0 _ _ _ _
-    (leads_from g.W.Words g.W.Shape.Shape c.args.w.now c.find.new.w c.take_near.new.w _ first.shape take.others) in
+    (leads_since first.shape take.others) in
     let heads = rw c.in-Some-2.is at take.frame in
     let names = rw c.in-Some-2.is at take.reads in
     let same = take.goes_on.shape ∙ first.shape in
-    let put = leads_from g.W.Words g.W.Shape.Shape c.args.w.now c.take_near.new.w c.put_in_front.new.w _ same (rw c.number.ensures at last.put) in
+    let put = leads_since same (rw c.number.ensures at last.put) in
     let own = rw c.number.ensures at last.frame in
     let seen = rw c.number.ensures at last.reads in
-    let some = some_from g.W.Words g.W.Shape.Shape c.args.w.now c.put_in_front.new.w goes.shape (g.met.W.Words.fits c.put_in_front.new.w goes.sound) in
+    let some = some_since g.W.Words g.W.Shape.Shape goes.shape (g.met.W.Words.fits c.put_in_front.new.w goes.sound) in
     let i = put_new g.W.Words g.W.Shape.Shape (chain_part m) key c.args.value c.args.w.now c.put_in_front.new.w goes.shape goes.begins c.requires.order some
-    (inserts_new m key c.args.value _ _ _ _ order missing _ take.goes_on.begins _ b last.goes_on.begins taken kept put)
-    (takes_new m key c.args.value _ _ _ _ order missing _ take.goes_on.begins _ b last.goes_on.begins taken kept put nearest)
-    (owns_new m key c.args.value _ _ _ _ order missing _ take.goes_on.begins _ b last.goes_on.begins taken kept put heads.appended own.appended)
-    (sees_new m key c.args.value _ _ _ _ order missing _ take.goes_on.begins _ b last.goes_on.begins taken kept put names seen) in
+    (inserts_new c.args.value order missing take.goes_on.begins last.goes_on.begins taken kept put)
+    (takes_new c.args.value order missing take.goes_on.begins last.goes_on.begins taken kept put nearest)
+    (owns_new c.args.value order missing take.goes_on.begins last.goes_on.begins taken kept put heads.appended own.appended)
+    (sees_new c.args.value order missing take.goes_on.begins last.goes_on.begins taken kept put names seen) in
     record {
       put = i.put;
       nearest = i.nearest;
@@ -142,9 +132,9 @@ returns-in-None-2 g c =
     let still = rw c.in-None-2.is at take.frame in
     let names = rw c.in-None-2.is at take.reads in
     let i = found_full g.W.Words g.W.Shape.Shape (chain_part m) key c.args.value c.args.w.now c.take_near.new.w goes.shape goes.begins
-    c.requires.order _ (near_own m key) (λ s f used h. missing_value m key s f used h) missing take.goes_on.begins
-    (leads_from g.W.Words g.W.Shape.Shape c.args.w.now c.find.new.w c.take_near.new.w _ first.shape taken)
-    (leads_from g.W.Words g.W.Shape.Shape c.args.w.now c.find.new.w c.take_near.new.w (λ before after. HasNone m.arena before) first.shape none)
+    c.requires.order _ (near_own m key) (λ s f used h. missing_value m key s h) missing take.goes_on.begins
+    (leads_since first.shape taken)
+    (leads_since first.shape none)
     still.appended names in
     record {
       put = i.put;
@@ -166,30 +156,17 @@ returns-in_err-put_in_front-in-Some-2-clause-goes_on g c =
     let three = c.in_err-put_in_front-in-Some-2.ensures.goes_on in
     goes_as (goes_then (goes_then one two) three) (search rules)
 
-pub returns-in_err-found : goal.returns-in_err-found
-returns-in_err-found g c =
-    let failed = c.from_residual.ensures.0 in
-    let on : GoesOn g.W.Words c.args.w.now c.find.new.w c.from_residual.result = goes_as c.in_err-found.ensures.goes_on (search rules) in
-    search IfOk-from_err
+pub returns-in_err-found-clause-goes_on : goal.returns-in_err-found-clause-goes_on
+returns-in_err-found-clause-goes_on g c = goes_as c.in_err-found.ensures.goes_on (search rules)
 
-pub returns-in_err-old-in-Some : goal.returns-in_err-old-in-Some
-returns-in_err-old-in-Some g c =
-    let failed = c.from_residual-in_err-old-in-Some.ensures.0 in
-    let on : GoesOn g.W.Words c.args.w.now c.read.new.self c.from_residual-in_err-old-in-Some.result =
-    goes_as (goes_then c.in_ok-found.ensures.goes_on (goes_call c.in_err-old-in-Some.ensures)) (search rules) in
-    search IfOk-from_err
+pub returns-in_err-old-in-Some-clause-goes_on : goal.returns-in_err-old-in-Some-clause-goes_on
+returns-in_err-old-in-Some-clause-goes_on g c =
+    goes_as (goes_then c.in_ok-found.ensures.goes_on (goes_call c.in_err-old-in-Some.ensures)) (search rules)
 
-pub returns-in_err-write-in-Some : goal.returns-in_err-write-in-Some
-returns-in_err-write-in-Some g c =
-    let failed = c.from_residual-in_err-write-in-Some.ensures.0 in
-    let on : GoesOn g.W.Words c.args.w.now c.write.new.self c.from_residual-in_err-write-in-Some.result =
-    goes_as (goes_then (goes_then c.in_ok-found.ensures.goes_on (goes_call c.in_ok-old-in-Some.ensures))
-    (goes_call c.in_err-write-in-Some.ensures)) (search rules) in
-    search IfOk-from_err
+pub returns-in_err-write-in-Some-clause-goes_on : goal.returns-in_err-write-in-Some-clause-goes_on
+returns-in_err-write-in-Some-clause-goes_on g c = goes_as (goes_then (goes_then c.in_ok-found.ensures.goes_on (goes_call c.in_ok-old-in-Some.ensures))
+    (goes_call c.in_err-write-in-Some.ensures)) (search rules)
 
-pub returns-in_err-block-in-None : goal.returns-in_err-block-in-None
-returns-in_err-block-in-None g c =
-    let failed = c.from_residual-in_err-block-in-None.ensures.0 in
-    let on : GoesOn g.W.Words c.args.w.now c.take_near.new.w c.from_residual-in_err-block-in-None.result =
-    goes_as (goes_then c.in_ok-found.ensures.goes_on c.in_err-block-in-None.ensures.goes_on) (search rules) in
-    search IfOk-from_err
+pub returns-in_err-block-in-None-clause-goes_on : goal.returns-in_err-block-in-None-clause-goes_on
+returns-in_err-block-in-None-clause-goes_on g c =
+    goes_as (goes_then c.in_ok-found.ensures.goes_on c.in_err-block-in-None.ensures.goes_on) (search rules)

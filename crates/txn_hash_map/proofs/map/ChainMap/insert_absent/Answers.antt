@@ -1,17 +1,14 @@
-use Rattle.std.proofs.Common.{◌≡◌, ℕ, ◌+◌, ◌^◌, ◌<◌, ◌≤◌, Bool, true, false, List, length, get_or, slice_set, inl, inr, refl, ap, ◌∙◌, arith, rules}
-use Rattle.std.proofs.lemmas.List.{length-set}
+use Rattle.txn_hash_map.proofs.Common.{◌≡◌, ℕ, ◌+◌, ◌^◌, ◌<◌, ◌≤◌, Bool, true, false, List, length, slice_set, inl, inr, refl, ap, ◌∙◌, arith, rules}
+use Rattle.txn_hash_map.proofs.Common.{length-set, Entries, Blocks, HoldsApart, in_here, bucket_of, IsLaid, chain_part, IsPutInFront}
+use Rattle.std.proofs.Common.{get_or}
 use Rattle.std.proofs.lemmas.Option.{slice_get-get_or}
-use Rattle.std.specs.FinSet as set
-use Rattle.std.specs.FinMap as entry_map
-use Rattle.txn_alloc.specs.EntryMaps.{Entries, Blocks, HoldsApart}
-use Rattle.txn_alloc.proofs.Sets.{in_here}
-use Rattle.txn_hash_map.specs.Chains.{bucket_of, IsLaid, chain_part}
-use Rattle.txn_hash_map.specs.Searches.{IsPutInFront}
 use Rattle.txn_hash_map.proofs.Cells.{bucket_below}
 use Rattle.txn_hash_map.proofs.Changes.{put_apart}
 use Rattle.txn_hash_map.proofs.Fronts.{put_state}
-use Rattle.txn_hash_map.proofs.map.ChainMap.insert_absent.Goals as goal
 use Rattle.txn_hash_map.proofs.map.ChainMap.insert_absent.Goals.{After-bucket, After-from}
+use Rattle.std.specs.FinSet as set
+use Rattle.std.specs.FinMap as entry_map
+use Rattle.txn_hash_map.proofs.map.ChainMap.insert_absent.Goals as goal
 
 -- the bucket's word is one of the list
 within : (c : After-bucket) → (c.args.self.now.buckets + c.bucket.result < length c.args.words.now) × (length c.args.words.now ≤ 2 ^ 64)
@@ -54,7 +51,7 @@ bounds-words-place-2 c =
     let s2 : List ℕ = slice_set s1 (at + 1) c.args.value in
     let z : ℕ = get_or s (c.args.self.now.buckets + c.bucket.result) 0 in
     let long : length (slice_set s2 (at + 2) z) ≡ length s = length-set s2 (at + 2) z ∙ length-set s1 (at + 1) c.args.value ∙ length-set s at c.args.key in
-    omega (arith, w.0, long)
+    omega (arith, w.0)
 
 is_front : (c : After-from) → IsPutInFront c.args.self.now c.args.key c.args.value c.args.block c.args.words.now (front c)
 unfolding front
@@ -63,14 +60,14 @@ is_front c =
     let s : List ℕ = c.args.words.now in
     let place : ℕ = m.buckets + bucket_of c.args.key in
     let is_bucket : m.buckets + c.bucket.result ≡ place = ap (λ k. m.buckets + k) c.bucket.ensures in
-    let lt : place < length s = omega (arith, (within (goal.at.returns-clause-put c).After-bucket).0, is_bucket) in
+    let lt : place < length s = omega (arith, (within (goal.at.returns-clause-put c).After-bucket).0) in
     rw (c.place_of-at.ensures, c.bucket.ensures, c.from.ensures)
-    (put_state m c.args.key c.args.value c.args.block (get_or s place 0) s c.requires.order.holds.map.laid c.requires.block (slice_get-get_or s place 0 lt))
+    (put_state c.args.key c.args.value c.args.block (get_or s place 0) c.requires.order.holds.map.laid c.requires.block (slice_get-get_or s place 0 lt))
 
 apart : (c : After-from) (f : Entries) (u v : Blocks) → HoldsApart (chain_part c.args.self.now) c.args.words.now f u v
     → HoldsApart (chain_part c.args.self.now) (front c) (entry_map.insert f c.args.key c.args.value) (set.insert u c.args.block) v
 apart c f u v hold =
-    put_apart c.args.self.now c.args.key c.args.value c.args.block c.args.words.now (front c) f u v hold
+    put_apart hold
     (c.requires.absent f u hold.map) c.requires.block (unused (set.contains u c.args.block) refl) (c.requires.lacks v hold.free_lists) (is_front c)
   where
     unused : (m : Bool) → set.contains u c.args.block ≡ m → set.contains u c.args.block ≡ false

@@ -1,24 +1,14 @@
-use Rattle.std.proofs.Common.{◌≡◌, ◌+◌, ◌<◌, None, Some, inl, inr, arith, ap, ◌∙◌, rules}
-use Rattle.std.proofs.lemmas.Result.{IfOk-from_err}
-use Rattle.history_model.specs.Fitting.{SomeFits}
+use Rattle.txn_hash_map.proofs.Common.{◌≡◌, ◌+◌, ◌<◌, None, Some, inl, inr, arith, ap, ◌∙◌, rules, SomeFits, state_after, goes_call, goes_then, goes_as}
+use Rattle.txn_hash_map.proofs.Common.{only_more, LeadsTo, block_at, HasMapApart, Removes, chain_part, held, finds_none, looks_read, looks_only, IsLink}
+use Rattle.txn_hash_map.proofs.Common.{laid_block, IsNearOr, looks_value, sees_near, each_now, each_since, leads_since, some_since}
 use Rattle.history_model.proofs.Traces.FittingLaws.{some_at}
-use Rattle.txn_words.proofs.CallLaws.{each_plain, state_after, goes_call, goes_then, goes_as}
-use Rattle.txn_words.proofs.FrameLaws.{only_more}
-use Rattle.txn_words.specs.Calls.{GoesOn, LeadsTo}
-use Rattle.txn_alloc.specs.FreeLists.{block_at}
-use Rattle.txn_alloc.specs.EntryMaps.{HasMapApart, Removes}
-use Rattle.txn_hash_map.specs.Chains.{chain_part}
 use Rattle.txn_alloc.proofs.FreeLists.Wider.{give_keeps}
-use Rattle.txn_alloc.proofs.Maps.Parts.{held, order_removed, finds_none}
-use Rattle.txn_words.proofs.Looks.{looks_read, looks_only, leads_from, each_from, some_from}
-use Rattle.txn_hash_map.specs.Searches.{IsLink}
+use Rattle.txn_alloc.proofs.Maps.Parts.{order_removed}
 use Rattle.txn_hash_map.proofs.Steps.{missing_value, found_of}
-use Rattle.txn_alloc.proofs.FreeLists.Traces.{laid_block}
-use Rattle.txn_alloc.proofs.Maps.Founds.{IsNearOr, looks_value, sees_near}
 use Rattle.txn_hash_map.proofs.Looks.{near_own}
 use Rattle.txn_hash_map.proofs.Removals.{HasRead, HasCut, HasGivenBack, place_within, order_cut, lacks_cut, removes_some, owns_removed, sees_removed}
-use Rattle.txn_hash_map.proofs.map.ChainMap.remove.Goals as goal
 use Rattle.txn_hash_map.proofs.map.ChainMap.remove.Goals.{In_ok-next-in-Some, In_ok-write-in-Some}
+use Rattle.txn_hash_map.proofs.map.ChainMap.remove.Goals as goal
 
 pub find-requires-clause-order : goal.find-requires-clause-order
 find-requires-clause-order g c = record { at = λ s fit. held (c.requires.order.at s fit) }
@@ -29,7 +19,7 @@ read-requires-clause-within g c =
     let goes = c.in_ok-find.ensures.goes_on in
     let found = rw c.in-Some.is at c.in_ok-find.ensures.found in
     let below = rw c.in-Some.is at c.in_ok-find.ensures.block in
-    let some = some_from g.W.Words g.W.Shape.Shape c.args.w.now c.find.new.w goes.shape (g.met.W.Words.fits c.find.new.w goes.sound) in
+    let some = some_since g.W.Words g.W.Shape.Shape goes.shape (g.met.W.Words.fits c.find.new.w goes.sound) in
     let in_list = laid_block m.arena _ _ _ some c.in-Some.found.block (record { at = λ s fit. (found.holds s fit).laid.arena }) below in
     omega (arith, in_list.0, ap g.W.Shape.Shape.word_count goes.shape, c.place_of-at.ensures)
 
@@ -39,7 +29,7 @@ read-requires-in-Some-clause-within g c =
     let goes = c.in_ok-find.ensures.goes_on in
     let found = rw c.in-Some.is at c.in_ok-find.ensures.found in
     let below = rw c.in-Some.is at c.in_ok-find.ensures.block in
-    let some = some_from g.W.Words g.W.Shape.Shape c.args.w.now c.find.new.w goes.shape (g.met.W.Words.fits c.find.new.w goes.sound) in
+    let some = some_since g.W.Words g.W.Shape.Shape goes.shape (g.met.W.Words.fits c.find.new.w goes.sound) in
     let in_list = laid_block m.arena _ _ _ some c.in-Some.found.block (record { at = λ s fit. (found.holds s fit).laid.arena }) below in
     omega (arith, in_list.0, ap g.W.Shape.Shape.word_count goes.shape, ap g.W.Shape.Shape.word_count c.in_ok-value-in-Some.ensures.shape, c.place_of-at.ensures)
 
@@ -60,7 +50,7 @@ reads g c =
       is_next = is_next;
       looks = looks_read _ _ _ (IsNearOr (IsLink m c.args.key) q) _ _ r _ _
           (looks_value _ _ _ _ found _ q _ c.in_ok-value-in-Some.ensures.value) c.in_ok-next-in-Some.ensures.value
-          (λ s h. inl (inr (b, found_of m c.args.key s c.in-Some.found.place b h.0, inr is_next)));
+          (λ s h. inl (inr (b, found_of m c.args.key s h.0, inr is_next)));
     }
 
 -- and the block was cut out of its chain
@@ -72,7 +62,7 @@ cuts g c reads = record {
   seen = g.W.Words.trace c.read-in-Some.new.self;
   reads = reads;
   writes = c.in_ok-write-in-Some.ensures.value;
-  order = each_plain g.W.Words g.W.Shape.Shape _ _ c.requires.order;
+  order = each_now c.requires.order;
 }
 
 pub write-requires-clause-within : goal.write-requires-clause-within
@@ -83,24 +73,24 @@ write-requires-clause-within g c =
     (g.W.Shape.Shape.good (g.W.Words.shape c.args.w.now)) (g.W.Words.trace c.read-in-Some.new.self) =
     some_at counts g.W.Shape.Shape.good _ _ _ same (g.met.W.Words.fits c.read-in-Some.new.self c.in_ok-next-in-Some.ensures.sound) in
     let within : c.in-Some.found.place < counts (g.W.Words.shape c.args.w.now) =
-    place_within c.args.self.now c.args.key _ _ _ _ _ _ _ _ (reads g (goal.at.write-requires-clause-within g c).In_ok-next-in-Some) some in
-    omega (arith, within, ap counts same)
+    place_within (reads g (goal.at.write-requires-clause-within g c).In_ok-next-in-Some) some in
+    omega (arith, ap counts same)
 
 pub give-requires-clause-order : goal.give-requires-clause-order
 give-requires-clause-order g c =
     let at = goal.at.give-requires-clause-order g c in
     let same = c.in_ok-write-in-Some.ensures.shape ∙ c.in_ok-next-in-Some.ensures.shape ∙ c.in_ok-value-in-Some.ensures.shape
     ∙ c.in_ok-find.ensures.goes_on.shape in
-    each_from g.W.Words g.W.Shape.Shape c.args.w.now c.write.new.self _ same
-    (order_cut c.args.self.now c.args.key _ _ _ _ _ _ _ _ (cuts g at.In_ok-write-in-Some (reads g at.In_ok-next-in-Some)))
+    each_since c.args.w.now same
+    (order_cut (cuts g at.In_ok-write-in-Some (reads g at.In_ok-next-in-Some)))
 
 pub give-requires-clause-lacks : goal.give-requires-clause-lacks
 give-requires-clause-lacks g c =
     let at = goal.at.give-requires-clause-lacks g c in
     let same = c.in_ok-write-in-Some.ensures.shape ∙ c.in_ok-next-in-Some.ensures.shape ∙ c.in_ok-value-in-Some.ensures.shape
     ∙ c.in_ok-find.ensures.goes_on.shape in
-    rw c.of.ensures (each_from g.W.Words g.W.Shape.Shape c.args.w.now c.write.new.self _ same
-    (lacks_cut c.args.self.now c.args.key _ _ _ _ _ _ _ _ (cuts g at.In_ok-write-in-Some (reads g at.In_ok-next-in-Some))))
+    rw c.of.ensures (each_since c.args.w.now same
+    (lacks_cut (cuts g at.In_ok-write-in-Some (reads g at.In_ok-next-in-Some))))
 
 pub returns-in-None : goal.returns-in-None
 returns-in-None g c =
@@ -109,7 +99,7 @@ returns-in-None g c =
     let goes = c.in_ok-find.ensures.goes_on in
     let missing = rw c.in-None.is at c.in_ok-find.ensures.missing in
     let removed : LeadsTo g.W.Words g.W.Shape.Shape c.args.w.now c.find.new.w (Removes part key None) =
-    record { at = (finds_none part key _ _ _ _ (λ s f v. missing_value c.args.self.now key s f v) missing).at } in
+    record { at = (finds_none part key _ _ _ _ (λ s f v. missing_value c.args.self.now key s) missing).at } in
     record {
       removed = removed;
       order = state_after g.W.Words g.W.Shape.Shape _ _ (HasMapApart part) (HasMapApart part) (Removes part key None)
@@ -139,58 +129,41 @@ returns-in_ok-give-in-Some g c =
       cut = g.W.Words.trace c.write.new.self;
       cuts = cuts g at.In_ok-write-in-Some (reads g at.In_ok-next-in-Some);
       begins = given.goes_on.begins;
-      gives = leads_from g.W.Words g.W.Shape.Shape c.args.w.now c.write.new.self c.give.new.w _ same (rw c.of.ensures at given.given);
+      gives = leads_since same (rw c.of.ensures at given.given);
       keeps = give_keeps m.arena c.in-Some.found.block _ _ _ _
-          (leads_from g.W.Words g.W.Shape.Shape c.args.w.now c.write.new.self c.give.new.w _ same (rw c.of.ensures at given.others));
+          (leads_since same (rw c.of.ensures at given.others));
     } in
     let removed : LeadsTo g.W.Words g.W.Shape.Shape c.args.w.now c.give.new.w (Removes (chain_part m) key (Some y)) =
-    record { at = (removes_some m key _ _ _ _ _ _ _ _ back).at } in
+    record { at = (removes_some back).at } in
     let frame = rw c.of.ensures at given.frame in
     let names = rw c.of.ensures at given.reads in
     record {
       removed = removed;
       order = state_after g.W.Words g.W.Shape.Shape _ _ (HasMapApart (chain_part m)) (HasMapApart (chain_part m))
           (Removes (chain_part m) key (Some y)) goes.shape goes.begins c.requires.order removed (order_removed (chain_part m) key (Some y));
-      frame = record { at = owns_removed m key _ _ _ _ _ _ _ _ back frame.appended };
+      frame = record { at = owns_removed back frame.appended };
       none_frame = tt;
-      reads = record { at = sees_removed m key _ _ _ _ _ _ _ _ back names };
+      reads = record { at = sees_removed back names };
       goes_on = goes_as goes given.goes_on.stops;
     }
 
-pub returns-in_err-find : goal.returns-in_err-find
-returns-in_err-find g c =
-    let failed = c.from_residual.ensures.0 in
-    let on : GoesOn g.W.Words c.args.w.now c.find.new.w c.from_residual.result = goes_as c.in_err-find.ensures.goes_on (search rules) in
-    search IfOk-from_err
+pub returns-in_err-find-clause-goes_on : goal.returns-in_err-find-clause-goes_on
+returns-in_err-find-clause-goes_on g c = goes_as c.in_err-find.ensures.goes_on (search rules)
 
-pub returns-in_err-value-in-Some : goal.returns-in_err-value-in-Some
-returns-in_err-value-in-Some g c =
-    let failed = c.from_residual-in_err-value-in-Some.ensures.0 in
-    let on : GoesOn g.W.Words c.args.w.now c.read.new.self c.from_residual-in_err-value-in-Some.result =
-    goes_as (goes_then c.in_ok-find.ensures.goes_on (goes_call c.in_err-value-in-Some.ensures)) (search rules) in
-    search IfOk-from_err
+pub returns-in_err-value-in-Some-clause-goes_on : goal.returns-in_err-value-in-Some-clause-goes_on
+returns-in_err-value-in-Some-clause-goes_on g c =
+    goes_as (goes_then c.in_ok-find.ensures.goes_on (goes_call c.in_err-value-in-Some.ensures)) (search rules)
 
-pub returns-in_err-next-in-Some : goal.returns-in_err-next-in-Some
-returns-in_err-next-in-Some g c =
-    let failed = c.from_residual-in_err-next-in-Some.ensures.0 in
-    let on : GoesOn g.W.Words c.args.w.now c.read-in-Some.new.self c.from_residual-in_err-next-in-Some.result =
-    goes_as (goes_then (goes_then c.in_ok-find.ensures.goes_on (goes_call c.in_ok-value-in-Some.ensures))
-    (goes_call c.in_err-next-in-Some.ensures)) (search rules) in
-    search IfOk-from_err
+pub returns-in_err-next-in-Some-clause-goes_on : goal.returns-in_err-next-in-Some-clause-goes_on
+returns-in_err-next-in-Some-clause-goes_on g c = goes_as (goes_then (goes_then c.in_ok-find.ensures.goes_on (goes_call c.in_ok-value-in-Some.ensures))
+    (goes_call c.in_err-next-in-Some.ensures)) (search rules)
 
-pub returns-in_err-write-in-Some : goal.returns-in_err-write-in-Some
-returns-in_err-write-in-Some g c =
-    let failed = c.from_residual-in_err-write-in-Some.ensures.0 in
-    let on : GoesOn g.W.Words c.args.w.now c.write.new.self c.from_residual-in_err-write-in-Some.result =
+pub returns-in_err-write-in-Some-clause-goes_on : goal.returns-in_err-write-in-Some-clause-goes_on
+returns-in_err-write-in-Some-clause-goes_on g c =
     goes_as (goes_then (goes_then (goes_then c.in_ok-find.ensures.goes_on (goes_call c.in_ok-value-in-Some.ensures))
-    (goes_call c.in_ok-next-in-Some.ensures)) (goes_call c.in_err-write-in-Some.ensures)) (search rules) in
-    search IfOk-from_err
+    (goes_call c.in_ok-next-in-Some.ensures)) (goes_call c.in_err-write-in-Some.ensures)) (search rules)
 
-pub returns-in_err-give-in-Some : goal.returns-in_err-give-in-Some
-returns-in_err-give-in-Some g c =
-    let failed = c.from_residual-in_err-give-in-Some.ensures.0 in
-    let on : GoesOn g.W.Words c.args.w.now c.give.new.w c.from_residual-in_err-give-in-Some.result =
-    goes_as (goes_then (goes_then (goes_then
+pub returns-in_err-give-in-Some-clause-goes_on : goal.returns-in_err-give-in-Some-clause-goes_on
+returns-in_err-give-in-Some-clause-goes_on g c = goes_as (goes_then (goes_then (goes_then
     (goes_then c.in_ok-find.ensures.goes_on (goes_call c.in_ok-value-in-Some.ensures))
-    (goes_call c.in_ok-next-in-Some.ensures)) (goes_call c.in_ok-write-in-Some.ensures)) c.in_err-give-in-Some.ensures.goes_on) (search rules) in
-    search IfOk-from_err
+    (goes_call c.in_ok-next-in-Some.ensures)) (goes_call c.in_ok-write-in-Some.ensures)) c.in_err-give-in-Some.ensures.goes_on) (search rules)

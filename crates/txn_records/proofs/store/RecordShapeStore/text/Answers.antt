@@ -1,18 +1,12 @@
-use Rattle.std.proofs.Common.{◌≡◌, List, sym, ap, ◌∙◌, subst}
-use Rattle.std.specs.FinMap as finite
-use Rattle.std.specs.FinMap.{entries_sorted}
-use Rattle.std.proofs.lemmas.Result.{IfOk-weaker}
-use Rattle.history_model.specs.Fitting.{IsGood}
-use Rattle.books_report.specs.Lines.{lent, scripts_of}
-use Rattle.books_report.specs.Stores.Output.{state_left}
-use Rattle.record_text.specs.Output.{closing_of, record_store, text_of, AreByRank, Printed}
-use Rattle.record_text.specs.Records.{index_of}
+use Rattle.txn_records.proofs.Common.{◌≡◌, List, sym, ap, ◌∙◌, subst, entries_sorted, IfOk-weaker, Printed, index_of, RecordShape, words_of, IsGoodFor, Stands}
+use Rattle.word_table.proofs.Common.{IsGood}
+use Rattle.books_report.proofs.Common.{lent, scripts_of}
+use Rattle.txn_stores.proofs.Common.{state_left}
+use Rattle.record_text.specs.Output.{closing_of, record_store, text_of, AreByRank}
 use Rattle.record_text.proofs.Ranked.{printed_by_rank}
-use Rattle.txn_records.specs.declared.shape.RecordShape.{RecordShape}
-use Rattle.txn_records.specs.Layout.{words_of}
-use Rattle.txn_records.specs.Standing.{IsGoodFor, Stands}
-use Rattle.txn_records.proofs.store.RecordShapeStore.text.Goals as goal
 use Rattle.txn_records.proofs.store.RecordShapeStore.text.Goals.{After-deref}
+use Rattle.std.specs.FinMap as finite
+use Rattle.txn_records.proofs.store.RecordShapeStore.text.Goals as goal
 
 pub records_of_words-requires : goal.records_of_words-requires
 records_of_words-requires c = record {

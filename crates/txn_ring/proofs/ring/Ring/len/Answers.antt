@@ -1,7 +1,5 @@
-use Rattle.std.proofs.Common.{◌≡◌, ◌+◌, arith}
-use Rattle.txn_words.proofs.CallLaws.{each_plain, state_after, state_at}
-use Rattle.txn_words.proofs.ReadLaws.{sees_read}
-use Rattle.txn_ring.specs.Queues.{IsOwn, IsInOrder, HasCount}
+use Rattle.txn_ring.proofs.Common.{◌≡◌, ◌+◌, arith, each_plain, state_after, sees_read, IsOwn, IsInOrder, HasCount}
+use Rattle.txn_words.proofs.CallLaws.{state_at}
 use Rattle.txn_ring.proofs.Traces.{Lies, lies, same, has_count, order_same}
 use Rattle.txn_ring.proofs.ring.Ring.len.Goals as goal
 

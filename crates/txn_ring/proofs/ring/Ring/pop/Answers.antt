@@ -1,13 +1,6 @@
-use Rattle.std.proofs.Common.{◌≡◌, ℕ, ◌+◌, ◌-◌, ◌*◌, ◌%◌, ◌<◌, ◌≤◌, Option, None, Some, arith, refl, ap, ◌∙◌, rules}
-use Rattle.std.proofs.lemmas.Result.{IfOk-from_err}
-use Rattle.history_model.specs.Traces.{Begins}
-use Rattle.history_model.proofs.Traces.TraceLaws.{begins_trans}
-use Rattle.txn_words.specs.Calls.{GoesOn, LeadsTo, WritesOnly}
-use Rattle.txn_words.proofs.CallLaws.{each_plain, leads_plain, state_after, goes_call, goes_then, goes_as}
-use Rattle.txn_words.proofs.Looks.{some_from}
-use Rattle.txn_words.proofs.FrameLaws.{only_read, only_write, only_then, writes_keep}
-use Rattle.txn_words.proofs.ReadLaws.{sees_read, sees_write, sees_then}
-use Rattle.txn_ring.specs.Queues.{place_at, IsOwn, IsInOrder, IsEmpty, Pops}
+use Rattle.txn_ring.proofs.Common.{◌≡◌, ℕ, ◌+◌, ◌-◌, ◌*◌, ◌%◌, ◌<◌, ◌≤◌, Option, None, Some, arith, refl, ap, ◌∙◌, rules, Begins, begins_trans, LeadsTo}
+use Rattle.txn_ring.proofs.Common.{WritesOnly, each_plain, leads_plain, state_after, goes_call, goes_then, goes_as, some_from, only_read, only_write, only_then}
+use Rattle.txn_ring.proofs.Common.{writes_keep, sees_read, sees_write, sees_then, place_at, IsOwn, IsInOrder, IsEmpty, Pops}
 use Rattle.txn_ring.proofs.Traces.{Lies, lies, same, found_empty, not_empty, bounds, pops, order_popped}
 use Rattle.txn_ring.proofs.ring.Ring.pop.Goals as goal
 
@@ -22,7 +15,7 @@ pub returns-then-count-eq0 : goal.returns-then-count-eq0
 returns-then-count-eq0 g c =
     let ring = c.args.self.now in
     let read = c.in_ok-count.ensures.value in
-    let count : IsOwn ring (ring.at + 1) = record { low = omega arith; high = omega arith } in
+    let count : IsOwn ring (ring.at + 1) = omega arith in
     let popped : LeadsTo g.W.Words g.W.Shape.Shape c.args.w.now c.read.new.self (Pops ring None) =
     record { at = (same ring _ _ _ _ c.in_ok-count.count read).at } in
     let frame : WritesOnly g.W.Words c.args.w.now c.read.new.self (IsOwn ring) = record { appended = only_read (IsOwn ring) _ _ _ _ read } in
@@ -42,11 +35,8 @@ returns-then-count-eq0 g c =
       goes_on = goes_as (goes_call c.in_ok-count.ensures) c.in_ok-count.ensures.stops;
     }
 
-pub returns-in_err-count : goal.returns-in_err-count
-returns-in_err-count g c =
-    let failed = c.from_residual.ensures.0 in
-    let on : GoesOn g.W.Words c.args.w.now c.read.new.self c.from_residual.result = goes_as (goes_call c.in_err-count.ensures) (search rules) in
-    search IfOk-from_err
+pub returns-in_err-count-clause-goes_on : goal.returns-in_err-count-clause-goes_on
+returns-in_err-count-clause-goes_on g c = goes_as (goes_call c.in_err-count.ensures) (search rules)
 
 pub prove-unreachable-requires-2 : goal.prove-unreachable-requires-2
 prove-unreachable-requires-2 g c =
@@ -65,7 +55,7 @@ read-requires-2-clause-within g c =
     lies ring _ _ _ (each_plain g.W.Words g.W.Shape.Shape _ _ c.requires.order) (g.met.W.Words.fits c.args.w.now c.requires.ready.sound) in
     let shape : g.W.Shape.Shape.word_count (g.W.Words.shape c.read.new.self)
     ≡ g.W.Shape.Shape.word_count (g.W.Words.shape c.args.w.now) = ap g.W.Shape.Shape.word_count (c.in_ok-count.ensures.shape) in
-    omega (arith, l.some, l.whole, shape)
+    omega (arith, l.some, l.whole)
 
 pub read-requires-3-clause-within : goal.read-requires-3-clause-within
 read-requires-3-clause-within g c =
@@ -75,7 +65,7 @@ read-requires-3-clause-within g c =
     let shape : g.W.Shape.Shape.word_count (g.W.Words.shape c.read-2.new.self)
     ≡ g.W.Shape.Shape.word_count (g.W.Words.shape c.args.w.now) =
     ap g.W.Shape.Shape.word_count (c.in_ok-front.ensures.shape ∙ c.in_ok-count.ensures.shape) in
-    omega (arith, l.some, l.whole, shape)
+    omega (arith, l.some, l.whole)
 
 pub read-requires-4-clause-within : goal.read-requires-4-clause-within
 read-requires-4-clause-within g c =
@@ -85,7 +75,7 @@ read-requires-4-clause-within g c =
     let shape : g.W.Shape.Shape.word_count (g.W.Words.shape c.read-3.new.self)
     ≡ g.W.Shape.Shape.word_count (g.W.Words.shape c.args.w.now) =
     ap g.W.Shape.Shape.word_count (c.in_ok-first.ensures.shape ∙ c.in_ok-front.ensures.shape ∙ c.in_ok-count.ensures.shape) in
-    omega (arith, l.some, l.whole, shape)
+    omega (arith, l.some, l.whole)
 
 pub write-requires-clause-within : goal.write-requires-clause-within
 write-requires-clause-within g c =
@@ -96,7 +86,7 @@ write-requires-clause-within g c =
     ≡ g.W.Shape.Shape.word_count (g.W.Words.shape c.args.w.now) =
     ap g.W.Shape.Shape.word_count (c.in_ok-second.ensures.shape ∙ c.in_ok-first.ensures.shape
     ∙ c.in_ok-front.ensures.shape ∙ c.in_ok-count.ensures.shape) in
-    omega (arith, l.some, l.whole, shape)
+    omega (arith, l.some, l.whole)
 
 pub write-requires-2-clause-within : goal.write-requires-2-clause-within
 write-requires-2-clause-within g c =
@@ -107,58 +97,40 @@ write-requires-2-clause-within g c =
     ≡ g.W.Shape.Shape.word_count (g.W.Words.shape c.args.w.now) =
     ap g.W.Shape.Shape.word_count (c.in_ok-write.ensures.shape ∙ c.in_ok-second.ensures.shape
     ∙ c.in_ok-first.ensures.shape ∙ c.in_ok-front.ensures.shape ∙ c.in_ok-count.ensures.shape) in
-    omega (arith, l.some, l.whole, shape)
+    omega (arith, l.some, l.whole)
 
-pub returns-in_err-front : goal.returns-in_err-front
-returns-in_err-front g c =
-    let failed = c.from_residual-in_err-front.ensures.0 in
-    let on : GoesOn g.W.Words c.args.w.now c.read-2.new.self c.from_residual-in_err-front.result =
-    goes_as (goes_then (goes_call c.in_ok-count.ensures) (goes_call c.in_err-front.ensures)) (search rules) in
-    search IfOk-from_err
+pub returns-in_err-front-clause-goes_on : goal.returns-in_err-front-clause-goes_on
+returns-in_err-front-clause-goes_on g c = goes_as (goes_then (goes_call c.in_ok-count.ensures) (goes_call c.in_err-front.ensures)) (search rules)
 
-pub returns-in_err-first : goal.returns-in_err-first
-returns-in_err-first g c =
-    let failed = c.from_residual-in_err-first.ensures.0 in
-    let on : GoesOn g.W.Words c.args.w.now c.read-3.new.self c.from_residual-in_err-first.result =
-    goes_as (goes_then (goes_then (goes_call c.in_ok-count.ensures) (goes_call c.in_ok-front.ensures)) (goes_call c.in_err-first.ensures)) (search rules) in
-    search IfOk-from_err
+pub returns-in_err-first-clause-goes_on : goal.returns-in_err-first-clause-goes_on
+returns-in_err-first-clause-goes_on g c =
+    goes_as (goes_then (goes_then (goes_call c.in_ok-count.ensures) (goes_call c.in_ok-front.ensures)) (goes_call c.in_err-first.ensures)) (search rules)
 
-pub returns-in_err-second : goal.returns-in_err-second
-returns-in_err-second g c =
-    let failed = c.from_residual-in_err-second.ensures.0 in
-    let on : GoesOn g.W.Words c.args.w.now c.read-4.new.self c.from_residual-in_err-second.result =
+pub returns-in_err-second-clause-goes_on : goal.returns-in_err-second-clause-goes_on
+returns-in_err-second-clause-goes_on g c =
     goes_as (goes_then (goes_then (goes_then (goes_call c.in_ok-count.ensures) (goes_call c.in_ok-front.ensures))
-    (goes_call c.in_ok-first.ensures)) (goes_call c.in_err-second.ensures)) (search rules) in
-    search IfOk-from_err
+    (goes_call c.in_ok-first.ensures)) (goes_call c.in_err-second.ensures)) (search rules)
 
-pub returns-in_err-write : goal.returns-in_err-write
-returns-in_err-write g c =
-    let failed = c.from_residual-in_err-write.ensures.0 in
-    let on : GoesOn g.W.Words c.args.w.now c.write.new.self c.from_residual-in_err-write.result =
-    goes_as (goes_then (goes_then (goes_then
+pub returns-in_err-write-clause-goes_on : goal.returns-in_err-write-clause-goes_on
+returns-in_err-write-clause-goes_on g c = goes_as (goes_then (goes_then (goes_then
     (goes_then (goes_call c.in_ok-count.ensures) (goes_call c.in_ok-front.ensures))
-    (goes_call c.in_ok-first.ensures)) (goes_call c.in_ok-second.ensures)) (goes_call c.in_err-write.ensures)) (search rules) in
-    search IfOk-from_err
+    (goes_call c.in_ok-first.ensures)) (goes_call c.in_ok-second.ensures)) (goes_call c.in_err-write.ensures)) (search rules)
 
-pub returns-in_err-write-2 : goal.returns-in_err-write-2
-returns-in_err-write-2 g c =
-    let failed = c.from_residual-in_err-write-2.ensures.0 in
-    let on : GoesOn g.W.Words c.args.w.now c.write-2.new.self c.from_residual-in_err-write-2.result =
-    goes_as (goes_then (goes_then (goes_then
+pub returns-in_err-write-2-clause-goes_on : goal.returns-in_err-write-2-clause-goes_on
+returns-in_err-write-2-clause-goes_on g c = goes_as (goes_then (goes_then (goes_then
     (goes_then (goes_then (goes_call c.in_ok-count.ensures) (goes_call c.in_ok-front.ensures))
     (goes_call c.in_ok-first.ensures)) (goes_call c.in_ok-second.ensures)) (goes_call c.in_ok-write.ensures))
-    (goes_call c.in_err-write-2.ensures)) (search rules) in
-    search IfOk-from_err
+    (goes_call c.in_err-write-2.ensures)) (search rules)
 
 pub returns : goal.returns
 returns g c =
     let ring = c.args.self.now in
     let answer : Option (ℕ × ℕ) = Some (c.in_ok-first.first, c.in_ok-second.second) in
     let is_own = IsOwn ring in
-    let front : IsOwn ring ring.at = record { low = omega arith; high = omega arith } in
-    let count : IsOwn ring (ring.at + 1) = record { low = omega arith; high = omega arith } in
-    let first : IsOwn ring (ring.at + 2 + 2 * c.in_ok-front.front) = record { low = omega arith; high = omega arith } in
-    let second : IsOwn ring (ring.at + 3 + 2 * c.in_ok-front.front) = record { low = omega arith; high = omega arith } in
+    let front : IsOwn ring ring.at = omega arith in
+    let count : IsOwn ring (ring.at + 1) = omega arith in
+    let first : IsOwn ring (ring.at + 2 + 2 * c.in_ok-front.front) = omega arith in
+    let second : IsOwn ring (ring.at + 3 + 2 * c.in_ok-front.front) = omega arith in
     let is_capacity : c.from-capacity.result ≡ ring.capacity = omega arith in
     let place : (c.in_ok-front.front + 1) % c.from-capacity.result ≡ (c.in_ok-front.front + 1) % ring.capacity =
     ap (λ k. (c.in_ok-front.front + 1) % k) is_capacity in

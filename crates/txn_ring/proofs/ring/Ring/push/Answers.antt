@@ -1,13 +1,7 @@
-use Rattle.std.proofs.Common.{◌≡◌, ◌≢◌, ◌+◌, ◌*◌, ◌%◌, ◌<◌, ◌≤◌, true, false, true≢false, arith, mod-lt, refl, ap, ◌∙◌, rules}
-use Rattle.std.proofs.lemmas.Result.{IfOk-from_err}
-use Rattle.history_model.specs.Traces.{Begins}
-use Rattle.history_model.proofs.Traces.TraceLaws.{begins_trans}
-use Rattle.txn_words.specs.Calls.{GoesOn, LeadsTo, WritesOnly}
-use Rattle.txn_words.proofs.CallLaws.{each_plain, leads_plain, state_after, goes_call, goes_then, goes_as}
-use Rattle.txn_words.proofs.Looks.{some_from}
-use Rattle.txn_words.proofs.FrameLaws.{only_read, only_write, only_then, writes_keep}
-use Rattle.txn_words.proofs.ReadLaws.{sees_read, sees_write, sees_then}
-use Rattle.txn_ring.specs.Queues.{place_at, IsOwn, IsInOrder, IsFull, Pushes}
+use Rattle.txn_ring.proofs.Common.{◌≡◌, ◌≢◌, ◌+◌, ◌*◌, ◌%◌, ◌<◌, ◌≤◌, true, false, arith, mod-lt, refl, ap, ◌∙◌, rules, Begins, begins_trans, LeadsTo}
+use Rattle.txn_ring.proofs.Common.{WritesOnly, each_plain, leads_plain, state_after, goes_call, goes_then, goes_as, some_from, only_read, only_write, only_then}
+use Rattle.txn_ring.proofs.Common.{writes_keep, sees_read, sees_write, sees_then, place_at, IsOwn, IsInOrder, IsFull, Pushes}
+use Rattle.std.proofs.Common.{true≢false}
 use Rattle.txn_ring.proofs.Traces.{Lies, lies, same, found_full, not_full, bounds, pushes, order_pushed}
 use Rattle.txn_ring.proofs.ring.Ring.push.Goals as goal
 
@@ -22,7 +16,7 @@ pub returns-then-count-capacity : goal.returns-then-count-capacity
 returns-then-count-capacity g c =
     let ring = c.args.self.now in
     let read = c.in_ok-count.ensures.value in
-    let count : IsOwn ring (ring.at + 1) = record { low = omega arith; high = omega arith } in
+    let count : IsOwn ring (ring.at + 1) = omega arith in
     let is_capacity : c.in_ok-count.count ≡ ring.capacity = omega arith in
     let pushed : LeadsTo g.W.Words g.W.Shape.Shape c.args.w.now c.read.new.self (Pushes ring c.args.item false) =
     record { at = (same ring _ _ _ _ c.in_ok-count.count read).at } in
@@ -41,11 +35,8 @@ returns-then-count-capacity g c =
       goes_on = goes_as (goes_call c.in_ok-count.ensures) c.in_ok-count.ensures.stops;
     }
 
-pub returns-in_err-count : goal.returns-in_err-count
-returns-in_err-count g c =
-    let failed = c.from_residual.ensures.0 in
-    let on : GoesOn g.W.Words c.args.w.now c.read.new.self c.from_residual.result = goes_as (goes_call c.in_err-count.ensures) (search rules) in
-    search IfOk-from_err
+pub returns-in_err-count-clause-goes_on : goal.returns-in_err-count-clause-goes_on
+returns-in_err-count-clause-goes_on g c = goes_as (goes_call c.in_err-count.ensures) (search rules)
 
 pub read-requires-2-clause-within : goal.read-requires-2-clause-within
 read-requires-2-clause-within g c =
@@ -54,7 +45,7 @@ read-requires-2-clause-within g c =
     lies ring _ _ _ (each_plain g.W.Words g.W.Shape.Shape _ _ c.requires.order) (g.met.W.Words.fits c.args.w.now c.requires.ready.sound) in
     let shape : g.W.Shape.Shape.word_count (g.W.Words.shape c.read.new.self)
     ≡ g.W.Shape.Shape.word_count (g.W.Words.shape c.args.w.now) = ap g.W.Shape.Shape.word_count c.in_ok-count.ensures.shape in
-    omega (arith, l.some, l.whole, shape)
+    omega (arith, l.some, l.whole)
 
 pub prove-unreachable-requires-2 : goal.prove-unreachable-requires-2
 prove-unreachable-requires-2 g c =
@@ -86,7 +77,7 @@ write-requires-clause-within g c =
     ap g.W.Shape.Shape.word_count (c.in_ok-front.ensures.shape ∙ c.in_ok-count.ensures.shape) in
     let place : (c.in_ok-front.front + c.in_ok-count.count) % c.from-capacity.result < c.from-capacity.result =
     mod-lt (c.in_ok-front.front + c.in_ok-count.count) (omega (arith, l.some)) in
-    omega (arith, l.some, l.whole, shape, place)
+    omega (arith, l.some, l.whole)
 
 pub write-requires-2-clause-within : goal.write-requires-2-clause-within
 write-requires-2-clause-within g c =
@@ -98,7 +89,7 @@ write-requires-2-clause-within g c =
     ap g.W.Shape.Shape.word_count (c.in_ok-write.ensures.shape ∙ c.in_ok-front.ensures.shape ∙ c.in_ok-count.ensures.shape) in
     let place : (c.in_ok-front.front + c.in_ok-count.count) % c.from-capacity.result < c.from-capacity.result =
     mod-lt (c.in_ok-front.front + c.in_ok-count.count) (omega (arith, l.some)) in
-    omega (arith, l.some, l.whole, shape, place)
+    omega (arith, l.some, l.whole)
 
 pub write-requires-3-clause-within : goal.write-requires-3-clause-within
 write-requires-3-clause-within g c =
@@ -111,38 +102,24 @@ write-requires-3-clause-within g c =
     ∙ c.in_ok-front.ensures.shape ∙ c.in_ok-count.ensures.shape) in
     let place : (c.in_ok-front.front + c.in_ok-count.count) % c.from-capacity.result < c.from-capacity.result =
     mod-lt (c.in_ok-front.front + c.in_ok-count.count) (omega (arith, l.some)) in
-    omega (arith, l.some, l.whole, shape, place)
+    omega (arith, l.some, l.whole)
 
-pub returns-in_err-front : goal.returns-in_err-front
-returns-in_err-front g c =
-    let failed = c.from_residual-in_err-front.ensures.0 in
-    let on : GoesOn g.W.Words c.args.w.now c.read-2.new.self c.from_residual-in_err-front.result =
-    goes_as (goes_then (goes_call c.in_ok-count.ensures) (goes_call c.in_err-front.ensures)) (search rules) in
-    search IfOk-from_err
+pub returns-in_err-front-clause-goes_on : goal.returns-in_err-front-clause-goes_on
+returns-in_err-front-clause-goes_on g c = goes_as (goes_then (goes_call c.in_ok-count.ensures) (goes_call c.in_err-front.ensures)) (search rules)
 
-pub returns-in_err-write : goal.returns-in_err-write
-returns-in_err-write g c =
-    let failed = c.from_residual-in_err-write.ensures.0 in
-    let on : GoesOn g.W.Words c.args.w.now c.write.new.self c.from_residual-in_err-write.result =
-    goes_as (goes_then (goes_then (goes_call c.in_ok-count.ensures) (goes_call c.in_ok-front.ensures)) (goes_call c.in_err-write.ensures)) (search rules) in
-    search IfOk-from_err
+pub returns-in_err-write-clause-goes_on : goal.returns-in_err-write-clause-goes_on
+returns-in_err-write-clause-goes_on g c =
+    goes_as (goes_then (goes_then (goes_call c.in_ok-count.ensures) (goes_call c.in_ok-front.ensures)) (goes_call c.in_err-write.ensures)) (search rules)
 
-pub returns-in_err-write-2 : goal.returns-in_err-write-2
-returns-in_err-write-2 g c =
-    let failed = c.from_residual-in_err-write-2.ensures.0 in
-    let on : GoesOn g.W.Words c.args.w.now c.write-2.new.self c.from_residual-in_err-write-2.result =
+pub returns-in_err-write-2-clause-goes_on : goal.returns-in_err-write-2-clause-goes_on
+returns-in_err-write-2-clause-goes_on g c =
     goes_as (goes_then (goes_then (goes_then (goes_call c.in_ok-count.ensures) (goes_call c.in_ok-front.ensures))
-    (goes_call c.in_ok-write.ensures)) (goes_call c.in_err-write-2.ensures)) (search rules) in
-    search IfOk-from_err
+    (goes_call c.in_ok-write.ensures)) (goes_call c.in_err-write-2.ensures)) (search rules)
 
-pub returns-in_err-write-3 : goal.returns-in_err-write-3
-returns-in_err-write-3 g c =
-    let failed = c.from_residual-in_err-write-3.ensures.0 in
-    let on : GoesOn g.W.Words c.args.w.now c.write-3.new.self c.from_residual-in_err-write-3.result =
-    goes_as (goes_then (goes_then (goes_then
+pub returns-in_err-write-3-clause-goes_on : goal.returns-in_err-write-3-clause-goes_on
+returns-in_err-write-3-clause-goes_on g c = goes_as (goes_then (goes_then (goes_then
     (goes_then (goes_call c.in_ok-count.ensures) (goes_call c.in_ok-front.ensures))
-    (goes_call c.in_ok-write.ensures)) (goes_call c.in_ok-write-2.ensures)) (goes_call c.in_err-write-3.ensures)) (search rules) in
-    search IfOk-from_err
+    (goes_call c.in_ok-write.ensures)) (goes_call c.in_ok-write-2.ensures)) (goes_call c.in_err-write-3.ensures)) (search rules)
 
 pub returns : goal.returns
 returns g c =
@@ -150,10 +127,10 @@ returns g c =
     let is_own = IsOwn ring in
     let place = (c.in_ok-front.front + c.in_ok-count.count) % c.from-capacity.result in
     let below : place < c.from-capacity.result = mod-lt (c.in_ok-front.front + c.in_ok-count.count) (omega arith) in
-    let front : IsOwn ring ring.at = record { low = omega arith; high = omega arith } in
-    let first : IsOwn ring (ring.at + 2 + 2 * place) = record { low = omega arith; high = omega (arith, below) } in
-    let second : IsOwn ring (ring.at + 3 + 2 * place) = record { low = omega arith; high = omega (arith, below) } in
-    let count : IsOwn ring (ring.at + 1) = record { low = omega arith; high = omega arith } in
+    let front : IsOwn ring ring.at = omega arith in
+    let first : IsOwn ring (ring.at + 2 + 2 * place) = record { low = omega arith; high = omega arith } in
+    let second : IsOwn ring (ring.at + 3 + 2 * place) = record { low = omega arith; high = omega arith } in
+    let count : IsOwn ring (ring.at + 1) = omega arith in
     let is_capacity : c.from-capacity.result ≡ ring.capacity = omega arith in
     let is_place : place ≡ (c.in_ok-front.front + c.in_ok-count.count) % ring.capacity =
     ap (λ k. (c.in_ok-front.front + c.in_ok-count.count) % k) is_capacity in
@@ -179,7 +156,7 @@ returns g c =
     ∙ c.in_ok-write-2.ensures.shape ∙ c.in_ok-write.ensures.shape ∙ c.in_ok-front.ensures.shape ∙ c.in_ok-count.ensures.shape in
     let some = some_from g.W.Words g.W.Shape.Shape c.args.w.now c.write-3.new.self shape
     (g.met.W.Words.fits c.write-3.new.self c.in_ok-write-3.ensures.sound) in
-    let has_room : c.in_ok-count.count ≢ ring.capacity = λ e. absurd (omega (arith, e)) in
+    let has_room : c.in_ok-count.count ≢ ring.capacity = λ e. absurd (omega arith) in
     record {
       pushed = pushed;
       full = λ e. absurd (true≢false e);

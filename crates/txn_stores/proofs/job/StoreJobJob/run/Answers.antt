@@ -1,8 +1,4 @@
-use Rattle.std.proofs.Common.{ℕ, List, sym, ap, ◌∙◌, subst}
-use Rattle.history_model.specs.Traces.{after}
-use Rattle.history_model.specs.Fitting.{Fits}
-use Rattle.txn_words.specs.Verdicts.{is_kept, answer_of}
-use Rattle.txn_stores.specs.Standing.{ScriptOn, ScriptMeans}
+use Rattle.txn_stores.proofs.Common.{ℕ, List, sym, ap, ◌∙◌, subst, after, Fits, is_kept, answer_of, ScriptOn, ScriptMeans}
 use Rattle.txn_stores.proofs.Scripted.{fresh_leaves, fresh_means, fresh_stands}
 use Rattle.txn_stores.proofs.job.StoreJobJob.run.Goals as goal
 

@@ -1,4 +1,4 @@
-use Rattle.std.proofs.Common.{rules}
+use Rattle.txn_stores.proofs.Common.{rules}
 use Rattle.txn_words.proofs.Listed.{follows_fresh}
 use Rattle.txn_stores.proofs.read_only.ReadOnly.new.Goals as goal
 

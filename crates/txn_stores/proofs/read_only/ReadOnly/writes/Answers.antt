@@ -1,6 +1,5 @@
-use Rattle.std.proofs.Common.{ap, ◌∙◌}
-use Rattle.history_model.specs.Marks.{count_writes}
-use Rattle.history_model.specs.Traces.{Trace}
+use Rattle.txn_stores.proofs.Common.{ap, ◌∙◌, count_writes}
+use Rattle.history_model.proofs.Common.{Trace}
 use Rattle.txn_words.proofs.Listed.{follows_noted, trace_of}
 use Rattle.txn_stores.proofs.read_only.ReadOnly.writes.Goals as goal
 

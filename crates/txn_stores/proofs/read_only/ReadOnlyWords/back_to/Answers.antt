@@ -1,6 +1,6 @@
-use Rattle.std.proofs.Common.{◌≡◌, ℕ, arith, subst}
-use Rattle.history_model.specs.Marks.{count_writes}
-use Rattle.txn_words.proofs.GoingBack.{GoneBack, all_back, none_back}
+use Rattle.txn_stores.proofs.Common.{◌≡◌, ℕ, arith, subst, count_writes}
+use Rattle.txn_commit.proofs.Common.{GoneBack}
+use Rattle.txn_words.proofs.GoingBack.{all_back, none_back}
 use Rattle.txn_stores.proofs.read_only.ReadOnlyWords.back_to.Goals as goal
 
 pub returns-clause-back : goal.returns-clause-back

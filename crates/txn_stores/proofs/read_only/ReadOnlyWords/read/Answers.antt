@@ -1,5 +1,4 @@
-use Rattle.std.proofs.Common.{◌≡◌, ◌<◌, arith, length, ap, sym, ◌∙◌}
-use Rattle.std.proofs.lemmas.Option.{slice_get-get_or}
+use Rattle.txn_stores.proofs.Common.{◌≡◌, ◌<◌, arith, length, ap, sym, ◌∙◌, slice_get-get_or}
 use Rattle.txn_words.proofs.Listed.{follows_count, follows_read, shape_of, stop_of}
 use Rattle.txn_stores.proofs.read_only.ReadOnlyWords.read.Goals as goal
 

@@ -1,15 +1,12 @@
-use Rattle.std.proofs.Common.{◌≡◌, ℕ, ◌+◌, ◌<◌, List, length, get_or, slice_set, ap, ◌∙◌, arith}
-use Rattle.std.proofs.lemmas.List.{length-set}
-use Rattle.std.proofs.lemmas.Option.{get_or_from_slice_get, slice_get_within}
-use Rattle.txn_alloc.specs.FreeLists.{block_at}
+use Rattle.txn_tree_map.proofs.Common.{◌≡◌, ℕ, ◌+◌, List, length, get_or, slice_set, ap, ◌∙◌, arith, length-set, slice_get_within, block_at}
+use Rattle.std.proofs.lemmas.Option.{get_or_from_slice_get}
 use Rattle.txn_tree_map.proofs.Inserts.SpineSteps.{seat_name, laid_words, laid_spine, laid_apart, laid_own}
-use Rattle.txn_tree_map.proofs.map.TreeMap.insert_greatest.Goals as goal
 use Rattle.txn_tree_map.proofs.map.TreeMap.insert_greatest.Goals.{After-from}
+use Rattle.txn_tree_map.proofs.map.TreeMap.insert_greatest.Goals as goal
 
 pub write_node-requires : goal.write_node-requires
 write_node-requires c =
-    let fits = c.requires.spine.is_at.laid.arena.blocks c.args.block c.requires.block in
-    omega (arith, fits, c.place_of.ensures)
+    omega (arith, c.requires.spine.is_at.laid.arena.blocks c.args.block c.requires.block, c.place_of.ensures)
 
 pub bounds-words-place-2 : goal.bounds-words-place-2
 bounds-words-place-2 c =
@@ -19,11 +16,9 @@ bounds-words-place-2 c =
     let s1 : List ℕ = slice_set s n c.args.key in
     let s2 : List ℕ = slice_set s1 (n + 1) c.args.value in
     let s3 : List ℕ = slice_set s2 (n + 2) (get_or s c.in_ok-place.place 0) in
-    let lt : c.in_ok-place.place < length s =
-    slice_get_within s c.in_ok-place.place seat.name (seat_name c.args.self.now c.args.key c.in_ok-place.place s c.go_up.new.blocks.items seat) in
     let long : length c.write_node.new.words ≡ length s = ap length c.write_node.ensures
     ∙ length-set s3 (n + 3) 0 ∙ length-set s2 (n + 2) (get_or s c.in_ok-place.place 0) ∙ length-set s1 (n + 1) c.args.value ∙ length-set s n c.args.key in
-    omega (arith, lt, long)
+    omega (arith, slice_get_within s c.in_ok-place.place seat.name (seat_name seat))
 
 -- the words that were laid
 laid : (c : After-from) → slice_set c.write_node.new.words c.in_ok-place.place (c.from.result + 1) ≡ laid_words c.args.self.now c.args.key c.args.value
@@ -34,10 +29,10 @@ laid c =
     let place : ℕ = c.in_ok-place.place in
     let s : List ℕ = c.args.words.now in
     let node : ℕ → ℕ → List ℕ = λ n left. slice_set (slice_set (slice_set (slice_set s n c.args.key) (n + 1) c.args.value) (n + 2) left) (n + 3) 0 in
-    let name : get_or s place 0 ≡ seat.name =
-    get_or_from_slice_get s place seat.name 0 (seat_name c.args.self.now c.args.key place s c.go_up.new.blocks.items seat) in
+    let name =
+    get_or_from_slice_get s place seat.name 0 (seat_name seat) in
     ap (λ ws. slice_set ws place (c.from.result + 1))
-    (c.write_node.ensures ∙ ap (λ n. node n (get_or s place 0)) c.place_of.ensures ∙ ap (λ left. node (block_at c.args.self.now.arena c.args.block) left) name)
+    (c.write_node.ensures ∙ ap (λ n. node n (get_or s place 0)) c.place_of.ensures ∙ ap (node (block_at c.args.self.now.arena c.args.block)) name)
     ∙ ap (λ b. slice_set (node (block_at c.args.self.now.arena c.args.block) seat.name) place (b + 1)) c.from.ensures
 
 pub returns-clause-put : goal.returns-clause-put

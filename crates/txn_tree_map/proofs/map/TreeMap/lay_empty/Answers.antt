@@ -3,10 +3,10 @@ use Rattle.txn_tree_map.proofs.Maps.{empty_others, empty_laid}
 use Rattle.txn_tree_map.proofs.map.TreeMap.lay_empty.Goals as goal
 
 pub returns-clause-map : goal.returns-clause-map
-returns-clause-map c = empty_laid _ _ _ c.requires c.lay_all_free.ensures.others c.lay_all_free.ensures.free
+returns-clause-map c = empty_laid c.requires c.lay_all_free.ensures.others c.lay_all_free.ensures.free
 
 pub returns-clause-order : goal.returns-clause-order
 returns-clause-order c = some_apart (returns-clause-map c)
 
 pub returns-clause-others : goal.returns-clause-others
-returns-clause-others c = empty_others _ _ _ c.requires c.lay_all_free.ensures.others
+returns-clause-others c = empty_others c.requires c.lay_all_free.ensures.others

@@ -1,29 +1,23 @@
-use Rattle.std.proofs.Common.{◌≡◌, ◌+◌, arith, rules}
-use Rattle.std.proofs.lemmas.Result.{IfOk-from_err}
-use Rattle.txn_words.specs.Calls.{GoesOn}
-use Rattle.txn_words.proofs.CallLaws.{goes_call, goes_as}
-use Rattle.txn_words.proofs.FrameLaws.{only_write}
-use Rattle.txn_words.proofs.ReadLaws.{sees_write}
-use Rattle.txn_alloc.specs.FreeLists.{block_at}
+use Rattle.txn_tree_map.proofs.Common.{◌≡◌, ◌+◌, arith, rules, goes_call, goes_as, only_write, sees_write, block_at}
 use Rattle.txn_tree_map.specs.Stored.{IsValueOf}
 use Rattle.txn_tree_map.proofs.Inserts.InPlace.{lies_in, set_in_place, set_keeps, set_apart}
 use Rattle.txn_tree_map.proofs.map.TreeMap.set_stored.Goals as goal
 
 pub place_of-requires : goal.place_of-requires
 place_of-requires g c =
-    let in_list = lies_in g.W.Words g.W.Shape.Shape c.args.self.now c.args.key c.args.block c.args.w.now
+    let in_list = lies_in c.args.self.now c.args.key c.args.block
     (g.met.W.Words.fits c.args.w.now c.requires.ready.sound) c.requires.order c.requires.held in
     omega (arith, in_list.0, in_list.1)
 
 pub overflow_add-place_of : goal.overflow_add-place_of
 overflow_add-place_of g c =
-    let in_list = lies_in g.W.Words g.W.Shape.Shape c.args.self.now c.args.key c.args.block c.args.w.now
+    let in_list = lies_in c.args.self.now c.args.key c.args.block
     (g.met.W.Words.fits c.args.w.now c.requires.ready.sound) c.requires.order c.requires.held in
     omega (arith, in_list.0, in_list.1, c.place_of.ensures)
 
 pub write-requires-clause-within : goal.write-requires-clause-within
 write-requires-clause-within g c =
-    let in_list = lies_in g.W.Words g.W.Shape.Shape c.args.self.now c.args.key c.args.block c.args.w.now
+    let in_list = lies_in c.args.self.now c.args.key c.args.block
     (g.met.W.Words.fits c.args.w.now c.requires.ready.sound) c.requires.order c.requires.held in
     omega (arith, in_list.0, c.place_of.ensures)
 
@@ -35,17 +29,14 @@ returns g c =
     let write = c.in_ok-write.ensures in
     let is_value : q ≡ block_at m.arena b + 1 = omega (arith, c.place_of.ensures) in
     record {
-      put = set_in_place g.W.Words g.W.Shape.Shape m c.args.key b c.args.value q c.args.w.now c.write.new.self write.shape is_value c.requires.held write.value;
-      blocks = set_keeps g.W.Words g.W.Shape.Shape m c.args.key b c.args.value q c.args.w.now c.write.new.self write.shape is_value c.requires.held write.value;
-      order = set_apart g.W.Words g.W.Shape.Shape m c.args.key b c.args.value q c.args.w.now c.write.new.self write.shape is_value c.requires.held write.value
+      put = set_in_place m c.args.key b c.args.value q c.write.new.self write.shape is_value c.requires.held write.value;
+      blocks = set_keeps m c.args.key b c.args.value q c.write.new.self write.shape is_value c.requires.held write.value;
+      order = set_apart m c.args.key b c.args.value q c.write.new.self write.shape is_value c.requires.held write.value
           c.requires.order;
       frame = record { appended = only_write (IsValueOf m b) _ _ q c.args.value write.value is_value };
       reads = record { appended = sees_write (IsValueOf m b) _ _ q c.args.value write.value is_value };
       goes_on = goes_as (goes_call write) write.stops;
     }
 
-pub returns-in_err-write : goal.returns-in_err-write
-returns-in_err-write g c =
-    let failed = c.from_residual.ensures.0 in
-    let on : GoesOn g.W.Words c.args.w.now c.write.new.self c.from_residual.result = goes_as (goes_call c.in_err-write.ensures) (search rules) in
-    search IfOk-from_err
+pub returns-in_err-write-clause-goes_on : goal.returns-in_err-write-clause-goes_on
+returns-in_err-write-clause-goes_on g c = goes_as (goes_call c.in_err-write.ensures) (search rules)

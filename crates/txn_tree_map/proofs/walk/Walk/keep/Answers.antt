@@ -1,4 +1,4 @@
-use Rattle.std.proofs.Common.{refl}
+use Rattle.txn_tree_map.proofs.Common.{refl}
 use Rattle.txn_tree_map.proofs.InOrder.WalkSteps.{keeps_one}
 use Rattle.txn_tree_map.proofs.walk.Walk.keep.Goals as goal
 

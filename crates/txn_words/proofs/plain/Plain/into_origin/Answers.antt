@@ -1,4 +1,4 @@
-use Rattle.std.proofs.Common.{ap, ◌∙◌}
+use Rattle.txn_words.proofs.Common.{ap, ◌∙◌}
 use Rattle.txn_words.proofs.Listed.{follows_restores, origin_of}
 use Rattle.txn_words.proofs.plain.Plain.into_origin.Goals as goal
 

@@ -1,6 +1,4 @@
-use Rattle.std.proofs.Common.{ap, ◌∙◌}
-use Rattle.history_model.specs.Marks.{count_writes}
-use Rattle.history_model.specs.Traces.{Trace}
+use Rattle.txn_words.proofs.Common.{ap, ◌∙◌, count_writes, Trace}
 use Rattle.txn_words.proofs.Listed.{follows_noted, trace_of}
 use Rattle.txn_words.proofs.plain.Plain.noted.Goals as goal
 

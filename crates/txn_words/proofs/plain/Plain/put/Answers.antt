@@ -1,8 +1,5 @@
-use Rattle.std.proofs.Common.{◌≡◌, ◌+◌, ◌<◌, ◌≤◌, ◌++◌, ◌∷◌, [], true, arith, length, slice_get, Some, ap, refl, ◌∙◌, append_assoc, is_ok, vec_len}
-use Rattle.std.proofs.Common.{vec_capacity}
-use Rattle.std.proofs.lemmas.Option.{slice_get_read}
-use Rattle.history_model.specs.declared.event.Event.TheVariants.{Read, Write}
-use Rattle.history_model.specs.Traces.{Trace}
+use Rattle.txn_words.proofs.Common.{◌≡◌, ◌+◌, ◌<◌, ◌≤◌, ◌++◌, ◌∷◌, [], true, arith, length, slice_get, Some, ap, refl, ◌∙◌, slice_get_read, Read, Write, Trace}
+use Rattle.std.proofs.Common.{append_assoc, is_ok, vec_len, vec_capacity}
 use Rattle.txn_words.proofs.Listed.{follows_count, follows_write, grows, pushed, shape_of}
 use Rattle.txn_words.proofs.plain.Plain.put.Given.{Over}
 use Rattle.txn_words.proofs.plain.Plain.put.Goals as goal

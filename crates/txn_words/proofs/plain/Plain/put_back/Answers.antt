@@ -1,6 +1,4 @@
-use Rattle.std.proofs.Common.{◌≡◌, ◌<◌, length, inr, ap, ◌∙◌, subst, arith}
-use Rattle.history_model.specs.Marks.{count_writes}
-use Rattle.history_model.specs.Traces.{Trace}
+use Rattle.txn_words.proofs.Common.{◌≡◌, ◌<◌, length, inr, ap, ◌∙◌, subst, arith, count_writes, Trace}
 use Rattle.txn_words.proofs.Listed.{follows_noted, map_ok, note_within, noted_at, shape_of, trace_of}
 use Rattle.txn_words.proofs.plain.Plain.put_back.Goals as goal
 

@@ -1,5 +1,4 @@
-use Rattle.std.proofs.Common.{◌≡◌, ◌<◌, arith, length, Some, slice_get, ap, refl, sym, ◌∙◌}
-use Rattle.std.proofs.lemmas.Option.{slice_get_read}
+use Rattle.txn_words.proofs.Common.{◌≡◌, ◌<◌, arith, length, Some, slice_get, ap, refl, sym, ◌∙◌, slice_get_read}
 use Rattle.txn_words.proofs.Listed.{follows_count, follows_read, shape_of, stop_of}
 use Rattle.txn_words.proofs.plain.PlainWords.read.Goals as goal
 

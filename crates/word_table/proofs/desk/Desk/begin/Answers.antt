@@ -1,4 +1,4 @@
-use Rattle.std.proofs.Common.{rules}
+use Rattle.word_table.proofs.Common.{rules}
 use Rattle.word_table.proofs.desk.Desk.begin.Goals as goal
 
 pub returns : goal.returns

@@ -1,9 +1,4 @@
-use Rattle.std.proofs.Common.{inr}
-use Rattle.history_model.specs.Locks.{lock_of_word}
-use Rattle.history_model.specs.Views.{number}
-use Rattle.locks_rule.specs.Steps.{claim_writer_action}
-use Rattle.word_table.specs.Desks.{DeskHolds}
-use Rattle.word_table.specs.Kinds.{TakenIn}
+use Rattle.word_table.proofs.Common.{inr, lock_of_word, number, claim_writer_action, DeskHolds, TakenIn}
 use Rattle.word_table.proofs.Calls.Answering.{not_claimed, asks_claim, claim_pending, claim_met}
 use Rattle.word_table.proofs.Calls.Taken.{of_desk}
 use Rattle.word_table.proofs.Calls.Staying.{claim_leaves, claim_unchanged}

@@ -1,8 +1,4 @@
-use Rattle.std.proofs.Common.{ℕ, ap, ◌∙◌}
-use Rattle.std.specs.Slots.{slots_items}
-use Rattle.history_model.specs.Fitting.{IsGood}
-use Rattle.history_model.specs.Table.{value_word}
-use Rattle.word_table.specs.Closing.{ClosedView}
+use Rattle.word_table.proofs.Common.{ℕ, ap, ◌∙◌, slots_items, IsGood, value_word, ClosedView}
 use Rattle.word_table.proofs.Joined.Gathering.{IsClosed, is_closed, desk_closed, all_of_desk}
 use Rattle.word_table.proofs.desk.Desk.close_into.Given.{Over}
 use Rattle.word_table.proofs.desk.Desk.close_into.Goals as goal

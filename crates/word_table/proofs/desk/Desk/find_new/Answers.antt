@@ -1,9 +1,4 @@
-use Rattle.std.proofs.Common.{◌≡◌, false, inr, ap}
-use Rattle.history_model.specs.declared.view.View.{View}
-use Rattle.history_model.specs.Locks.{lock_of_word}
-use Rattle.history_model.specs.Sets.{has}
-use Rattle.history_model.proofs.SetLemmas.{not_true}
-use Rattle.word_table.specs.Versions.{locks_found}
+use Rattle.word_table.proofs.Common.{◌≡◌, false, inr, ap, View, lock_of_word, has, not_true, locks_found}
 use Rattle.word_table.proofs.Calls.Versioning.{finds_used, finds_view}
 use Rattle.word_table.proofs.desk.Desk.find_new.Goals as goal
 

@@ -1,8 +1,5 @@
-use Rattle.std.proofs.Common.{◌≡◌, ℕ, Bool, true, false, not, refl, sym, subst, ◌==◌}
-use Rattle.std.proofs.lemmas.Bool.{eqb-true}
-use Rattle.history_model.specs.Fitting.{IsGood}
-use Rattle.word_table.specs.Desks.{DeskView, RuleHolds}
-use Rattle.word_table.specs.Waits.{WaitedForCause}
+use Rattle.word_table.proofs.Common.{◌≡◌, ℕ, Bool, true, false, refl, sym, subst, ◌==◌, eqb-true, IsGood, DeskView, RuleHolds, WaitedForCause}
+use Rattle.std.proofs.Common.{not}
 use Rattle.word_table.proofs.Runs.Looking.{waited_for_cause}
 use Rattle.word_table.proofs.desk.Desk.gone.Goals as goal
 

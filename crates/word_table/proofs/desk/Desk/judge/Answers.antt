@@ -1,11 +1,5 @@
-use Rattle.std.proofs.Common.{subst}
-use Rattle.history_model.specs.Fitting.{IsGood}
-use Rattle.history_model.specs.Views.{number}
-use Rattle.stamps_rule.specs.Stamps.{AreRestartsBounded}
-use Rattle.stamps_rule.specs.Steps.{MayJudgeStamp}
-use Rattle.word_table.specs.Desks.{DeskView, RuleHolds}
+use Rattle.word_table.proofs.Common.{subst, IsGood, number, AreRestartsBounded, MayJudgeStamp, DeskView, RuleHolds, FoundWait}
 use Rattle.word_table.proofs.Calls.Judging.{judged_waits, judged_yields, judged_bounded, judged_cause}
-use Rattle.word_table.specs.Waits.{FoundWait}
 use Rattle.word_table.proofs.Runs.Looking.{found_wait}
 use Rattle.word_table.proofs.desk.Desk.judge.Given.{Over}
 use Rattle.word_table.proofs.desk.Desk.judge.Goals as goal

@@ -1,5 +1,4 @@
-use Rattle.history_model.specs.Locks.{lock_of_word}
-use Rattle.word_table.specs.Calls.{FindsVersion}
+use Rattle.word_table.proofs.Common.{lock_of_word, FindsVersion}
 use Rattle.word_table.proofs.Calls.Taken.{of_desk}
 use Rattle.word_table.proofs.desk.Desk.load.Goals as goal
 

@@ -1,7 +1,4 @@
-use Rattle.std.proofs.Common.{ℕ, sym, ap, subst, ◌∙◌}
-use Rattle.std.proofs.lemmas.Result.{IfOk-from_err}
-use Rattle.word_table.specs.Closing.{AreAllPasses}
-use Rattle.history_model.specs.Fitting.{IsGood}
+use Rattle.word_table.proofs.Common.{ℕ, sym, ap, subst, ◌∙◌, IfOk-from_err, AreAllPasses, IsGood}
 use Rattle.word_table.proofs.Openings.Opening.{opening_sound}
 use Rattle.word_table.proofs.Joined.Gathering.{fresh_passes}
 use Rattle.word_table.proofs.desk.Desk.new.Goals as goal

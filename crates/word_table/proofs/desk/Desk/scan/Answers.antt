@@ -1,6 +1,4 @@
-use Rattle.history_model.specs.Views.{number}
-use Rattle.word_table.specs.Calls.{ScannedBy}
-use Rattle.word_table.specs.Desks.{DeskHolds}
+use Rattle.word_table.proofs.Common.{number, ScannedBy, DeskHolds}
 use Rattle.word_table.proofs.Calls.Answering.{scan_clear, scan_met}
 use Rattle.word_table.proofs.Calls.Taken.{of_desk}
 use Rattle.word_table.proofs.Calls.Staying.{scan_leaves}

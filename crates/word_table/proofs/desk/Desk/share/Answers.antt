@@ -1,4 +1,4 @@
-use Rattle.history_model.specs.Locks.{lock_of_word}
+use Rattle.word_table.proofs.Common.{lock_of_word}
 use Rattle.word_table.proofs.Calls.Answering.{not_granted}
 use Rattle.word_table.proofs.desk.Desk.share.Goals as goal
 

@@ -1,7 +1,4 @@
-use Rattle.std.proofs.Common.{inr}
-use Rattle.history_model.specs.Views.{number}
-use Rattle.word_table.specs.Calls.{MakesSeen, Looked}
-use Rattle.word_table.specs.Desks.{DeskHolds}
+use Rattle.word_table.proofs.Common.{inr, number, MakesSeen, Looked, DeskHolds}
 use Rattle.word_table.proofs.Calls.Answering.{one_before, asks_shared, share_granted, share_met, share_bit}
 use Rattle.word_table.proofs.Calls.Taken.{of_desk}
 use Rattle.word_table.proofs.Calls.Staying.{share_leaves, share_unchanged}

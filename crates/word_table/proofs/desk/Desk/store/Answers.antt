@@ -1,4 +1,4 @@
-use Rattle.history_model.specs.Views.{number}
+use Rattle.word_table.proofs.Common.{number}
 use Rattle.word_table.proofs.Calls.Committing.{noted_old}
 use Rattle.word_table.proofs.desk.Desk.store.Goals as goal
 

@@ -1,12 +1,5 @@
-use Rattle.std.proofs.Common.{ap, ◌∙◌, subst}
-use Rattle.history_model.specs.declared.view.View.{View}
-use Rattle.history_model.specs.Sets.{has}
-use Rattle.history_model.specs.Views.{number}
-use Rattle.history_model.proofs.SetLemmas.{has-without_same}
-use Rattle.locks_rule.specs.Steps.{release_writer_action}
+use Rattle.word_table.proofs.Common.{ap, ◌∙◌, subst, View, has, number, has-without_same, release_writer_action, DeskHolds, TakenIn}
 use Rattle.word_table.specs.Calls.{Pays}
-use Rattle.word_table.specs.Desks.{DeskHolds}
-use Rattle.word_table.specs.Kinds.{TakenIn}
 use Rattle.word_table.proofs.Calls.Staying.{claim_gone}
 use Rattle.word_table.proofs.Calls.Taken.{of_desk}
 use Rattle.word_table.proofs.desk.Desk.unclaim.Goals as goal

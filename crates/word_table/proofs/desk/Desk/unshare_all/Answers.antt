@@ -1,6 +1,5 @@
-use Rattle.history_model.specs.declared.view.View.{View}
-use Rattle.word_table.specs.Desks.{DeskHolds}
-use Rattle.word_table.specs.Unsharing.{ClearsEach, rising}
+use Rattle.word_table.proofs.Common.{View, DeskHolds, rising}
+use Rattle.word_table.specs.Unsharing.{ClearsEach}
 use Rattle.word_table.proofs.Calls.Taken.{of_desk}
 use Rattle.word_table.proofs.Calls.Unsharing.{cleared_grants, cleared_phase, cleared_rest}
 use Rattle.word_table.proofs.desk.Desk.unshare_all.Goals as goal

@@ -1,10 +1,4 @@
-use Rattle.std.proofs.Common.{true, refl, ap, ◌∙◌}
-use Rattle.atomic_table.specs.Table.{Me}
-use Rattle.history_model.specs.declared.view.View.{View}
-use Rattle.history_model.specs.Fitting.{IsGood}
-use Rattle.stamps_rule.specs.Steps.{announce_stamp_action}
-use Rattle.word_table.specs.Copies.{PassView}
-use Rattle.word_table.specs.Sound.{IsSound}
+use Rattle.word_table.proofs.Common.{true, refl, ap, ◌∙◌, Me, View, IsGood, announce_stamp_action, PassView, IsSound}
 use Rattle.word_table.proofs.Copied.After.{copy_made, lock_copy, busy, runs_on}
 use Rattle.word_table.proofs.Calls.Taken.{taken_in}
 use Rattle.word_table.proofs.pass.Pass.announce_stamp.Goals as goal

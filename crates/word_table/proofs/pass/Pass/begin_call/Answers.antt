@@ -1,11 +1,4 @@
-use Rattle.std.proofs.Common.{◌≡◌, ℕ, ◌+◌, ◌^◌, ◌<◌, refl, ap, arith}
-use Rattle.atomic_table.specs.Table.{Me}
-use Rattle.history_model.specs.declared.view.View.{View}
-use Rattle.history_model.specs.declared.view.Phase.TheVariants.{Idle, Running}
-use Rattle.history_model.specs.Fitting.{IsGood}
-use Rattle.values_rule.specs.Steps.{begin_call_action}
-use Rattle.word_table.specs.Sound.{IsSound}
-use Rattle.word_table.specs.declared.copies.LockCopy.{LockCopy}
+use Rattle.word_table.proofs.Common.{◌≡◌, ℕ, ◌+◌, ◌^◌, ◌<◌, refl, ap, arith, Me, View, Idle, Running, IsGood, begin_call_action, IsSound, LockCopy}
 use Rattle.word_table.proofs.Copied.Rows.{zeros, shows_none}
 use Rattle.word_table.proofs.Copied.After.{copy_called, lock_copy, busy, holds_none}
 use Rattle.word_table.proofs.Copied.VersionCopies.{versions_begun}

@@ -1,11 +1,5 @@
-use Rattle.std.proofs.Common.{◌≡◌, ◌≤◌, ◌+◌, ℕ, List, slice_index, sym, ap, ◌∙◌, subst, arith}
-use Rattle.history_model.specs.Locks.{lock_of_word}
-use Rattle.history_model.specs.Views.{number, HasClaim}
-use Rattle.history_model.specs.Fitting.{IsGood}
-use Rattle.word_table.specs.Sound.{IsSound}
-use Rattle.locks_rule.specs.Steps.{claim_writer_action}
-use Rattle.word_table.specs.declared.limits.TheConstants.{MOST_PASSES}
-use Rattle.word_table.specs.Copies.{PassView}
+use Rattle.word_table.proofs.Common.{◌≡◌, ◌≤◌, ◌+◌, ℕ, List, slice_index, sym, ap, ◌∙◌, subst, arith, lock_of_word, number, HasClaim, IsGood, IsSound}
+use Rattle.word_table.proofs.Common.{claim_writer_action, MOST_PASSES, PassView}
 use Rattle.word_table.proofs.Calls.Found.{not_own_found, writer_small}
 use Rattle.word_table.proofs.Calls.Taken.{taken_in}
 use Rattle.word_table.proofs.Copied.After.{copy_after, claim_same, claim_phase, claim_copy, claim_holds, busy, runs_on}

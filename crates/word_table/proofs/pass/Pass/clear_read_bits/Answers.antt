@@ -1,6 +1,4 @@
-use Rattle.std.proofs.Common.{refl, ◌<◌, arith, ◌∙◌}
-use Rattle.history_model.specs.declared.TheConstants.{LOCKS}
-use Rattle.word_table.specs.Unsharing.{rising}
+use Rattle.word_table.proofs.Common.{refl, ◌<◌, arith, ◌∙◌, LOCKS, rising}
 use Rattle.word_table.proofs.Calls.Unsharing.{cleared_bits, clears_all, clears_join, clears_none}
 use Rattle.word_table.proofs.pass.Pass.clear_read_bits.Goals as goal
 

@@ -1,7 +1,4 @@
-use Rattle.std.proofs.Common.{◌≡◌, ◌<◌, ◌*◌, ℕ}
-use Rattle.history_model.specs.Views.{HasBit}
-use Rattle.word_table.specs.Inner.Unsharing.{ClearsMore}
-use Rattle.word_table.specs.Sound.{GroundHolds}
+use Rattle.word_table.proofs.Common.{◌≡◌, ◌<◌, ◌*◌, ℕ, HasBit, ClearsMore, GroundHolds}
 use Rattle.word_table.proofs.pass.Pass.clear_read_bits.Given as goal
 
 -- the words so far have no bit left

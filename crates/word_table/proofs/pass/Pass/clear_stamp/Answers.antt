@@ -1,16 +1,8 @@
-use Rattle.std.proofs.Common.{false, inl, refl, ap, ◌∙◌, subst}
-use Rattle.atomic_table.specs.Table.{Me}
-use Rattle.history_model.specs.declared.view.View.{View}
-use Rattle.history_model.specs.declared.view.Phase.TheVariants.{Idle}
-use Rattle.history_model.specs.Fitting.{IsGood}
-use Rattle.values_rule.specs.Steps.{clear_stamp_action}
-use Rattle.word_table.specs.Sound.{IsSound}
+use Rattle.word_table.proofs.Common.{false, inl, refl, ap, ◌∙◌, subst, Me, View, Idle, IsGood, clear_stamp_action, IsSound, number, HasBit, HasClaim, PassView}
+use Rattle.word_table.proofs.Common.{restarts_bounded}
 use Rattle.word_table.proofs.Calls.Taken.{taken_in, own_number}
-use Rattle.history_model.specs.Views.{number, HasBit, HasClaim}
-use Rattle.word_table.specs.Copies.{PassView}
 use Rattle.word_table.proofs.Copied.After.{copy_made, lock_copy, holds_off}
 use Rattle.word_table.proofs.Copied.VersionCopies.{versions_over}
-use Rattle.stamps_rule.proofs.Bounds.{restarts_bounded}
 use Rattle.word_table.proofs.pass.Pass.clear_stamp.Goals as goal
 
 pub invariant_of-self : goal.invariant_of-self

@@ -1,5 +1,4 @@
-use Rattle.std.proofs.Common.{refl, ℕ, ap, ◌∙◌}
-use Rattle.history_model.specs.declared.view.View.{View}
+use Rattle.word_table.proofs.Common.{refl, ℕ, ap, ◌∙◌, View}
 use Rattle.word_table.proofs.Calls.Unsharing.{bits_left, clears_join, clears_none, clears_one, fewer_bits, least_of_word, none_of_word}
 use Rattle.word_table.proofs.pass.Pass.clear_word.Goals as goal
 

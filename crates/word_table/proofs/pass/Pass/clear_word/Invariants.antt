@@ -1,8 +1,4 @@
-use Rattle.std.proofs.Common.{◌≡◌, ◌<◌, ◌*◌, ℕ, length}
-use Rattle.history_model.specs.Views.{HasBit}
-use Rattle.word_table.specs.Inner.Unsharing.{ClearsMore}
-use Rattle.word_table.specs.Sound.{GroundHolds}
-use Rattle.word_table.specs.Unsharing.{rising}
+use Rattle.word_table.proofs.Common.{◌≡◌, ◌<◌, ◌*◌, ℕ, length, HasBit, ClearsMore, GroundHolds, rising}
 use Rattle.word_table.proofs.pass.Pass.clear_word.Given as goal
 
 -- no bit before the word is left

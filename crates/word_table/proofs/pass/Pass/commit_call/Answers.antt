@@ -1,17 +1,9 @@
-use Rattle.std.proofs.Common.{◌≡◌, refl, ap, ◌∙◌}
-use Rattle.history_model.specs.declared.view.View.{View}
-use Rattle.history_model.specs.declared.view.Phase.TheVariants.{Idle, Releasing}
-use Rattle.history_model.specs.Fitting.{IsGood}
-use Rattle.values_rule.specs.Steps.{commit_call_action}
-use Rattle.word_table.specs.Sound.{IsSound}
-use Rattle.word_table.specs.declared.copies.LockCopy.{LockCopy}
-use Rattle.word_table.specs.Copies.{PassView}
+use Rattle.word_table.proofs.Common.{◌≡◌, refl, ap, ◌∙◌, View, Idle, Releasing, IsGood, commit_call_action, IsSound, LockCopy, PassView, number}
+use Rattle.word_table.proofs.Common.{restarts_bounded}
 use Rattle.word_table.proofs.Copied.After.{copy_stored, steady, lock_copy, busy, holds_off}
 use Rattle.word_table.proofs.Copied.VersionCopies.{versions_committed}
 use Rattle.word_table.proofs.Calls.Committing.{commit_knew}
 use Rattle.word_table.proofs.Calls.Taken.{taken_in, own_number}
-use Rattle.history_model.specs.Views.{number}
-use Rattle.stamps_rule.proofs.Bounds.{restarts_bounded}
 use Rattle.word_table.proofs.pass.Pass.commit_call.Goals as goal
 
 pub invariant_of-self : goal.invariant_of-self

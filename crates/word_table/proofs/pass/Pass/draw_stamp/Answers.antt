@@ -1,10 +1,4 @@
-use Rattle.std.proofs.Common.{◌≤◌, ◌+◌, refl, ap, ◌∙◌, arith}
-use Rattle.history_model.specs.declared.view.View.{View}
-use Rattle.history_model.specs.Fitting.{IsGood}
-use Rattle.stamps_rule.specs.Steps.{draw_stamp_action}
-use Rattle.word_table.specs.declared.limits.TheConstants.{MOST_PASSES}
-use Rattle.word_table.specs.Copies.{PassView}
-use Rattle.word_table.specs.Sound.{IsSound}
+use Rattle.word_table.proofs.Common.{◌≤◌, ◌+◌, refl, ap, ◌∙◌, arith, View, IsGood, draw_stamp_action, MOST_PASSES, PassView, IsSound}
 use Rattle.word_table.proofs.Copied.After.{copy_made, lock_copy, busy, runs_on}
 use Rattle.word_table.proofs.Kept.Growing.{draw_grows}
 use Rattle.word_table.proofs.Calls.Taken.{taken_in}

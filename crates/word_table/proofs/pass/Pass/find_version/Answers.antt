@@ -1,11 +1,4 @@
-use Rattle.std.proofs.Common.{◌≡◌, ℕ, false, inr, sym, ap, ◌∙◌}
-use Rattle.history_model.specs.declared.view.View.{View}
-use Rattle.history_model.specs.Fitting.{IsGood}
-use Rattle.history_model.specs.Locks.{lock_of_word}
-use Rattle.history_model.specs.Sets.{has}
-use Rattle.word_table.specs.Copies.{PassView}
-use Rattle.word_table.specs.Sound.{IsSound}
-use Rattle.word_table.specs.Versions.{locks_found}
+use Rattle.word_table.proofs.Common.{◌≡◌, ℕ, false, inr, sym, ap, ◌∙◌, View, IsGood, lock_of_word, has, PassView, IsSound, locks_found}
 use Rattle.word_table.proofs.Calls.Versioning.{finds_view, finds_used}
 use Rattle.word_table.proofs.Copied.VersionCopies.{bit_used}
 use Rattle.word_table.proofs.pass.Pass.find_version.Goals as goal

@@ -1,7 +1,4 @@
-use Rattle.std.proofs.Common.{ap, ◌∙◌, subst}
-use Rattle.history_model.specs.declared.view.View.{View}
-use Rattle.history_model.specs.Views.{IsGranted}
-use Rattle.word_table.specs.Copies.{PassView}
+use Rattle.word_table.proofs.Common.{ap, ◌∙◌, subst, View, IsGranted, PassView}
 use Rattle.word_table.proofs.Copied.VersionCopies.{bit_used}
 use Rattle.word_table.proofs.pass.Pass.has_use.Goals as goal
 

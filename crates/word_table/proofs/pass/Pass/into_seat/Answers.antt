@@ -1,7 +1,4 @@
-use Rattle.std.proofs.Common.{true, List, [], ℕ, ◌≡◌, sym, subst}
-use Rattle.history_model.specs.Sets.{has}
-use Rattle.history_model.specs.Views.{number}
-use Rattle.history_model.proofs.SetLemmas.{has-join_same}
+use Rattle.word_table.proofs.Common.{true, List, [], ℕ, ◌≡◌, sym, subst, has, number, has-join_same}
 use Rattle.word_table.proofs.Calls.Taken.{own_number}
 use Rattle.word_table.proofs.pass.Pass.into_seat.Goals as goal
 

@@ -1,16 +1,8 @@
-use Rattle.std.proofs.Common.{◌≡◌, ℕ, Option, refl, sym, ap, ◌∙◌}
-use Rattle.history_model.specs.declared.event.Cause.{Cause}
-use Rattle.history_model.specs.declared.view.View.{View}
-use Rattle.history_model.specs.declared.view.Phase.TheVariants.{Idle, Running, Yielding}
-use Rattle.history_model.specs.Counts.{is_open}
-use Rattle.history_model.specs.Sets.{without}
-use Rattle.stamps_rule.specs.Steps.{after_judgement, after_giving_way}
-use Rattle.word_table.specs.declared.copies.LockCopy.{LockCopy}
+use Rattle.word_table.proofs.Common.{◌≡◌, ℕ, Option, refl, sym, ap, ◌∙◌, Cause, View, Idle, Running, Yielding, is_open, without, after_judgement}
+use Rattle.word_table.proofs.Common.{after_giving_way, LockCopy, judged_of, PassView}
 use Rattle.word_table.proofs.Copied.Rows.{zeros, shows_none}
 use Rattle.word_table.proofs.Copied.After.{copy_after, steady, lock_copy, busy, runs_on, holds_off}
 use Rattle.word_table.proofs.Copied.VersionCopies.{versions_yielded}
-use Rattle.word_table.specs.Calls.{judged_of}
-use Rattle.word_table.specs.Copies.{PassView}
 use Rattle.word_table.proofs.Calls.Judging.{wait_due, yield_due}
 use Rattle.word_table.proofs.Calls.Taken.{own_number}
 use Rattle.word_table.proofs.pass.Pass.judge_stamp.Goals as goal

@@ -1,11 +1,6 @@
-use Rattle.std.proofs.Common.{◌≡◌, Bool, true, false, refl, sym, ap, ◌∙◌, ◌==◌, if◌then◌else◌}
-use Rattle.history_model.specs.declared.view.View.{View}
-use Rattle.history_model.specs.declared.view.Phase.TheVariants.{Idle, Running, Yielding}
-use Rattle.history_model.specs.Fitting.{IsGood}
-use Rattle.stamps_rule.specs.Steps.{load_cause_stamp_action, after_waiting, after_restarting}
-use Rattle.word_table.specs.Copies.{PassView}
+use Rattle.word_table.proofs.Common.{◌≡◌, Bool, true, false, refl, sym, ap, ◌∙◌, ◌==◌, if◌then◌else◌, View, Idle, Running, Yielding, IsGood}
+use Rattle.word_table.proofs.Common.{load_cause_stamp_action, after_waiting, after_restarting, PassView, IsSound}
 use Rattle.word_table.proofs.Copied.After.{copy_after, busy, look_same, look_phase, look_copy, look_holds}
-use Rattle.word_table.specs.Sound.{IsSound}
 use Rattle.word_table.proofs.Calls.Committing.{restart_reads}
 use Rattle.word_table.proofs.Calls.Taken.{taken_in, own_number}
 use Rattle.word_table.proofs.pass.Pass.load_cause_stamp.Goals as goal

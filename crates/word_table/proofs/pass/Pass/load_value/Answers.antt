@@ -1,13 +1,5 @@
-use Rattle.std.proofs.Common.{◌<◌, length, refl, sym, ap, ◌∙◌, subst}
-use Rattle.history_model.specs.declared.view.View.{View}
-use Rattle.history_model.specs.Locks.{lock_of_word}
-use Rattle.history_model.specs.Sets.{has}
-use Rattle.history_model.specs.Views.{IsGranted}
-use Rattle.history_model.specs.Fitting.{IsGood}
-use Rattle.values_rule.specs.Steps.{load_value_action}
-use Rattle.word_table.specs.Sound.{IsSound}
-use Rattle.word_table.specs.Copies.{PassView}
-use Rattle.word_table.specs.Versions.{locks_found}
+use Rattle.word_table.proofs.Common.{◌<◌, length, refl, sym, ap, ◌∙◌, subst, View, lock_of_word, has, IsGranted, IsGood, load_value_action, IsSound, PassView}
+use Rattle.word_table.proofs.Common.{locks_found}
 use Rattle.word_table.proofs.Copied.After.{copy_after, steady, lock_copy, busy, runs_on}
 use Rattle.word_table.proofs.Copied.VersionCopies.{use_found, versions_read}
 use Rattle.word_table.proofs.Calls.Committing.{load_reads}

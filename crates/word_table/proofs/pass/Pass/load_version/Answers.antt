@@ -1,13 +1,5 @@
-use Rattle.std.proofs.Common.{◌≡◌, ℕ, ◌+◌, ◌^◌, ◌<◌, ◌≤◌, false, ⊎_elim, slice_set, refl, sym, ap, ◌∙◌, subst, arith}
-use Rattle.history_model.specs.declared.view.View.{View}
-use Rattle.history_model.specs.Fitting.{IsGood}
-use Rattle.history_model.specs.Sets.{has}
-use Rattle.history_model.specs.Views.{IsGranted}
-use Rattle.history_model.proofs.SetLemmas.{differ}
-use Rattle.locks_rule.specs.Versions.{load_version_action}
-use Rattle.word_table.specs.declared.limits.TheConstants.{MOST_PASSES}
-use Rattle.word_table.specs.Copies.{PassView}
-use Rattle.word_table.specs.Versions.{locks_found}
+use Rattle.word_table.proofs.Common.{◌≡◌, ℕ, ◌+◌, ◌^◌, ◌<◌, ◌≤◌, false, ⊎_elim, slice_set, refl, sym, ap, ◌∙◌, subst, arith, View, IsGood, has, IsGranted}
+use Rattle.word_table.proofs.Common.{differ, load_version_action, MOST_PASSES, PassView, locks_found}
 use Rattle.word_table.proofs.Copied.After.{copy_after, steady, lock_copy, busy, runs_on}
 use Rattle.word_table.proofs.Copied.VersionCopies.{found_before, found_use, versions_found}
 use Rattle.word_table.proofs.Kept.Growing.{version_grows}

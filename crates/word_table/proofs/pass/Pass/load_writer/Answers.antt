@@ -1,12 +1,6 @@
-use Rattle.std.proofs.Common.{◌≤◌, ◌∙◌, arith, ap}
-use Rattle.history_model.specs.Locks.{lock_of_word}
-use Rattle.history_model.specs.Fitting.{IsGood}
-use Rattle.word_table.specs.Sound.{IsSound}
-use Rattle.locks_rule.specs.Steps.{is_free, load_writer_action}
-use Rattle.word_table.specs.declared.limits.TheConstants.{MOST_PASSES}
+use Rattle.word_table.proofs.Common.{◌≤◌, ◌∙◌, arith, ap, lock_of_word, IsGood, IsSound, is_free, load_writer_action, MOST_PASSES, PassView}
 use Rattle.word_table.proofs.Calls.Found.{writer_small}
 use Rattle.word_table.proofs.Calls.Taken.{taken_in}
-use Rattle.word_table.specs.Copies.{PassView}
 use Rattle.word_table.proofs.Copied.After.{copy_after, load_same, load_phase, load_copy, load_holds, same_test, busy, runs_on}
 use Rattle.word_table.proofs.pass.Pass.load_writer.Goals as goal
 

@@ -1,8 +1,4 @@
-use Rattle.std.proofs.Common.{sym, subst}
-use Rattle.history_model.specs.Locks.{lock_of_word}
-use Rattle.history_model.specs.declared.view.View.{View}
-use Rattle.history_model.specs.Views.{HasBit}
-use Rattle.history_model.proofs.SetLemmas.{has-join_same}
+use Rattle.word_table.proofs.Common.{sym, subst, lock_of_word, View, HasBit, has-join_same}
 use Rattle.word_table.proofs.pass.Pass.make_seen.Goals as goal
 
 pub returns-clause-bit : goal.returns-clause-bit

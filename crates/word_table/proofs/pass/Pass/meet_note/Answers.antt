@@ -1,7 +1,4 @@
-use Rattle.std.proofs.Common.{ap}
-use Rattle.atomic_table.specs.Table.{Me}
-use Rattle.history_model.specs.declared.view.View.{View}
-use Rattle.history_model.specs.Fitting.{IsGood}
+use Rattle.word_table.proofs.Common.{ap, Me, View, IsGood}
 use Rattle.word_table.proofs.Joined.Noting.{meets_at, met_by, seat_phase}
 use Rattle.word_table.proofs.pass.Pass.meet_note.Goals as goal
 

@@ -1,7 +1,4 @@
-use Rattle.std.proofs.Common.{◌≤◌, subst}
-use Rattle.history_model.specs.Views.{HasBit}
-use Rattle.word_table.specs.Copies.{PassView}
-use Rattle.word_table.specs.Least.{IsLeast}
+use Rattle.word_table.proofs.Common.{◌≤◌, subst, HasBit, PassView, IsLeast}
 use Rattle.word_table.proofs.Copied.Passes.{least_of_all, near_least}
 use Rattle.word_table.proofs.pass.Pass.next_bit.Goals as goal
 

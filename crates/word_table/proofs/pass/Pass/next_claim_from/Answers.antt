@@ -1,7 +1,4 @@
-use Rattle.std.proofs.Common.{◌≤◌, subst}
-use Rattle.history_model.specs.Views.{HasClaim}
-use Rattle.word_table.specs.Copies.{PassView}
-use Rattle.word_table.specs.Least.{IsLeast}
+use Rattle.word_table.proofs.Common.{◌≤◌, subst, HasClaim, PassView, IsLeast}
 use Rattle.word_table.proofs.Copied.Passes.{near_least}
 use Rattle.word_table.proofs.pass.Pass.next_claim_from.Goals as goal
 

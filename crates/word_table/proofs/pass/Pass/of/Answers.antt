@@ -1,4 +1,4 @@
-use Rattle.std.proofs.Common.{refl, arith}
+use Rattle.word_table.proofs.Common.{refl, arith}
 use Rattle.word_table.proofs.Openings.Opening.{opening_copy}
 use Rattle.word_table.proofs.pass.Pass.of.Goals as goal
 

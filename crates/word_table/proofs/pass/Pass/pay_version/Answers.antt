@@ -1,9 +1,4 @@
-use Rattle.std.proofs.Common.{◌≡◌, ◌⊎◌, false, List, ℕ, [], sym, ap, ◌∙◌, subst}
-use Rattle.history_model.specs.declared.view.View.{View}
-use Rattle.history_model.specs.declared.view.Phase.TheVariants.{Releasing}
-use Rattle.history_model.specs.Sets.{has}
-use Rattle.history_model.proofs.SetLemmas.{without-absent}
-use Rattle.word_table.specs.Copies.{PassView}
+use Rattle.word_table.proofs.Common.{◌≡◌, ◌⊎◌, false, List, ℕ, [], sym, ap, ◌∙◌, subst, View, Releasing, has, without-absent, PassView}
 use Rattle.word_table.proofs.Copied.VersionCopies.{marked_owed, unmarked_unowed}
 use Rattle.word_table.proofs.pass.Pass.pay_version.Goals as goal
 

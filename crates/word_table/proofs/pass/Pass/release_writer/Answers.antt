@@ -1,12 +1,6 @@
-use Rattle.std.proofs.Common.{◌≡◌, ◌⊎◌, [], refl, sym, ap, ◌∙◌, subst}
-use Rattle.history_model.specs.declared.view.Phase.{Phase}
-use Rattle.history_model.specs.declared.view.Phase.TheVariants.{Releasing}
-use Rattle.history_model.specs.declared.view.View.{View}
-use Rattle.history_model.specs.Fitting.{IsGood}
-use Rattle.word_table.specs.Sound.{IsSound}
-use Rattle.locks_rule.specs.Steps.{release_writer_action, released_phase}
+use Rattle.word_table.proofs.Common.{◌≡◌, ◌⊎◌, [], refl, sym, ap, ◌∙◌, subst, Phase, Releasing, View, IsGood, IsSound, release_writer_action, released_phase}
+use Rattle.word_table.proofs.Common.{PassView}
 use Rattle.word_table.proofs.Calls.Taken.{taken_in}
-use Rattle.word_table.specs.Copies.{PassView}
 use Rattle.word_table.proofs.Copied.After.{copy_stored, steady, lock_copy, busy, releases_on, holds_off, released_stands}
 use Rattle.word_table.proofs.Copied.VersionCopies.{versions_released}
 use Rattle.word_table.proofs.pass.Pass.release_writer.Goals as goal

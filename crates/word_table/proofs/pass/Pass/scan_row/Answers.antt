@@ -1,9 +1,5 @@
-use Rattle.std.proofs.Common.{◌∷◌, ◌%◌, ◌∙◌, refl, ap}
-use Rattle.history_model.specs.Fitting.{IsGood}
-use Rattle.word_table.specs.Sound.{IsSound}
-use Rattle.locks_rule.specs.Steps.{scan_row_action}
+use Rattle.word_table.proofs.Common.{◌∷◌, ◌%◌, ◌∙◌, refl, ap, IsGood, IsSound, scan_row_action, PassView}
 use Rattle.word_table.proofs.Calls.Taken.{taken_in}
-use Rattle.word_table.specs.Copies.{PassView}
 use Rattle.word_table.proofs.Copied.After.{copy_after, clear_bit, scan_same, scan_phase, scan_copy, scan_holds, busy, runs_on}
 use Rattle.word_table.proofs.pass.Pass.scan_row.Goals as goal
 

@@ -1,12 +1,6 @@
-use Rattle.std.proofs.Common.{refl, ap, ◌∙◌}
-use Rattle.history_model.specs.declared.view.View.{View}
-use Rattle.history_model.specs.Fitting.{IsGood}
-use Rattle.word_table.specs.Sound.{IsSound}
-use Rattle.history_model.specs.Locks.{lock_of_word}
-use Rattle.locks_rule.specs.Steps.{set_read_bit_action}
+use Rattle.word_table.proofs.Common.{refl, ap, ◌∙◌, View, IsGood, IsSound, lock_of_word, set_read_bit_action, PassView}
 use Rattle.word_table.proofs.Calls.Found.{set_stores}
 use Rattle.word_table.proofs.Calls.Taken.{taken_in}
-use Rattle.word_table.specs.Copies.{PassView}
 use Rattle.word_table.proofs.Copied.After.{copy_stored, steady, lock_copy, busy, runs_on}
 use Rattle.word_table.proofs.pass.Pass.set_read_bit.Goals as goal
 

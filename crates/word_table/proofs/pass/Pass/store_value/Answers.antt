@@ -1,8 +1,4 @@
-use Rattle.std.proofs.Common.{ℕ, ◌∷◌, refl, ap, ◌∙◌, subst}
-use Rattle.history_model.specs.declared.view.View.{View}
-use Rattle.values_rule.specs.Steps.{store_value_action, known_value}
-use Rattle.word_table.specs.declared.copies.LockCopy.{LockCopy}
-use Rattle.word_table.specs.Copies.{PassView, ShowsLocks}
+use Rattle.word_table.proofs.Common.{ℕ, ◌∷◌, refl, ap, ◌∙◌, subst, View, store_value_action, known_value, LockCopy, PassView, ShowsLocks}
 use Rattle.word_table.proofs.Copied.After.{copy_stored, steady, lock_copy, busy, runs_on}
 use Rattle.word_table.proofs.Copied.VersionCopies.{versions_stored}
 use Rattle.word_table.proofs.pass.Pass.store_value.Goals as goal

@@ -1,15 +1,6 @@
-use Rattle.std.proofs.Common.{◌≡◌, ℕ, ◌<◌, true, length, refl, sym, ap, ◌∙◌, subst, arith}
+use Rattle.word_table.proofs.Common.{◌≡◌, ℕ, ◌<◌, true, length, refl, sym, ap, ◌∙◌, subst, arith, View, Idle, Releasing, IsGood, IsIn, has, HasClaim}
+use Rattle.word_table.proofs.Common.{store_version_action, LockCopy, PassView, IsSound}
 use Rattle.std.proofs.lemmas.Grind.{get_or_default_zero}
-use Rattle.history_model.specs.declared.view.View.{View}
-use Rattle.history_model.specs.declared.view.Phase.TheVariants.{Idle, Releasing}
-use Rattle.history_model.specs.Fitting.{IsGood}
-use Rattle.history_model.specs.Legal.{IsIn}
-use Rattle.history_model.specs.Sets.{has}
-use Rattle.history_model.specs.Views.{HasClaim}
-use Rattle.locks_rule.specs.Versions.{store_version_action}
-use Rattle.word_table.specs.declared.copies.LockCopy.{LockCopy}
-use Rattle.word_table.specs.Copies.{PassView}
-use Rattle.word_table.specs.Sound.{IsSound}
 use Rattle.word_table.proofs.Calls.Taken.{taken_in}
 use Rattle.word_table.proofs.Copied.After.{copy_stored, steady, lock_copy, busy, holds_off}
 use Rattle.word_table.proofs.Copied.VersionCopies.{found_again, versions_paid}

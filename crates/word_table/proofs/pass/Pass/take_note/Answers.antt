@@ -1,4 +1,4 @@
-use Rattle.history_model.specs.Fitting.{IsGood}
+use Rattle.word_table.proofs.Common.{IsGood}
 use Rattle.word_table.proofs.Joined.Noting.{gives_at, seat_phase}
 use Rattle.word_table.proofs.pass.Pass.take_note.Goals as goal
 

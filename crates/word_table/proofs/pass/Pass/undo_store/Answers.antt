@@ -1,11 +1,5 @@
-use Rattle.std.proofs.Common.{◌≡◌, ◌-◌, true, length, refl, sym, ap, ◌∙◌}
-use Rattle.history_model.specs.declared.view.View.{View}
-use Rattle.history_model.specs.declared.view.Phase.{Phase}
-use Rattle.history_model.specs.Counts.{is_open}
-use Rattle.values_rule.specs.Steps.{undo_store_action, undoing_phase}
+use Rattle.word_table.proofs.Common.{◌≡◌, ◌-◌, true, length, refl, sym, ap, ◌∙◌, View, Phase, is_open, undo_store_action, undoing_phase, LockCopy, PassView}
 use Rattle.values_rule.proofs.Phases.{undoing_idle}
-use Rattle.word_table.specs.declared.copies.LockCopy.{LockCopy}
-use Rattle.word_table.specs.Copies.{PassView}
 use Rattle.word_table.proofs.Copied.Rows.{zeros, shows_none}
 use Rattle.word_table.proofs.Copied.After.{copy_stored, steady, lock_copy, busy, holds_off, undoing_stands}
 use Rattle.word_table.proofs.Copied.VersionCopies.{versions_undone}

@@ -1,9 +1,4 @@
-use Rattle.std.proofs.Common.{sym, ap, ◌∙◌, subst}
-use Rattle.history_model.specs.Sets.{has}
-use Rattle.history_model.specs.Views.{HasClaim}
-use Rattle.word_table.specs.Copies.{PassView}
-use Rattle.word_table.specs.Least.{IsLeast}
-use Rattle.word_table.specs.Unscanned.{IsUnscanned}
+use Rattle.word_table.proofs.Common.{sym, ap, ◌∙◌, subst, has, HasClaim, PassView, IsLeast, IsUnscanned}
 use Rattle.word_table.proofs.Copied.Passes.{least_unscanned, all_scanned}
 use Rattle.word_table.proofs.pass.Pass.unscanned.Goals as goal
 

@@ -1,8 +1,4 @@
-use Rattle.std.proofs.Common.{◌≡◌, ℕ, ◌<◌, slice_index, sym, ap, ◌∙◌, subst, arith}
-use Rattle.history_model.specs.declared.TheConstants.{LOCKS}
-use Rattle.history_model.specs.declared.view.View.{View}
-use Rattle.history_model.specs.Legal.{IsIn}
-use Rattle.word_table.specs.Copies.{PassView}
+use Rattle.word_table.proofs.Common.{◌≡◌, ℕ, ◌<◌, slice_index, sym, ap, ◌∙◌, subst, arith, LOCKS, View, IsIn, PassView}
 use Rattle.word_table.proofs.Copied.VersionCopies.{bit_used, used_found}
 use Rattle.word_table.proofs.pass.Pass.use_of.Goals as goal
 

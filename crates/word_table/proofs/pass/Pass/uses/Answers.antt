@@ -1,7 +1,4 @@
-use Rattle.std.proofs.Common.{◌≡◌, ◌⊎◌, [], sym, subst}
-use Rattle.history_model.specs.declared.view.Phase.TheVariants.{Running, Withdrawing}
-use Rattle.word_table.specs.Copies.{PassView}
-use Rattle.word_table.specs.Uses.{AreUsesOf}
+use Rattle.word_table.proofs.Common.{◌≡◌, ◌⊎◌, [], sym, subst, Running, Withdrawing, PassView, AreUsesOf}
 use Rattle.word_table.proofs.Copied.Listings.{all_uses}
 use Rattle.word_table.proofs.pass.Pass.uses.Goals as goal
 

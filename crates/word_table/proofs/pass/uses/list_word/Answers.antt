@@ -1,8 +1,5 @@
-use Rattle.std.proofs.Common.{List, refl, sym, subst, arith, rules}
-use Rattle.history_model.specs.declared.item.LockUse.{LockUse}
+use Rattle.word_table.proofs.Common.{List, refl, sym, subst, arith, rules, LockUse, trailing_zeros, w64}
 use Rattle.word_table.proofs.Copied.Listings.{WordListed, lowered, lowest_less, word_begun, word_more}
-use Rattle.std.specs.Int.{trailing_zeros}
-use mir.Syntax.{w64}
 use Rattle.word_table.proofs.pass.uses.list_word.Goals as goal
 
 pub loop-left-init : goal.loop-left-init

@@ -1,5 +1,4 @@
-use Rattle.std.proofs.Common.{◌≡◌, ◌+◌, vec_len, vec_capacity, slice_index}
-use Rattle.std.specs.Prelude.{count_ones}
+use Rattle.word_table.proofs.Common.{◌≡◌, ◌+◌, vec_len, vec_capacity, slice_index, count_ones}
 use Rattle.word_table.proofs.Copied.Listings.{WordListed}
 use Rattle.word_table.proofs.pass.uses.list_word.Given as goal
 

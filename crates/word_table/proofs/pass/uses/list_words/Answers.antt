@@ -1,5 +1,4 @@
-use Rattle.std.proofs.Common.{◌≡◌, ◌+◌, ◌*◌, ℕ, ◌<◌, length, subst, arith, rules}
-use Rattle.word_table.specs.Uses.{ListsBelow}
+use Rattle.word_table.proofs.Common.{◌≡◌, ◌+◌, ◌*◌, ℕ, ◌<◌, length, subst, arith, rules, ListsBelow}
 use Rattle.word_table.proofs.Copied.Listings.{count_more}
 use Rattle.word_table.proofs.pass.uses.list_words.Goals as goal
 

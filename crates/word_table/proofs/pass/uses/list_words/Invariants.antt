@@ -1,6 +1,4 @@
-use Rattle.std.proofs.Common.{◌≡◌, ◌+◌, ◌*◌, sum_by, drop, vec_len, vec_capacity}
-use Rattle.std.specs.Prelude.{count_ones}
-use Rattle.word_table.specs.Uses.{ListsBelow}
+use Rattle.word_table.proofs.Common.{◌≡◌, ◌+◌, ◌*◌, sum_by, drop, vec_len, vec_capacity, count_ones, ListsBelow}
 use Rattle.word_table.proofs.pass.uses.list_words.Given as goal
 
 -- the uses of the words so far are listed, and the list has room for the others

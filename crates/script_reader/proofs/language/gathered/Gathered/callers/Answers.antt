@@ -1,5 +1,4 @@
-use Rattle.std.proofs.Common.{length, sym, ap, ◌∙◌, arith}
-use Rattle.std.specs.String.{string_bytes}
+use Rattle.script_reader.proofs.Common.{length, sym, ap, ◌∙◌, arith, string_bytes}
 use Rattle.script_reader.proofs.language.Grouped.Gathering.{count_callers}
 use Rattle.script_reader.proofs.language.gathered.Gathered.callers.Goals as goal
 

@@ -1,6 +1,4 @@
-use Rattle.std.proofs.Common.{[], length, sym, ap, ◌∙◌, arith}
-use Rattle.std.specs.String.{string_bytes}
-use Rattle.script_reader.specs.Gathered.{caller_at}
+use Rattle.script_reader.proofs.Common.{[], length, sym, ap, ◌∙◌, arith, string_bytes, caller_at}
 use Rattle.script_reader.proofs.language.Grouped.Gathering.{count_callers}
 use Rattle.script_reader.proofs.language.Grouped.Besides.{name_beside}
 use Rattle.script_reader.proofs.language.gathered.Gathered.name.Goals as goal
@@ -18,5 +16,5 @@ pub returns : goal.returns
 returns g c =
     c.as_str.ensures.value
     ∙ sym (name_beside string_bytes (λ v. v.items) c.self.inside.gathering.names.keys c.self.inside.gathering.scripts.items
-    c.args.caller c.index.result.now (record { name = []; scripts = [] }) c.self.invariant.even.beside c.index.ensures)
+    c.args.caller (record { name = []; scripts = [] }) c.self.invariant.even.beside c.index.ensures)
     ∙ ap (λ l. (caller_at l c.args.caller).name) c.self.view_is

@@ -1,8 +1,5 @@
-use Rattle.std.proofs.Common.{◌≡◌, ◌||◌, ◌&&◌, Bool, not, true, false, nat_le, refl, sym, ap, ◌∙◌, arith, length}
-use Rattle.std.specs.String.{string_bytes}
-use Rattle.std.proofs.lemmas.Bool.{lt-leb, le-leb}
-use Rattle.script_reader.specs.declared.limits.TheConstants.{MOST_CALLERS, MOST_SCRIPTS}
-use Rattle.script_reader.specs.Inner.Gatherings.{callers_in, is_caller}
+use Rattle.script_reader.proofs.Common.{◌≡◌, ◌||◌, ◌&&◌, Bool, not, true, false, nat_le, refl, sym, ap, ◌∙◌, arith, length, string_bytes, lt-leb, le-leb}
+use Rattle.script_reader.proofs.Common.{MOST_CALLERS, MOST_SCRIPTS, callers_in, is_caller}
 use Rattle.script_reader.proofs.language.Grouped.Gathering.{count_callers, has_caller}
 use Rattle.script_reader.proofs.language.gathering.Gathering.is_full_for.Goals as goal
 

@@ -1,6 +1,4 @@
-use Rattle.std.proofs.Common.{refl, sym, subst, ◌∙◌}
-use Rattle.script_reader.specs.Lines.{IsFreeOf}
-use Rattle.script_reader.specs.declared.text.words.TheConstants.{LINE_FEED}
+use Rattle.script_reader.proofs.Common.{refl, sym, subst, ◌∙◌, IsFreeOf, LINE_FEED}
 use Rattle.script_reader.proofs.text.lines.Lines.words.Goals as goal
 
 pub returns-in-None-clause-end : goal.returns-in-None-clause-end

@@ -1,6 +1,4 @@
-use Rattle.std.proofs.Common.{◌==◌, length, ap, arith}
-use Rattle.std.proofs.lemmas.List.Splits.{length-slice_split}
-use Rattle.script_reader.specs.declared.text.words.TheConstants.{SPACE}
+use Rattle.script_reader.proofs.Common.{◌==◌, length, ap, arith, length-slice_split, SPACE}
 use Rattle.script_reader.proofs.text.words.Words.len.Goals as goal
 
 pub returns : goal.returns

@@ -1,5 +1,4 @@
-use Rattle.std.proofs.Common.{◌<◌, refl, sym, ◌∙◌, arith}
-use Rattle.script_reader.specs.Lines.{word_at}
+use Rattle.script_reader.proofs.Common.{◌<◌, refl, sym, ◌∙◌, arith, word_at}
 use Rattle.script_reader.proofs.text.Tokens.Numerals.{greatest_u64, read_is}
 use Rattle.script_reader.proofs.language.Listed.Heads.{one_size_words}
 use Rattle.script_reader.proofs.text.words.Words.one_size.Goals as goal

@@ -1,40 +1,31 @@
-use Rattle.std.proofs.Common.{true, ◌∷◌, [], Some, sym, ap, refl, ◌∙◌}
-use Rattle.std.proofs.lemmas.Result.{err_from_is_err_and}
-use Rattle.script_reader.specs.Lines.{word_at}
-use Rattle.script_reader.specs.Forms.{are_numbers, are_in_range}
+use Rattle.script_reader.proofs.Common.{true, refl, word_at}
+use Rattle.script_reader.proofs.HandedOn.{handed_on}
 use Rattle.script_reader.proofs.Conditions.{and_true}
-use Rattle.script_reader.proofs.text.Tokens.Ranging.{limit_fault, ranged_true, ranged_value}
+use Rattle.script_reader.proofs.text.Tokens.Ranging.{has_numbers, limit_fault, read_within}
 use Rattle.script_reader.proofs.text.Tokens.Pairs.{behind_three, not_both, number_fault, pair_false}
 use Rattle.script_reader.proofs.text.words.Words.two_numbers.Goals as goal
 
 pub returns-in_err-a-clause-err : goal.returns-in_err-a-clause-err
-returns-in_err-a-clause-err c =
-    let p = err_from_is_err_and c.from_residual.result c.from_residual.ensures.1 in
-    rw (p.1, p.2) (
-    number_fault c.args.self.now (c.args.first ∷ c.args.second ∷ []) (behind_three c.args.self.now c.requires.three)
-    (not_both _ _ (true) c.in_err-a.ensures.err.1)
-    ∙ ap Some (sym c.in_err-a.ensures.err.0)
-    )
+returns-in_err-a-clause-err c = rw (handed_on c.from_residual.ensures.1)
+    (number_fault c.args.self.now _ c.in_err-a.ensures.err.0 (behind_three c.args.self.now c.requires.three) (not_both _ _ true c.in_err-a.ensures.err.1))
 
 pub returns-in_err-both_within-clause-err : goal.returns-in_err-both_within-clause-err
 returns-in_err-both_within-clause-err c =
-    let p = err_from_is_err_and c.from_residual-in_err-both_within.result c.from_residual-in_err-both_within.ensures.1 in
-    rw (p.1, p.2) (
-    limit_fault c.args.self.now (c.args.first ∷ c.args.second ∷ []) (behind_three c.args.self.now c.requires.three)
-    (and_true c.in_ok-a.ensures.found.0 (and_true c.in_ok-a.ensures.found.1 refl))
-    (not_both _ _ (true) (pair_false (word_at c.args.self.now 1) (word_at c.args.self.now 2) c.requires.exact.0 c.requires.exact.1
-    c.in_ok-a.ensures.found.2 c.in_ok-a.ensures.found.3 c.in_err-both_within.ensures.err.1))
-    ∙ ap Some (sym c.in_err-both_within.ensures.err.0)
-    )
+    let words = c.args.self.now in
+    let found = c.in_ok-a.ensures.found in
+    rw (handed_on c.from_residual-in_err-both_within.ensures.1)
+    (limit_fault words _ c.in_err-both_within.ensures.err.0 (behind_three words c.requires.three)
+    (and_true found.0 (and_true found.1 refl))
+    (not_both _ _ true (pair_false (word_at words 1)
+    (word_at words 2) c.requires.exact.0 c.requires.exact.1 found.2 found.3 c.in_err-both_within.ensures.err.1)))
 
 pub returns-clause-found : goal.returns-clause-found
-returns-clause-found c = (
-  record {
-    numbers = ap are_numbers (behind_three c.args.self.now c.requires.three) ∙ and_true c.in_ok-a.ensures.found.0 (and_true c.in_ok-a.ensures.found.1 refl);
-    in_range = ap (λ l. are_in_range l (c.args.first ∷ c.args.second ∷ [])) (behind_three c.args.self.now c.requires.three)
-        ∙ and_true (ranged_true (word_at c.args.self.now 1) c.requires.exact.0 c.in_ok-a.ensures.found.2 c.in_ok-both_within.ensures.ok.0)
-        (and_true (ranged_true (word_at c.args.self.now 2) c.requires.exact.1 c.in_ok-a.ensures.found.3 c.in_ok-both_within.ensures.ok.1) refl);
-  },
-  ranged_value (word_at c.args.self.now 1) c.requires.exact.0 c.in_ok-a.ensures.found.2 c.in_ok-both_within.ensures.ok.0,
-  ranged_value (word_at c.args.self.now 2) c.requires.exact.1 c.in_ok-a.ensures.found.3 c.in_ok-both_within.ensures.ok.1,
-)
+returns-clause-found c =
+    let words = c.args.self.now in
+    let found = c.in_ok-a.ensures.found in
+    let first = read_within (word_at words 1) c.requires.exact.0 found.2 c.in_ok-both_within.ensures.ok.0 in
+    let second = read_within (word_at words 2) c.requires.exact.1 found.3 c.in_ok-both_within.ensures.ok.1 in (
+      has_numbers (behind_three words c.requires.three) (and_true found.0 (and_true found.1 refl)) (and_true first.ranged (and_true second.ranged refl)),
+      first.value,
+      second.value,
+    )
